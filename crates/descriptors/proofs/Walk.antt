@@ -1,0 +1,147 @@
+-- A walk over the descriptors of a body, a descriptor at a time: said once, for every walk. Assumes nothing.
+use Prim.Native.Nat.{ℕ, zero, suc, _+_, _-_, _≤_, _<_}
+use native.Mathlib.Nat.{not-suc-le-zero, le-of-suc-le-suc, add-sub-cancel-left}
+use native.Mathlib.Numerals.{add-one}
+use native.Mathlib.Omega.{arith}
+use mathlib.Core.Path.{_≡_, refl, sym, ap, _∙_}
+use mathlib.Core.List.{List, [], _∷_}
+use mathlib.Core.Bool.{Bool, true, false, _&&_, and-false}
+use mathlib.Core.Option.{Option, some, none}
+use lib.ListN.{length, getD, take, drop, length-drop, drop-of-length-le}
+use lib.Seq.{drop-cons, drop-drop}
+use lib.Dec.{leb, ltb}
+use borrow.Author.Tests.{lt-leb, le-leb, lt-ltb, leb-true, leb-false}
+use Rattle.octets.specs.Octets.{byte, part}
+use Rattle.octets.specs.Sentences.{pick}
+use Rattle.descriptors.specs.declared.Stand.{Stand}
+use Rattle.descriptors.specs.declared.Step.{Step}
+use Rattle.descriptors.specs.Cut.{Cuts, whole, broken, descriptor, cut, cutAfter, wellCut}
+use Rattle.descriptors.specs.Walk.{standOf, stepsOn, stepOf, Walk, orElse, walked}
+
+-- ---- cutting
+after-drop : (k : ℕ) (xs : List ℕ) → k ≤ length xs → cutAfter k xs ≡ cut (drop k xs)
+unfolding cutAfter
+after-drop zero xs h = refl
+after-drop (suc k) [] h = absurd (not-suc-le-zero h)
+after-drop (suc k) (x ∷ xs) h = after-drop k xs (le-of-suc-le-suc h)
+
+after-short : (k : ℕ) (xs : List ℕ) → length xs < k → cutAfter k xs ≡ broken
+unfolding cutAfter
+after-short zero xs h = absurd (not-suc-le-zero h)
+after-short (suc k) [] h = refl
+after-short (suc k) (x ∷ xs) h = after-short k xs (le-of-suc-le-suc h)
+
+cut-cons : (b : ℕ) (bs : List ℕ) → cut (b ∷ bs) ≡ pick (leb 2 b) (descriptor (take b (b ∷ bs)) (cutAfter (b - 1) bs)) broken
+unfolding cutAfter
+cut-cons b bs = refl
+
+module _ (body : List ℕ) (at : ℕ) where
+  pub cut-end : length body ≤ at → cut (drop at body) ≡ whole
+  unfolding cutAfter
+  cut-end h = rw (drop-of-length-le body h)
+
+  module _ (h : at < length body) where
+    here : drop at body ≡ byte body at ∷ drop (at + 1) body
+    here = rw (add-one, drop-cons body at 0)
+
+    cut-small : byte body at < 2 → cut (drop at body) ≡ broken
+    cut-small l = rw (here, cut-cons, lt-leb 2 _ l)
+
+    cut-long : 2 ≤ byte body at → length body - at < byte body at → cut (drop at body) ≡ descriptor (part body at (byte body at)) broken
+    cut-long l m =
+        let e : length (drop (at + 1) body) < byte body at - 1 = rw length-drop (omega arith) in
+        ap cut here ∙ cut-cons _ _ ∙ rw (le-leb 2 _ l, after-short _ _ e, here)
+
+    -- a step on: the descriptor that ends there, and the rest
+    pub cut-step : 2 ≤ byte body at → byte body at ≤ length body - at
+        → cut (drop at body) ≡ descriptor (part body at (byte body at)) (cut (drop (at + byte body at) body))
+    cut-step l m =
+        let e : byte body at - 1 ≤ length (drop (at + 1) body) = rw length-drop (omega arith) in
+        let q : at + 1 + (byte body at - 1) ≡ at + byte body at = omega arith in
+        ap cut here ∙ cut-cons _ _ ∙ rw (le-leb 2 _ l, after-drop _ _ e, drop-drop, q, here)
+
+-- ---- what `advance` tells
+well-descriptor : (d : List ℕ) (ds : Cuts) → wellCut (descriptor d ds) ≡ wellCut ds
+unfolding wellCut
+well-descriptor d ds = refl
+
+well-broken : wellCut broken ≡ false
+unfolding wellCut
+well-broken = refl
+
+cases : {A : Type 0} (b : Bool) → (b ≡ true → A) → (b ≡ false → A) → A
+cases true f g = f refl
+cases false f g = g refl
+
+-- the descriptor from `at` to `end`, as the code's `&body[at..end]` has it
+abbrev pub spanned : List ℕ → ℕ → ℕ → List ℕ
+spanned body at end = take (end - at) (drop at body)
+
+pub record Moved (body : List ℕ) (at : ℕ) (stand : Stand) (step : Step) : Type 0 where
+  pub inside : step .end ≤ length body
+  pub cuts : cut (drop at body) ≡ descriptor (spanned body at (step .end)) (cut (drop (step .end) body))
+  pub stands : step .stand ≡ standOf stand (spanned body at (step .end))
+
+module _ (body : List ℕ) (at : ℕ) (stand : Stand) (h : at < length body) where
+  two : leb 2 (byte body at) ≡ true → leb (byte body at) (length body - at) ≡ true → stepsOn body at ≡ true
+  two p q = rw (p, q, lt-ltb at (length body) h)
+
+  stays : stepsOn body at ≡ false → stepOf body at stand .end ≡ at
+  stays p = rw p
+
+  -- it moved on: what it stepped over is the next descriptor
+  pub moved : at < stepOf body at stand .end → Moved body at stand (stepOf body at stand)
+  moved m = cases (stepsOn body at) went (λ p. let e : stepOf body at stand .end ≡ at = stays p in absurd (omega arith))
+    where
+      went : stepsOn body at ≡ true → Moved body at stand (stepOf body at stand)
+      went p = cases (leb 2 (byte body at)) (λ q. cases (leb (byte body at) (length body - at)) (λ r. found q r) (λ r. absurd (no-step (rw (r, and-false) at p)))) (λ q. absurd (no-step (rw q at p)))
+        where
+          no-step : false ≡ true → ⊥
+          no-step e = let z : _≡_ {A = ℕ} 0 1 = ap (λ (b : Bool). pick b 1 0) e in omega arith
+
+          found : leb 2 (byte body at) ≡ true → leb (byte body at) (length body - at) ≡ true → Moved body at stand (stepOf body at stand)
+          found q r =
+              let l : 2 ≤ byte body at = leb-true 2 (byte body at) q in
+              let n : byte body at ≤ length body - at = leb-true (byte body at) (length body - at) r in
+              rw p (record { inside = omega arith; cuts = rw add-sub-cancel-left (cut-step body at h l n); stands = rw add-sub-cancel-left })
+
+  -- it stood still: the body is broken
+  pub stuck : stepOf body at stand .end ≤ at → wellCut (cut (drop at body)) ≡ false
+  stuck m = cases (leb 2 (byte body at))
+      (λ q. cases (leb (byte body at) (length body - at))
+          (λ r.
+              let l : 2 ≤ byte body at = leb-true 2 (byte body at) q in
+              let e : stepOf body at stand .end ≡ at + byte body at = rw (two q r) in
+              absurd (omega arith))
+          (λ r. rw (cut-long body at h (leb-true 2 (byte body at) q) (leb-false (byte body at) (length body - at) r), well-descriptor) well-broken))
+      (λ q. rw (cut-small body at h (leb-false 2 (byte body at) q)) well-broken)
+
+-- ---- a loop that walks: `total` is what the whole walk answers, and the invariant that the walk from `at` in the state w answers the same
+module _ {W A : Type 0} (R : Walk W A) where
+  walked-whole : (w : W) → walked R w whole ≡ R .finish w
+  unfolding walked
+  walked-whole w = refl
+
+  walked-descriptor : (w : W) (d : List ℕ) (ds : Cuts) → walked R w (descriptor d ds) ≡ orElse (R .stop w d) (walked R (R .on w d) ds)
+  unfolding walked
+  walked-descriptor w d ds = refl
+
+  module _ (body : List ℕ) (at : ℕ) (w : W) (total : A) (inv : total ≡ walked R w (cut (drop at body))) where
+    pub walk-end : length body ≤ at → R .finish w ≡ total
+    walk-end h = sym (inv ∙ ap (walked R w) (cut-end body at h) ∙ walked-whole w)
+
+    module _ (stand : Stand) (h : at < length body) (m : at < stepOf body at stand .end) where
+      turn : total ≡ orElse (R .stop w (spanned body at (stepOf body at stand .end))) (walked R (R .on w (spanned body at (stepOf body at stand .end))) (cut (drop (stepOf body at stand .end) body)))
+      turn = inv ∙ ap (walked R w) (moved body at stand h m .cuts) ∙ walked-descriptor w _ _
+
+      pub walk-stop : (a : A) → R .stop w (spanned body at (stepOf body at stand .end)) ≡ some a → a ≡ total
+      walk-stop a e = sym (turn ∙ rw e)
+
+      pub walk-on : R .stop w (spanned body at (stepOf body at stand .end)) ≡ none
+          → total ≡ walked R (R .on w (spanned body at (stepOf body at stand .end))) (cut (drop (stepOf body at stand .end) body))
+      walk-on e = turn ∙ rw e
+
+-- a well-cut body stays well cut further on
+module _ (body : List ℕ) (at : ℕ) (stand : Stand) (h : at < length body) (m : at < stepOf body at stand .end) where
+  pub well-on : wellCut (cut (drop at body)) ≡ wellCut (cut (drop (stepOf body at stand .end) body))
+  well-on = ap wellCut (moved body at stand h m .cuts) ∙ well-descriptor _ _

@@ -1,0 +1,45 @@
+-- `descriptors::check::good_endpoint` meets its contract. Assumes nothing.
+use borrow.Author.Needs.{needs}
+use Rattle.descriptors.proofs.check.good_endpoint.Statement.{statement}
+use Rattle.descriptors.proofs.check.good_endpoint.Tie as tie
+
+peek-requires : tie.Need-peek-requires
+peek-requires c κs = search needs
+
+word-requires : tie.Need-word-requires
+word-requires c κs = search needs
+
+peek-requires-2 : tie.Need-peek-requires-2
+peek-requires-2 c κs = search needs
+
+good-address-requires : tie.Need-good-address-requires
+good-address-requires c κs = search needs
+
+good-attributes-requires : tie.Need-good-attributes-requires
+good-attributes-requires c κs = search needs
+
+good-size-requires : tie.Need-good-size-requires
+good-size-requires c κs = search needs
+
+peek-requires-3 : tie.Need-peek-requires-3
+peek-requires-3 c κs = search needs
+
+good-interval-requires : tie.Need-good-interval-requires
+good-interval-requires c κs = search needs
+
+returns : tie.Need-returns
+returns c = cc
+
+pub good-endpoint-spec : {M : Type 1} → statement M
+good-endpoint-spec =
+    tie.close
+    (tie.spec
+    peek-requires
+    word-requires
+    peek-requires-2
+    good-address-requires
+    good-attributes-requires
+    good-size-requires
+    peek-requires-3
+    good-interval-requires
+    returns)

@@ -1,0 +1,90 @@
+-- The fields of one descriptor, under USB 2.0's names, and the rules for one interface or endpoint descriptor by itself.
+use Prim.Native.Nat.{ℕ, _/_, _%_}
+use mathlib.Core.List.{List}
+use mathlib.Core.Bool.{Bool, _&&_, _||_, not}
+use lib.ListN.{length}
+use lib.Dec.{eqb, leb}
+use Rattle.octets.specs.Octets.{byte, word}
+use Rattle.octets.specs.Sentences.{_⇒_}
+use Rattle.descriptors.specs.declared.Limits.{Limits}
+use Rattle.descriptors.specs.Limits.{within, doubled, named}
+
+abbrev pub bDescriptorType : List ℕ → ℕ
+bDescriptorType d = byte d 1
+
+abbrev pub isInterface : List ℕ → Bool
+isInterface d = eqb (bDescriptorType d) 4
+
+abbrev pub isEndpoint : List ℕ → Bool
+isEndpoint d = eqb (bDescriptorType d) 5
+
+-- ---- an interface descriptor
+abbrev pub bInterfaceNumber : List ℕ → ℕ
+bInterfaceNumber d = byte d 2
+
+abbrev pub bAlternateSetting : List ℕ → ℕ
+bAlternateSetting d = byte d 3
+
+abbrev pub bNumEndpoints : List ℕ → ℕ
+bNumEndpoints d = byte d 4
+
+abbrev pub iInterface : List ℕ → ℕ
+iInterface d = byte d 8
+
+-- ---- an endpoint descriptor
+abbrev pub bEndpointAddress : List ℕ → ℕ
+bEndpointAddress d = byte d 2
+
+abbrev pub bmAttributes : List ℕ → ℕ
+bmAttributes d = byte d 3
+
+abbrev pub wMaxPacketSize : List ℕ → ℕ
+wMaxPacketSize d = word d 4
+
+abbrev pub bInterval : List ℕ → ℕ
+bInterval d = byte d 6
+
+-- transfer type 1 (isochronous), 2 (bulk) or 3 (interrupt): the attributes' bits 1–0
+abbrev pub transferType : ℕ → ℕ
+transferType attributes = attributes % 4
+
+-- "address bits 6–4 zero, number 1–15"
+abbrev pub goodAddress : ℕ → Bool
+goodAddress address = eqb (address / 16 % 8) 0 && leb 1 (address % 16)
+
+-- "Attributes bits 7–6 zero; transfer type 1 (isochronous), 2 (bulk) or 3 (interrupt); bits 5–2 zero unless isochronous"
+abbrev pub goodAttributes : ℕ → Bool
+goodAttributes attributes =
+    leb attributes 63 && leb 1 (transferType attributes) && (leb attributes 3 || eqb (transferType attributes) 1)
+
+-- a size of interrupt or isochronous: its bits 10–0 in the range, its bits 15–11 at most the speed's
+abbrev pub sized : Limits → ℕ → ℕ → ℕ → Bool
+sized limits least most size = leb least (size % 2048) && leb (size % 2048) most && leb (size / 2048) (limits .bursts)
+
+-- "wMaxPacketSize: bulk 8, 16, 32 or 64; interrupt 0–64; isochronous 0–1,023"
+abbrev pub goodSize : Limits → ℕ → ℕ → Bool
+goodSize limits transfer size =
+    (eqb transfer 2 ⇒ doubled (limits .bulk) size) &&
+    (eqb transfer 3 ⇒ sized limits (limits .interrupt .least) (limits .interrupt .most) size) &&
+    (eqb transfer 1 ⇒ sized limits (limits .isochronous .least) (limits .isochronous .most) size)
+
+-- "bInterval: interrupt 1–255, isochronous 1–16, bulk free"
+abbrev pub goodInterval : Limits → ℕ → ℕ → Bool
+goodInterval limits transfer interval =
+    (eqb transfer 3 ⇒ within (limits .polling) interval) &&
+    (eqb transfer 1 ⇒ within (limits .period) interval)
+
+abbrev pub goodEndpoint : Limits → List ℕ → Bool
+goodEndpoint limits d =
+    leb 7 (length d) &&
+    goodAddress (bEndpointAddress d) &&
+    goodAttributes (bmAttributes d) &&
+    goodSize limits (transferType (bmAttributes d)) (wMaxPacketSize d) &&
+    goodInterval limits (transferType (bmAttributes d)) (bInterval d)
+
+-- "After it, types 1, 2, 3, 6 and 7 are refused; 4 needs at least 9 bytes, 5 at least 7; any other type is stepped over."
+abbrev pub goodDescriptor : Limits → List ℕ → Bool
+goodDescriptor limits d =
+    not (named (limits .refused) (bDescriptorType d)) &&
+    (isInterface d ⇒ leb 9 (length d)) &&
+    (isEndpoint d ⇒ goodEndpoint limits d)

@@ -1,0 +1,36 @@
+-- The row of limits that a speed sets. Document 01: "Base speed is full speed."
+use Prim.Native.Nat.{ℕ, _+_, _*_, _^_}
+use mathlib.Core.Bool.{Bool, _&&_, _||_}
+use lib.Dec.{eqb, leb}
+use Rattle.octets.specs.Bit.{bit}
+use Rattle.descriptors.specs.declared.Range.{Range}
+use Rattle.descriptors.specs.declared.Limits.{Limits}
+
+abbrev pub range : ℕ → ℕ → Range
+range a b = record { least = a; most = b }
+
+-- 8, 16, 32 or 64 for bMaxPacketSize0 and for bulk; interrupt 0–64, bInterval 1–255; isochronous 0–1,023, bInterval 1–16;
+-- entries of types 1, 2 and 3; in a configuration body, after its first descriptor, types 1, 2, 3, 6 and 7 are refused
+abbrev pub fullSpeed : Limits
+fullSpeed = record {
+  control = range 8 64;
+  bulk = range 8 64;
+  interrupt = range 0 64;
+  polling = range 1 255;
+  isochronous = range 0 1023;
+  period = range 1 16;
+  bursts = 0;
+  entries = 2 ^ 1 + 2 ^ 2 + 2 ^ 3;
+  refused = 2 ^ 1 + 2 ^ 2 + 2 ^ 3 + 2 ^ 6 + 2 ^ 7;
+}
+
+abbrev pub within : Range → ℕ → Bool
+within r x = leb (r .least) x && leb x (r .most)
+
+-- the least of a range, or that doubled once, twice or three times, up to the range's end
+abbrev pub doubled : Range → ℕ → Bool
+doubled r x = (eqb x (r .least) || eqb x (2 * r .least) || eqb x (4 * r .least) || eqb x (8 * r .least)) && leb x (r .most)
+
+-- a descriptor type among those that the bits of a row name
+abbrev pub named : ℕ → ℕ → Bool
+named types t = bit types t

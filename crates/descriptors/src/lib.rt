@@ -1,0 +1,125 @@
+// A configuration body: what it is made of, and the limits that a speed sets.
+pub mod check;
+pub mod lookup;
+
+ghost use mathlib.Core.Path.{_≡_};
+ghost use Rattle.descriptors.specs.Limits.{fullSpeed};
+ghost use Rattle.descriptors.specs.Walk.{before, standOf, stepOf};
+
+// A range of numbers, both ends in it.
+pub struct Range {
+    pub least: u16,
+    pub most: u16,
+}
+
+// What a speed allows. `control` is bMaxPacketSize0; `polling` and `period` are the bInterval of interrupt and isochronous endpoints;
+// `bursts` is the largest number in wMaxPacketSize's bits 15-11; bit t of `entries` and of `refused` stands for descriptor type t.
+pub struct Limits {
+    pub control: Range,
+    pub bulk: Range,
+    pub interrupt: Range,
+    pub polling: Range,
+    pub isochronous: Range,
+    pub period: Range,
+    pub bursts: u16,
+    pub entries: u16,
+    pub refused: u16,
+}
+
+// The limits of full speed.
+pub fn full_speed() -> Limits
+    ensures { λ r. ⌜ r ≡ fullSpeed ⌝ }
+{
+    Limits {
+        control: Range { least: 8, most: 64 },
+        bulk: Range { least: 8, most: 64 },
+        interrupt: Range { least: 0, most: 64 },
+        polling: Range { least: 1, most: 255 },
+        isochronous: Range { least: 0, most: 1023 },
+        period: Range { least: 1, most: 16 },
+        bursts: 0,
+        entries: 0x0E,
+        refused: 0xCE,
+    }
+}
+
+// A configuration's place among the configurations, from 0 on: GET_DESCRIPTOR takes it.
+pub struct ConfigurationIndex(pub u8);
+
+// A configuration's bConfigurationValue: SET_CONFIGURATION takes it.
+pub struct ConfigurationValue(pub u8);
+
+// One setting of one interface.
+pub struct Setting {
+    pub interface: u8,
+    pub alternate: u8,
+}
+
+// An endpoint, and the setting that lists it.
+pub struct Endpoint {
+    pub interface: u8,
+    pub alternate: u8,
+    pub address: u8,
+    pub attributes: u8,
+    pub size: u16,
+}
+
+// Where a descriptor stands: under which setting, or (not `inside`) before the first interface.
+pub struct Stand {
+    pub inside: bool,
+    pub interface: u8,
+    pub alternate: u8,
+}
+
+// One step of a walk: where the descriptor ends, and where it stands.
+pub struct Step {
+    pub end: usize,
+    pub stand: Stand,
+}
+
+// Before the first descriptor of a walk.
+pub fn outside() -> Stand
+    ensures { λ r. ⌜ r ≡ before ⌝ }
+{
+    Stand {
+        inside: false,
+        interface: 0,
+        alternate: 0,
+    }
+}
+
+// Where a descriptor stands that follows one that stands at `stand`.
+fn stand_of(d: &[u8], stand: Stand) -> Stand
+    ensures { λ r. ⌜ r ≡ standOf stand (now (d .entry)) ⌝ }
+{
+    if octets::peek(d, 1) == 4 {
+        return Stand {
+            inside: true,
+            interface: octets::peek(d, 2),
+            alternate: octets::peek(d, 3),
+        };
+    }
+    stand
+}
+
+// The step over the descriptor at `at`: every walk takes it. A bLength below 2 or past the body's end leaves it where it is, and a
+// walk that finds itself no further on must stop.
+pub fn advance(body: &[u8], at: usize, stand: Stand) -> Step
+    ensures { λ r. ⌜ r ≡ stepOf (now (body .entry)) at stand ⌝ }
+{
+    let size = octets::peek(body, at) as usize;
+    if size < 2 {
+        return Step { end: at, stand };
+    }
+    if body.len() <= at {
+        return Step { end: at, stand };
+    }
+    if body.len() - at < size {
+        return Step { end: at, stand };
+    }
+    let end = at + size;
+    Step {
+        end,
+        stand: stand_of(&body[at..end], stand),
+    }
+}
