@@ -1,0 +1,180 @@
+-- The laws of a set's contents: its entries, one after another, and the bodies that they name. Assumes nothing.
+use Prim.Native.Nat.{ℕ, zero, suc, _+_, _-_, _*_, _≤_, _<_}
+use native.Mathlib.Nat.{add-assoc, add-zero, sub-zero}
+use native.Mathlib.Omega.{arith}
+use mathlib.Core.Path.{_≡_, refl, sym, ap, _∙_}
+use mathlib.Core.List.{List, [], _∷_}
+use mathlib.Core.Bool.{Bool, true, false, _&&_, _||_, and-false}
+use mathlib.Core.Option.{some, none}
+use lib.Dec.{eqb, leb}
+use borrow.Author.Tests.{eq-eqb, ne-eqb}
+use lib.ListN.{length, take, drop, getElem?, length-drop, drop-of-length-le}
+use lib.Seq.{getD-drop, drop-drop, take-all, take-nil}
+use Rattle.octets.specs.Octets.{byte, word, part}
+use Rattle.octets.specs.Sentences.{every, any, only, first, neighbours}
+use Rattle.descriptors.specs.declared.Limits.{Limits}
+use Rattle.descriptors.specs.Limits.{named}
+use Rattle.sets.specs.declared.Entry.{Entry}
+use Rattle.sets.specs.Contents.{count, entryOf, entriesFrom, entries, isKind, before, endToEnd}
+use Rattle.sets.specs.Checks.{goodEntry}
+
+-- ---- reading
+pub word-drop : (bytes : List ℕ) (at k : ℕ) → word bytes (at + k) ≡ word (drop at bytes) k
+word-drop bytes at k = simp (getD-drop, add-assoc)
+
+-- an entry, read at the places of its fields
+pub entry-read : (set : List ℕ) (at : ℕ)
+    → record { kind = byte set at; index = byte set (at + 1); language = word set (at + 2); offset = word set (at + 4); length = word set (at + 6) } ≡ entryOf (drop at set)
+entry-read set at = simp (getD-drop, add-assoc, add-zero)
+
+-- ---- a body that runs past the set's end is as much of it as is there
+pub part-short : (bytes : List ℕ) (offset size : ℕ) → length bytes ≤ offset + size → take (length bytes - offset) (drop offset bytes) ≡ part bytes offset size
+part-short bytes offset size h =
+    let l : length (drop offset bytes) ≤ length bytes - offset = rw length-drop (omega arith) in
+    let m : length (drop offset bytes) ≤ size = rw length-drop (omega arith) in
+    take-all _ _ l ∙ sym (take-all _ _ m)
+
+pub part-none : (bytes : List ℕ) (offset size : ℕ) → length bytes ≤ offset → [] ≡ part bytes offset size
+part-none bytes offset size h = rw (drop-of-length-le bytes h, take-nil)
+
+-- ---- the entries from the i-th on
+abbrev pub rest : List ℕ → ℕ → List Entry
+rest set i = entriesFrom (count set - i) (drop (4 + 8 * i) set)
+
+pub rest-start : (set : List ℕ) → entries set ≡ rest set 0
+rest-start set = rw sub-zero
+
+pub rest-end : (set : List ℕ) (i : ℕ) → count set ≤ i → rest set i ≡ []
+unfolding entriesFrom
+rest-end set i h = let e : count set - i ≡ 0 = omega arith in rw e
+
+from-more : (n : ℕ) (bytes : List ℕ) → entriesFrom (suc n) bytes ≡ entryOf bytes ∷ entriesFrom n (drop 8 bytes)
+unfolding entriesFrom
+from-more n bytes = refl
+
+pub rest-more : (set : List ℕ) (i : ℕ) → i < count set → rest set i ≡ entryOf (drop (4 + 8 * i) set) ∷ rest set (i + 1)
+rest-more set i h =
+    let e : count set - i ≡ suc (count set - (i + 1)) = omega arith in
+    let f : 4 + 8 * i + 8 ≡ 4 + 8 * (i + 1) = omega arith in
+    rw (e, from-more, drop-drop, f)
+
+-- a turn of a loop over the entries, and its end: n is what the code read for the count, e for the i-th entry
+module _ (set : List ℕ) (n : ℕ) (p : n ≡ count set) (i : ℕ) where
+  pub next-entry : i < n → (e : Entry) → e ≡ entryOf (drop (4 + 8 * i) set) → rest set i ≡ e ∷ rest set (i + 1)
+  next-entry h e q = rest-more set i (rw p at h) ∙ rw q
+
+  pub no-entry : n ≤ i → rest set i ≡ []
+  no-entry h = rest-end set i (rw p at h)
+
+-- ---- at the head of a list and at its end
+module _ {A : Type 0} (f : A → Bool) (x : A) (xs : List A) where
+  pub first-here : f x ≡ true → first f (x ∷ xs) ≡ some x
+  unfolding first
+  first-here p = rw p
+
+  pub first-later : f x ≡ false → first f (x ∷ xs) ≡ first f xs
+  unfolding first
+  first-later p = rw p
+
+  pub only-here : f x ≡ true → only f (x ∷ xs) ≡ x ∷ only f xs
+  unfolding only
+  only-here p = rw p
+
+  pub only-later : f x ≡ false → only f (x ∷ xs) ≡ only f xs
+  unfolding only
+  only-later p = rw p
+
+  pub every-cons : every f (x ∷ xs) ≡ (f x && every f xs)
+  unfolding every
+  every-cons = refl
+
+  pub any-cons : any f (x ∷ xs) ≡ (f x || any f xs)
+  unfolding any
+  any-cons = refl
+
+module _ {A : Type 0} (f : A → Bool) where
+  pub every-empty : every f [] ≡ true
+  unfolding every
+  every-empty = refl
+
+  pub any-empty : any f [] ≡ false
+  unfolding any
+  any-empty = refl
+
+  pub first-empty : first f [] ≡ none
+  unfolding first
+  first-empty = refl
+
+  pub only-empty : only f [] ≡ []
+  unfolding only
+  only-empty = refl
+
+-- the entries of one type, from the i-th entry on: a turn of a loop over them, and its end
+abbrev pub restOf : ℕ → List ℕ → ℕ → List Entry
+restOf kind set i = only (isKind kind) (rest set i)
+
+module _ (kind : ℕ) (set : List ℕ) (n : ℕ) (p : n ≡ count set) (i : ℕ) where
+  pub kind-next : i < n → (e : Entry) → e ≡ entryOf (drop (4 + 8 * i) set) → e .kind ≡ kind → restOf kind set i ≡ e ∷ restOf kind set (i + 1)
+  kind-next h e q k = ap (only (isKind kind)) (next-entry set n p i h e q) ∙ only-here (isKind kind) e (rest set (i + 1)) (eq-eqb (e .kind) kind k)
+
+  pub kind-other : i < n → (e : Entry) → e ≡ entryOf (drop (4 + 8 * i) set) → (e .kind ≡ kind → ⊥) → restOf kind set i ≡ restOf kind set (i + 1)
+  kind-other h e q k = ap (only (isKind kind)) (next-entry set n p i h e q) ∙ only-later (isKind kind) e (rest set (i + 1)) (ne-eqb (e .kind) kind k)
+
+  pub kind-end : n ≤ i → restOf kind set i ≡ []
+  kind-end h = ap (only (isKind kind)) (no-entry set n p i h) ∙ only-empty (isKind kind)
+
+-- the k-th of those for which f holds: found, passed, or not one of them
+module _ {A : Type 0} (f : A → Bool) (x : A) (xs : List A) (k : ℕ) where
+  pub kth-here : f x ≡ true → k ≡ 0 → getElem? (only f (x ∷ xs)) k ≡ some x
+  kth-here p q = rw (only-here f x xs p, q)
+
+  pub kth-passed : f x ≡ true → (k ≡ 0 → ⊥) → getElem? (only f (x ∷ xs)) k ≡ getElem? (only f xs) (k - 1)
+  kth-passed p q = rw (only-here f x xs p) (go k q)
+    where
+      go : (k : ℕ) → (k ≡ 0 → ⊥) → getElem? (x ∷ only f xs) k ≡ getElem? (only f xs) (k - 1)
+      go zero q = absurd (q refl)
+      go (suc k) q = let e : suc k - 1 ≡ k = omega arith in rw e
+
+  pub kth-other : f x ≡ false → getElem? (only f (x ∷ xs)) k ≡ getElem? (only f xs) k
+  kth-other p = rw (only-later f x xs p)
+
+-- ---- group 2, entry by entry
+unfoldable pub contentsFrom : Limits → ℕ → Bool → Entry → ℕ → List Entry → Bool
+contentsFrom limits end first last start [] = eqb start end
+contentsFrom limits end first last start (e ∷ es) = goodEntry limits first last start e && contentsFrom limits end false e (start + e .length) es
+
+module _ (limits : Limits) (end : ℕ) where
+  pub contents-end : (first : Bool) (last : Entry) (start : ℕ) → contentsFrom limits end first last start [] ≡ eqb start end
+  unfolding contentsFrom
+  contents-end first last start = refl
+
+  pub contents-more : (first : Bool) (last : Entry) (start : ℕ) (e : Entry) (es : List Entry)
+      → contentsFrom limits end first last start (e ∷ es) ≡ (goodEntry limits first last start e && contentsFrom limits end false e (start + e .length) es)
+  unfolding contentsFrom
+  contents-more first last start e es = refl
+
+  -- the i-th entry is good: on to the next
+  pub contents-turn : (i : ℕ) (last : Entry) (start : ℕ) (e : Entry) (es : List Entry) → goodEntry limits (eqb i 0) last start e ≡ true
+      → contentsFrom limits end (eqb i 0) last start (e ∷ es) ≡ contentsFrom limits end (eqb (i + 1) 0) e (start + e .length) es
+  contents-turn i last start e es p = rw (contents-more, p, ne-eqb (i + 1) 0 (λ q. omega arith))
+
+  sorted : (n l o b n′ b′ l′ o′ : Bool) → (n && l && o && b && (n′ && b′ && l′ && o′)) ≡ ((n && n′) && (b && b′) && (l && l′) && (o && o′))
+  sorted false l o b n′ b′ l′ o′ = refl
+  sorted true false o b n′ b′ l′ o′ = simp and-false
+  sorted true true false b n′ b′ l′ o′ = simp and-false
+  sorted true true true false n′ b′ l′ o′ = simp and-false
+  sorted true true true true n′ b′ l′ o′ = refl
+
+  after : (last : Entry) (start : ℕ) (es : List Entry)
+      → contentsFrom limits end false last start es
+      ≡ (every (λ e. named (limits .entries) (e .kind)) es && neighbours before (last ∷ es) && every (λ e. leb 2 (e .length)) es && endToEnd start end es)
+  unfolding contentsFrom every neighbours endToEnd
+  after last start [] = refl
+  after last start (e ∷ es) = rw (after e (start + e .length) es) (sorted (named (limits .entries) (e .kind)) (leb 2 (e .length)) (eqb (e .offset) start) (before last e) _ _ _ _)
+
+  pub contents-all : (last : Entry) (start : ℕ) (es : List Entry)
+      → contentsFrom limits end true last start es
+      ≡ (every (λ e. named (limits .entries) (e .kind)) es && neighbours before es && every (λ e. leb 2 (e .length)) es && endToEnd start end es)
+  unfolding contentsFrom every neighbours endToEnd
+  contents-all last start [] = refl
+  contents-all last start (e ∷ es) = rw (after e (start + e .length) es) (sorted (named (limits .entries) (e .kind)) (leb 2 (e .length)) (eqb (e .offset) start) true _ _ _ _)

@@ -1,0 +1,13 @@
+pub mod Acceptance
+pub mod Bodies
+pub mod Bounds
+pub mod Configurations
+pub mod Devices
+pub mod Entries
+pub mod GoodStrings
+pub mod Groups
+pub mod Lookups
+pub mod References
+pub mod Sound
+pub mod Strings
+pub mod Tables

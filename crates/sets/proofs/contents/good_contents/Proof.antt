@@ -1,0 +1,129 @@
+-- `sets::contents::good_contents` meets its contract: the entries passed are good, and what is asked of all is asked of those left. Assumes nothing.
+use Prim.Native.Nat.{_+_, _-_, _*_, _≤_}
+use native.Mathlib.Omega.{arith}
+use mathlib.Core.Bool.{true}
+use mathlib.Core.List.{[], _∷_}
+use mathlib.Core.Path.{_≡_, sym, ap, _∙_}
+use lib.Dec.{eqb}
+use borrow.Author.Needs.{needs}
+use borrow.Author.Tests.{not-true, not-false}
+use Rattle.sets.specs.Contents.{total, goodContents}
+use Rattle.sets.proofs.Entries.{rest, rest-start, next-entry, no-entry, contentsFrom, contents-all, contents-turn, contents-more, contents-end}
+use Rattle.sets.proofs.contents.good_contents.Statement.{statement}
+use Rattle.sets.proofs.contents.good_contents.Tie as tie
+
+abbrev Inv-loop : tie.InvT-loop
+Inv-loop set limits count start₀ last₀ i₀ start last i = (start ≤ 2044 + 65535 * i) × (goodContents limits set ≡ contentsFrom limits (total set) (eqb i 0) last start (rest set i))
+
+abbrev μ-loop : tie.MeasureT-loop
+μ-loop set limits count start₀ last₀ i₀ start last i = count - i
+
+-- the entries from here on, where one is left and where none is
+turn : (c : tie.After-entry-at Inv-loop μ-loop)
+    → rest (c .before .before .before .before .before .args .set .now) (c .before .before .loop .i)
+    ≡ c .entry-at .result ∷ rest (c .before .before .before .before .before .args .set .now) (c .before .before .loop .i + 1)
+turn c =
+    next-entry (c .before .before .before .before .before .args .set .now) (c .before .before .before .peek .result) (c .before .before .before .peek .ensures)
+    (c .before .before .loop .i) (c .before .loop-test .taken) (c .entry-at .result) (c .entry-at .ensures)
+
+end : (c : tie.After-loop Inv-loop μ-loop) → rest (c .before .before .before .before .args .set .now) (c .before .loop .i) ≡ []
+end c =
+    no-entry (c .before .before .before .before .args .set .now) (c .before .before .peek .result) (c .before .before .peek .ensures) (c .before .loop .i) (c .loop-test .left)
+
+peek-requires : tie.Need-peek-requires Inv-loop μ-loop
+peek-requires c κs = search needs
+
+cast-start : tie.Need-cast-start Inv-loop μ-loop
+cast-start c = search needs
+
+mul-start : tie.Need-mul-start Inv-loop μ-loop
+mul-start c = search needs
+
+add-start : tie.Need-add-start Inv-loop μ-loop
+add-start c = search needs
+
+loop-holds : tie.Need-loop-holds Inv-loop μ-loop
+unfolding goodContents
+loop-holds c =
+    let a = c .before .before .args in (
+      omega arith,
+      rw (c .peek .ensures)
+          (sym (contents-all (a .limits) (total (a .set .now)) _ _ _)
+          ∙ ap (contentsFrom (a .limits) (total (a .set .now)) true _ _) (rest-start (a .set .now))),
+    )
+
+entry-at-requires : tie.Need-entry-at-requires Inv-loop μ-loop
+entry-at-requires c κs = search needs
+
+good-entry-requires : tie.Need-good-entry-requires Inv-loop μ-loop
+good-entry-requires c κs = search needs
+
+returns : tie.Need-returns Inv-loop μ-loop
+returns c =
+    let s = c .before .before in
+    let a = s .before .before .before .before .before .args in
+    let l = s .before .before .loop in
+    sym
+    (l .inv .1
+    ∙ ap (contentsFrom (a .limits) (total (a .set .now)) (eqb (l .i) 0) (l .last) (l .start)) (turn s)
+    ∙ contents-more (a .limits) (total (a .set .now)) _ _ _ _ _
+    ∙ rw (← c .before .good-entry .ensures, not-true (c .before .good-entry .result) (c .if1 .taken)))
+
+cast-start-2 : tie.Need-cast-start-2 Inv-loop μ-loop
+cast-start-2 c = search needs
+
+add-start-2 : tie.Need-add-start-2 Inv-loop μ-loop
+add-start-2 c = search needs
+
+add-i : tie.Need-add-i Inv-loop μ-loop
+add-i c = search needs
+
+loop-less : tie.Need-loop-less Inv-loop μ-loop
+loop-less c = search needs
+
+loop-again : tie.Need-loop-again Inv-loop μ-loop
+loop-again c =
+    let s = c .before .before .before in
+    let a = s .before .before .before .before .before .args in
+    let l = s .before .before .loop in (
+      omega arith,
+      l .inv .1
+          ∙ ap (contentsFrom (a .limits) (total (a .set .now)) (eqb (l .i) 0) (l .last) (l .start)) (turn s)
+          ∙ contents-turn (a .limits) (total (a .set .now)) (l .i) (l .last) (l .start) (s .entry-at .result) _
+          (rw (c .before .before .good-entry .ensures) at (not-false (c .before .before .good-entry .result) (c .before .if1 .left))),
+    )
+
+word-requires : tie.Need-word-requires Inv-loop μ-loop
+word-requires c κs = search needs
+
+cast-result : tie.Need-cast-result Inv-loop μ-loop
+cast-result c = search needs
+
+returns-2 : tie.Need-returns-2 Inv-loop μ-loop
+returns-2 c =
+    let a = c .before .before .before .before .before .args in
+    let l = c .before .before .loop in
+    rw (c .word .ensures) (sym (l .inv .1 ∙ ap (contentsFrom (a .limits) (total (a .set .now)) (eqb (l .i) 0) (l .last) (l .start)) (end (c .before)) ∙ contents-end (a .limits) (total (a .set .now)) _ _ _))
+
+pub good-contents-spec : {M : Type 1} → statement M
+good-contents-spec =
+    tie.close
+    (tie.spec
+    Inv-loop
+    μ-loop
+    peek-requires
+    cast-start
+    mul-start
+    add-start
+    loop-holds
+    entry-at-requires
+    good-entry-requires
+    returns
+    cast-start-2
+    add-start-2
+    add-i
+    loop-less
+    loop-again
+    word-requires
+    cast-result
+    returns-2)

@@ -1,0 +1,107 @@
+-- `sets::string::in_language` meets its contract: those in the new table, and those that the entries left still add, are all. Assumes nothing.
+use Prim.Native.Nat.{ℕ, _+_, _-_, _<_}
+use mathlib.Core.Bool.{_&&_, _||_, and-false, or-false}
+use mathlib.Core.List.{[], _∷_}
+use mathlib.Core.Path.{_≡_, refl, sym, ap, _∙_}
+use lib.ListN.{length}
+use borrow.Author.Needs.{needs}
+use Rattle.octets.specs.Sentences.{any, only}
+use Rattle.sets.specs.Contents.{isKind, entriesOf}
+use Rattle.sets.specs.Indices.{has}
+use Rattle.sets.specs.Strings.{isString}
+use Rattle.sets.proofs.Entries.{rest, rest-start, next-entry, no-entry, any-empty, only-empty}
+use Rattle.sets.proofs.Strings.{entry-in, entry-past}
+use Rattle.sets.proofs.Tables.{has-none, with-long}
+use Rattle.sets.proofs.string.in_language.Statement.{statement}
+use Rattle.sets.proofs.string.in_language.Tie as tie
+
+abbrev Inv-loop : tie.InvT-loop
+Inv-loop set language table count next₀ i₀ next i = (length (next .words) ≡ 8) × ((j : ℕ) → j < 256 → (has table j && any (isString j language) (entriesOf 3 set)) ≡ (has next j || (has table j && any (isString j language) (only (isKind 3) (rest set i)))))
+
+abbrev μ-loop : tie.MeasureT-loop
+μ-loop set language table count next₀ i₀ next i = count - i
+
+-- the entries from here on, where one is left and where none is
+turn : (c : tie.After-entry-at Inv-loop μ-loop)
+    → rest (c .before .before .before .before .before .args .set .now) (c .before .before .loop .i)
+    ≡ c .entry-at .result ∷ rest (c .before .before .before .before .before .args .set .now) (c .before .before .loop .i + 1)
+turn c =
+    next-entry (c .before .before .before .before .before .args .set .now) (c .before .before .before .peek .result) (c .before .before .before .peek .ensures)
+    (c .before .before .loop .i) (c .before .loop-test .taken) (c .entry-at .result) (c .entry-at .ensures)
+
+end : (c : tie.After-loop Inv-loop μ-loop) → rest (c .before .before .before .before .args .set .now) (c .before .loop .i) ≡ []
+end c =
+    no-entry (c .before .before .before .before .args .set .now) (c .before .before .peek .result) (c .before .before .peek .ensures) (c .before .loop .i) (c .loop-test .left)
+
+peek-requires : tie.Need-peek-requires Inv-loop μ-loop
+peek-requires c κs = search needs
+
+loop-holds : tie.Need-loop-holds Inv-loop μ-loop
+loop-holds c =
+    let a = c .before .before .args in
+    (refl, λ j h. rw (has-none j) (ap (λ es. has (a .table) j && any (isString j (a .language)) (only (isKind 3) es)) (rest-start (a .set .now))))
+
+entry-at-requires : tie.Need-entry-at-requires Inv-loop μ-loop
+entry-at-requires c κs = search needs
+
+add-i : tie.Need-add-i Inv-loop μ-loop
+add-i c = search needs
+
+holds-requires : tie.Need-holds-requires Inv-loop μ-loop
+holds-requires c κs = search needs
+
+joined-requires : tie.Need-joined-requires Inv-loop μ-loop
+joined-requires c κs = search needs
+
+loop-less : tie.Need-loop-less Inv-loop μ-loop
+loop-less c = search needs
+
+loop-again : tie.Need-loop-again Inv-loop μ-loop
+loop-again c =
+    let s = c .before .before .before .before .before in
+    let a = s .before .before .before .before .before .args in
+    let l = s .before .before .loop in (
+      rw (c .joined .ensures) (with-long (l .next) _ (l .inv .0)),
+      λ j h. l .inv .1 j h ∙ ap (λ es. has (l .next) j || (has (a .table) j && any (isString j (a .language)) (only (isKind 3) es))) (turn s) ∙ entry-in (a .table) (l .next) (a .language) (s .entry-at .result) _ j (l .inv .0) (search needs) (rw (c .before .before .holds .ensures) at (c .before .if1 .taken)) ∙ rw (c .joined .ensures),
+    )
+
+loop-less-2 : tie.Need-loop-less-2 Inv-loop μ-loop
+loop-less-2 c = search needs
+
+loop-again-2 : tie.Need-loop-again-2 Inv-loop μ-loop
+loop-again-2 c =
+    let s = c .before .before .before .before in
+    let a = s .before .before .before .before .before .args in
+    let l = s .before .before .loop in (
+      l .inv .0,
+      λ j h. l .inv .1 j h ∙ ap (λ es. has (l .next) j || (has (a .table) j && any (isString j (a .language)) (only (isKind 3) es))) (turn s) ∙ entry-past (a .table) (l .next) (a .language) (s .entry-at .result) _ j
+          (rw (c .before .holds .ensures) at (c .if1 .left)),
+    )
+
+returns : tie.Need-returns Inv-loop μ-loop
+returns c =
+    let s = c .before in
+    let a = s .before .before .before .args in
+    λ j h. sym
+    (s .loop .inv .1 j h
+    ∙ ap (λ es. has (s .loop .next) j || (has (a .table) j && any (isString j (a .language)) es))
+    (ap (only (isKind 3)) (end c) ∙ only-empty (isKind 3))
+    ∙ rw (any-empty, and-false, or-false))
+
+pub in-language-spec : {M : Type 1} → statement M
+in-language-spec =
+    tie.close
+    (tie.spec
+    Inv-loop
+    μ-loop
+    peek-requires
+    loop-holds
+    entry-at-requires
+    add-i
+    holds-requires
+    joined-requires
+    loop-less
+    loop-again
+    loop-less-2
+    loop-again-2
+    returns)

@@ -1,0 +1,97 @@
+// The configurations of a set. Group 4, and looking one up.
+use crate::Entry;
+use crate::EntryFound;
+use crate::Indices;
+use crate::contents::body_of;
+use crate::contents::entry_at;
+use crate::contents::entry_of;
+use crate::table::holds;
+use crate::table::joined;
+use descriptors::ConfigurationIndex;
+use descriptors::ConfigurationValue;
+use descriptors::Limits;
+ghost use mathlib.Core.Path.{_≡_};
+ghost use lib.ListN.{getElem?};
+ghost use Rattle.octets.specs.Sentences.{first, any};
+ghost use Rattle.sets.specs.Contents.{entriesOf, bodies};
+ghost use Rattle.sets.specs.Found.{found, valued, canWake};
+ghost use Rattle.sets.specs.Opening.{goodConfigurations};
+ghost use Rattle.sets.specs.Checks.{goodNumbered};
+
+// A configuration entry: the index that it has to have, its body, and whether its value was there before.
+fn good_configuration_entry(e: Entry, index: u8, body: &[u8], seen: bool, limits: Limits) -> bool
+    ensures { λ r. ⌜ r ≡ goodNumbered limits e index (now (body .entry)) seen ⌝ }
+{
+    (e.index == index)
+        & (e.language == 0)
+        & descriptors::check::good_configuration(body, limits)
+        & (1 <= octets::peek(body, 5))
+        & !seen
+}
+
+// Group 4: a pass over the entries, with the index that is next and the values that were there.
+pub fn good_configurations(set: &[u8], limits: Limits) -> bool
+    ensures { λ r. ⌜ r ≡ goodConfigurations limits (now (set .entry)) ⌝ }
+{
+    let count = octets::peek(set, 2);
+    let mut index: u8 = 0;
+    let mut seen = Indices { words: [0u32; 8] };
+    let mut i: u8 = 0;
+    while i < count {
+        let e = entry_at(set, i);
+        i += 1;
+        if e.kind == 2 {
+            let body = body_of(set, e);
+            let value = octets::peek(body, 5);
+            if !good_configuration_entry(e, index, body, holds(seen, value), limits) {
+                return false;
+            }
+            seen = joined(seen, value);
+            index += 1;
+        }
+    }
+    true
+}
+
+// The entry of the configuration at an index.
+pub fn by_index(set: &[u8], index: ConfigurationIndex) -> EntryFound
+    ensures { λ r. ⌜ r ≡ found (getElem? (entriesOf 2 (now (set .entry))) (index .0)) ⌝ }
+{
+    entry_of(set, 2, index.0)
+}
+
+// The entry of the configuration with a bConfigurationValue.
+pub fn by_value(set: &[u8], value: ConfigurationValue) -> EntryFound
+    ensures { λ r. ⌜ r ≡ found (first (valued (now (set .entry)) (value .0)) (entriesOf 2 (now (set .entry)))) ⌝ }
+{
+    let count = octets::peek(set, 2);
+    let mut i: u8 = 0;
+    while i < count {
+        let e = entry_at(set, i);
+        i += 1;
+        if e.kind == 2 {
+            if octets::peek(body_of(set, e), 5) == value.0 {
+                return EntryFound::At(e);
+            }
+        }
+    }
+    EntryFound::Nothing
+}
+
+// Whether some configuration supports remote wakeup: bit 5 of its attributes.
+pub fn wakes(set: &[u8]) -> bool
+    ensures { λ r. ⌜ r ≡ any canWake (bodies 2 (now (set .entry))) ⌝ }
+{
+    let count = octets::peek(set, 2);
+    let mut i: u8 = 0;
+    while i < count {
+        let e = entry_at(set, i);
+        i += 1;
+        if e.kind == 2 {
+            if octets::peek(body_of(set, e), 7) / 32 % 2 == 1 {
+                return true;
+            }
+        }
+    }
+    false
+}

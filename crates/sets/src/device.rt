@@ -1,0 +1,74 @@
+// The device descriptor and the serial block. Groups 3 and 6.
+use crate::EntryFound;
+use crate::contents::body_of;
+use crate::contents::count_of;
+use crate::contents::entry_of;
+use descriptors::Limits;
+ghost use mathlib.Core.Path.{_≡_};
+ghost use Rattle.sets.specs.Device.{goodDevice, deviceBody, iSerialNumber};
+ghost use Rattle.sets.specs.Opening.{goodDevices, goodSerial};
+
+// The device descriptor, beside the number of type 2 entries.
+fn good_device(body: &[u8], configurations: u8, limits: Limits) -> bool
+    ensures { λ r. ⌜ r ≡ goodDevice limits configurations (now (body .entry)) ⌝ }
+{
+    let listed = octets::peek(body, 17);
+    (body.len() == 18)
+        & (octets::peek(body, 0) == 18)
+        & (octets::peek(body, 1) == 1)
+        & descriptors::check::is_doubled(limits.control, octets::peek(body, 7) as u16)
+        & (!(octets::peek(body, 4) == 0) | (octets::peek(body, 5) == 0))
+        & (1 <= listed)
+        & (listed <= 8)
+        & (listed == configurations)
+}
+
+// The device descriptor; empty where there is none.
+pub fn device_body(set: &[u8]) -> &[u8]
+    ensures { λ r. ⌜ now r ≡ deviceBody (now (set .entry)) ⌝ }
+{
+    match entry_of(set, 1, 0) {
+        EntryFound::At(e) => body_of(set, e),
+        EntryFound::Nothing => &set[0..0],
+    }
+}
+
+// Group 3.
+pub fn good_devices(set: &[u8], limits: Limits) -> bool
+    ensures { λ r. ⌜ r ≡ goodDevices limits (now (set .entry)) ⌝ }
+{
+    if count_of(set, 1) != 1 {
+        return false;
+    }
+    match entry_of(set, 1, 0) {
+        EntryFound::At(e) => {
+            let configurations = count_of(set, 2);
+            (e.index == 0)
+                & (e.language == 0)
+                & good_device(body_of(set, e), configurations, limits)
+        }
+        EntryFound::Nothing => false,
+    }
+}
+
+// The index of the serial number's string, 0 where there is none.
+pub fn serial_index(set: &[u8]) -> u8
+    ensures { λ r. ⌜ r ≡ iSerialNumber (deviceBody (now (set .entry))) ⌝ }
+{
+    octets::peek(device_body(set), 16)
+}
+
+// Group 6.
+pub fn good_serial(index: u8, block: &[u8]) -> bool
+    ensures { λ r. ⌜ r ≡ goodSerial index (now (block .entry)) ⌝ }
+{
+    let size = block.len();
+    if index == 0 {
+        return size == 0;
+    }
+    (4 <= size)
+        & (size <= 254)
+        & (size % 2 == 0)
+        & (octets::peek(block, 0) as usize == size)
+        & (octets::peek(block, 1) == 3)
+}

@@ -1,0 +1,56 @@
+// A descriptor set: its contents, and whether it may be opened.
+pub mod configuration;
+pub mod contents;
+pub mod device;
+pub mod reference;
+pub mod string;
+pub mod table;
+
+use descriptors::Limits;
+ghost use mathlib.Core.Path.{_≡_};
+ghost use Rattle.sets.specs.Opening.{opening};
+
+// One entry of the contents: what a body is, and where it lies.
+pub struct Entry {
+    pub kind: u8,
+    pub index: u8,
+    pub language: u16,
+    pub offset: u16,
+    pub length: u16,
+}
+
+// A set of numbers below 256: number k is bit k % 32 of word k / 32.
+pub struct Indices {
+    pub words: [u32; 8],
+}
+
+// An entry that is looked up.
+pub enum EntryFound {
+    At(Entry),
+    Nothing,
+}
+
+// Opening: 0, or the number of the first group that is broken.
+pub fn opening(set: &[u8], serial: &[u8], limits: Limits) -> u8
+    ensures { λ r. ⌜ r ≡ opening limits (record { set = now (set .entry); serial = now (serial .entry) }) ⌝ }
+{
+    if !contents::good_frame(set) {
+        return 1;
+    }
+    if !contents::good_contents(set, limits) {
+        return 2;
+    }
+    if !device::good_devices(set, limits) {
+        return 3;
+    }
+    if !configuration::good_configurations(set, limits) {
+        return 4;
+    }
+    if !string::good_strings(set) {
+        return 5;
+    }
+    if !device::good_serial(device::serial_index(set), serial) {
+        return 6;
+    }
+    0
+}

@@ -1,0 +1,171 @@
+// The strings of a set. Group 5.
+use crate::Entry;
+use crate::EntryFound;
+use crate::Indices;
+use crate::contents::body_of;
+use crate::contents::count_of;
+use crate::contents::entry_at;
+use crate::contents::find_entry;
+use crate::device::serial_index;
+use crate::reference::good_references;
+use crate::table::holds;
+use crate::table::joined;
+ghost use mathlib.Core.Path.{_≡_};
+ghost use Prim.Native.Nat.{ℕ, _<_};
+ghost use mathlib.Core.Bool.{true, _&&_, _||_};
+ghost use lib.ListN.{drop};
+ghost use Rattle.octets.specs.Sentences.{any, every, member};
+ghost use Rattle.sets.specs.Contents.{entriesOf};
+ghost use Rattle.sets.specs.Strings.{words, isString, isStringZero, goodString, languageZero, notSerial, goodLanguages, languages, inEvery, goodStrings};
+ghost use Rattle.sets.specs.Indices.{has};
+ghost use Rattle.sets.specs.Checks.{goodStringEntry, goodListed, wellCutBodies};
+
+// String 0 lists one to four languages, nonzero and ascending.
+fn good_languages(body: &[u8]) -> bool
+    ensures { λ r. ⌜ r ≡ goodLanguages (words (drop 2 (now (body .entry)))) ⌝ }
+{
+    if body.len() < 4 {
+        return false;
+    }
+    if 11 < body.len() {
+        return false;
+    }
+    let mut last: u16 = 0;
+    let mut at = 2;
+    while at + 1 < body.len() {
+        let language = octets::word(body, at);
+        if language <= last {
+            return false;
+        }
+        last = language;
+        at += 2;
+    }
+    true
+}
+
+// Whether string 0 lists a language.
+fn lists(body: &[u8], language: u16) -> bool
+    ensures { λ r. ⌜ r ≡ member language (words (drop 2 (now (body .entry)))) ⌝ }
+{
+    let mut at = 2;
+    while at + 1 < body.len() {
+        if language == octets::word(body, at) {
+            return true;
+        }
+        at += 2;
+    }
+    false
+}
+
+// Whether a set lists a language.
+pub fn language_listed(set: &[u8], language: u16) -> bool
+    ensures { λ r. ⌜ r ≡ member language (languages (now (set .entry))) ⌝ }
+{
+    match find_entry(set, 3, 0, 0) {
+        EntryFound::At(e) => lists(body_of(set, e), language),
+        EntryFound::Nothing => false,
+    }
+}
+
+// Those in a table that have a string in a language.
+fn in_language(set: &[u8], language: u16, table: Indices) -> Indices
+    ensures { λ r. ⌜ ((j : ℕ) → j < 256 → has r j ≡ (has table j && any (isString j language) (entriesOf 3 (now (set .entry))))) ⌝ }
+{
+    let count = octets::peek(set, 2);
+    let mut next = Indices { words: [0u32; 8] };
+    let mut i: u8 = 0;
+    while i < count {
+        let e = entry_at(set, i);
+        i += 1;
+        if (e.kind == 3) & (e.language == language) & holds(table, e.index) {
+            next = joined(next, e.index);
+        }
+    }
+    next
+}
+
+// The indices that have a string in every listed language; `languages` is string 0.
+fn in_every_language(set: &[u8], languages: &[u8]) -> Indices
+    ensures { λ r. ⌜ ((j : ℕ) → j < 256 → has r j ≡ inEvery (words (drop 2 (now (languages .entry)))) (entriesOf 3 (now (set .entry))) j) ⌝ }
+{
+    let mut table = Indices {
+        words: [4294967295u32; 8],
+    };
+    let mut at = 2;
+    while at + 1 < languages.len() {
+        table = in_language(set, octets::word(languages, at), table);
+        at += 2;
+    }
+    table
+}
+
+// A string's body.
+fn good_string(body: &[u8]) -> bool
+    ensures { λ r. ⌜ r ≡ goodString (now (body .entry)) ⌝ }
+{
+    let size = body.len();
+    (octets::peek(body, 0) as usize == size)
+        & (octets::peek(body, 1) == 3)
+        & (size % 2 == 0)
+        & (size <= 254)
+}
+
+// A string entry, its body, and whether its language is listed.
+fn good_string_entry(body: &[u8], e: Entry, listed: bool, serial: u8) -> bool
+    ensures { λ r. ⌜ r ≡ (goodString (now (body .entry)) && languageZero e && (isStringZero e || listed) && notSerial serial e) ⌝ }
+{
+    let index_zero = e.index == 0;
+    let language_zero = e.language == 0;
+    good_string(body)
+        & ((!language_zero | index_zero) & (!index_zero | language_zero))
+        & ((index_zero & language_zero) | listed)
+        & (!(1 <= serial) | !(e.index == serial))
+}
+
+// Every string entry; `languages` is string 0.
+fn good_string_entries(set: &[u8], languages: &[u8], serial: u8) -> bool
+    ensures { λ r. ⌜ r ≡ every (goodStringEntry (now (set .entry)) (words (drop 2 (now (languages .entry)))) serial) (entriesOf 3 (now (set .entry))) ⌝ }
+{
+    let count = octets::peek(set, 2);
+    let mut i: u8 = 0;
+    while i < count {
+        let e = entry_at(set, i);
+        i += 1;
+        if e.kind == 3 {
+            let listed = lists(languages, e.language);
+            if !good_string_entry(body_of(set, e), e, listed, serial) {
+                return false;
+            }
+        }
+    }
+    true
+}
+
+// Group 5 where string 0 is there: it lists the languages.
+fn good_listed_strings(set: &[u8], languages: &[u8], serial: u8) -> bool
+    requires { ⌜ wellCutBodies (now set) ≡ true ⌝ }
+    ensures { λ r. ⌜ r ≡ goodListed (now (set .entry)) (words (drop 2 (now (languages .entry)))) serial ⌝ }
+{
+    if !good_languages(languages) {
+        return false;
+    }
+    let indices = in_every_language(set, languages);
+    good_string_entries(set, languages, serial) & good_references(set, serial, indices)
+}
+
+// Group 5, for a set whose configurations are cut to their ends. Without string 0 there is no string and no reference.
+pub fn good_strings(set: &[u8]) -> bool
+    requires { ⌜ wellCutBodies (now set) ≡ true ⌝ }
+    ensures { λ r. ⌜ r ≡ goodStrings (now (set .entry)) ⌝ }
+{
+    match find_entry(set, 3, 0, 0) {
+        EntryFound::At(e) => {
+            let serial = serial_index(set);
+            good_listed_strings(set, body_of(set, e), serial)
+        }
+        EntryFound::Nothing => {
+            let none = Indices { words: [0u32; 8] };
+            (count_of(set, 3) == 0) & good_references(set, 0, none)
+        }
+    }
+}
