@@ -1,0 +1,9 @@
+-- `records::good_state` meets its contract: the same tests. Assumes nothing.
+use Rattle.records.proofs.good_state.Statement.{statement}
+use Rattle.records.proofs.good_state.Tie as tie
+
+returns : tie.Need-returns
+returns c = λ v e. rw e
+
+pub good-state-spec : {M : Type 1} → statement M
+good-state-spec = tie.close (tie.spec returns)

@@ -1,0 +1,134 @@
+-- `records::store` meets its contract: four parts are written, each after the one before it, and together they are all 32 bytes. Assumes nothing.
+use Prim.Native.Nat.{ℕ}
+use native.Mathlib.Nat.{le-of-eq}
+use mathlib.Core.Path.{_≡_, refl, sym, _∙_}
+use mathlib.Core.List.{List, [], _++_, append-assoc, append-nil}
+use lib.ListN.{length, drop, length-append, drop-of-length-le}
+use lib.Seq.{take-at, drop-at, drop-drop}
+use borrow.Rule.Slice.PartMut.{putMid}
+use Rattle.records.specs.declared.Device.{Device}
+use Rattle.records.specs.Image.{bytesOfFour, imageOf}
+use Rattle.records.proofs.Image.{front, copied, alternates-length}
+use borrow.Author.Needs.{needs, length-unmapped}
+use Rattle.records.proofs.store.Statement.{statement}
+use Rattle.records.proofs.store.Tie as tie
+
+-- a part written behind what is written already
+put-after : (p q m : List ℕ) (n k : ℕ) → length p ≡ n → putMid n k (p ++ q) m ≡ p ++ m ++ drop k q
+put-after p q m n k e = rw (take-at p q n e, drop-at p q n e) (sym (append-assoc p m (drop k q)))
+
+all-put : (f a h t image : List ℕ) → length f ≡ 8 → length a ≡ 16 → length h ≡ 4 → length image ≡ 32
+    → putMid 28 4 (putMid 24 4 (putMid 8 16 (f ++ drop 8 image) a) h) t ≡ f ++ a ++ h ++ t
+all-put f a h t image ef ea eh long =
+    let n1 : length (f ++ a) ≡ 24 = rw (length-append f a, ef, ea) in
+    let n2 : length (f ++ a ++ h) ≡ 28 = rw (length-append (f ++ a) h, n1, eh) in
+    let past : drop 4 (drop 4 (drop 16 (drop 8 image))) ≡ [] = simp drop-drop (drop-of-length-le image (le-of-eq long)) in
+    rw (put-after f (drop 8 image) a 8 16 ef, put-after (f ++ a) (drop 16 (drop 8 image)) h 24 4 n1, put-after (f ++ a ++ h) (drop 4 (drop 16 (drop 8 image))) t 28 4 n2, past, append-nil)
+
+stored : (d : Device) {f a h t : List ℕ} (image : List ℕ) → length (d .alternates) ≡ 16 → length image ≡ 32
+    → f ≡ front d → a ≡ d .alternates → h ≡ bytesOfFour (d .halts) → t ≡ bytesOfFour (d .toggles)
+    → putMid 28 4 (putMid 24 4 (putMid 8 16 (f ++ drop 8 image) a) h) t ≡ imageOf d
+unfolding imageOf bytesOfFour
+stored d image sixteen long p q r s = rw (p, q, r, s) (all-put (front d) (d .alternates) (bytesOfFour (d .halts)) (bytesOfFour (d .toggles)) image refl sixteen refl long)
+
+slice-aggregate-copy : tie.Need-slice-aggregate-copy
+slice-aggregate-copy c = search needs
+
+sub-copy : tie.Need-sub-copy
+sub-copy c = search needs
+
+part-copy-start : tie.Need-part-copy-start
+part-copy-start c = search needs
+
+part-copy-end : tie.Need-part-copy-end
+part-copy-end c = search needs
+
+copy-requires : tie.Need-copy-requires
+copy-requires c κs = search needs
+
+slice-aggregate-copy-2 : tie.Need-slice-aggregate-copy-2
+slice-aggregate-copy-2 c = search needs
+
+sub-copy-2 : tie.Need-sub-copy-2
+sub-copy-2 c = search needs
+
+part-copy-start-2 : tie.Need-part-copy-start-2
+part-copy-start-2 c = search needs
+
+part-copy-end-2 : tie.Need-part-copy-end-2
+part-copy-end-2 c = search needs
+
+copy-requires-2 : tie.Need-copy-requires-2
+copy-requires-2 c κs =
+    let start = c .before .before .before .before .before .before .before .before .before in
+    let d = start .args .device in
+    let image = start .args .image .now in
+    let n : length (d .alternates) ≡ 16 = search needs in
+    rw (c .before .before .before .before .copy .ensures .1 ∙ copied (front d) image 8 refl) (le-of-eq (n ∙ sym (alternates-length image (start .pre))))
+
+sub-store-four : tie.Need-sub-store-four
+sub-store-four c = search needs
+
+part-store-four-start : tie.Need-part-store-four-start
+part-store-four-start c = search needs
+
+part-store-four-end : tie.Need-part-store-four-end
+part-store-four-end c = search needs
+
+store-four-requires : tie.Need-store-four-requires
+store-four-requires c κs = search needs
+
+sub-store-four-2 : tie.Need-sub-store-four-2
+sub-store-four-2 c = search needs
+
+part-store-four-start-2 : tie.Need-part-store-four-start-2
+part-store-four-start-2 c = search needs
+
+part-store-four-end-2 : tie.Need-part-store-four-end-2
+part-store-four-end-2 c = search needs
+
+store-four-requires-2 : tie.Need-store-four-requires-2
+store-four-requires-2 c κs = search needs
+
+same-length : tie.Need-same-length
+same-length c = search needs
+
+returns : tie.Need-returns
+returns c =
+    let four = c .before .before .before .before .before .before in
+    let second = four .before .before .before .before in
+    let first = second .before .before .before .before .before in
+    let start = first .before .before .before .before .before in
+    let d = start .args .device in
+    let image = start .args .image .now in
+    let n = length-unmapped ℕ (d .alternates) 16 (start .good .0 .1 .1 .1 .1 .1 .1 .1 .1 .1 .1 .0 .1 .0 .1) in
+    stored d image n (start .pre)
+    (first .copy .ensures .1 ∙ copied (front d) image 8 refl)
+    (second .copy2 .ensures .1 ∙ copied (d .alternates) (drop 8 (first .copy .last .1 .0 ++ drop 8 image)) 16 n)
+    (four .store-four .ensures)
+    (c .before .before .store-four2 .ensures)
+
+pub store-spec : {M : Type 1} → statement M
+store-spec =
+    tie.close
+    (tie.spec
+    slice-aggregate-copy
+    sub-copy
+    part-copy-start
+    part-copy-end
+    copy-requires
+    slice-aggregate-copy-2
+    sub-copy-2
+    part-copy-start-2
+    part-copy-end-2
+    copy-requires-2
+    sub-store-four
+    part-store-four-start
+    part-store-four-end
+    store-four-requires
+    sub-store-four-2
+    part-store-four-start-2
+    part-store-four-end-2
+    store-four-requires-2
+    same-length
+    returns)

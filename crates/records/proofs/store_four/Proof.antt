@@ -1,0 +1,60 @@
+-- `records::store_four` meets its contract. Assumes nothing.
+use Prim.Native.Nat.{ℕ}
+use mathlib.Core.Path.{_≡_}
+use mathlib.Core.List.{List, [], _∷_}
+use lib.ListN.{length, set}
+use Rattle.records.specs.Image.{bytesOfFour}
+use Rattle.records.proofs.Image.{window, spelled}
+use borrow.Author.Needs.{needs}
+use Rattle.records.proofs.store_four.Statement.{statement}
+use Rattle.records.proofs.store_four.Tie as tie
+
+cast-bytes : tie.Need-cast-bytes
+cast-bytes c = search needs
+
+slice-write-bytes : tie.Need-slice-write-bytes
+slice-write-bytes c = search needs
+
+cast-bytes-2 : tie.Need-cast-bytes-2
+cast-bytes-2 c = search needs
+
+slice-write-bytes-2 : tie.Need-slice-write-bytes-2
+slice-write-bytes-2 c = search needs
+
+cast-bytes-3 : tie.Need-cast-bytes-3
+cast-bytes-3 c = search needs
+
+slice-write-bytes-3 : tie.Need-slice-write-bytes-3
+slice-write-bytes-3 c = search needs
+
+cast-bytes-4 : tie.Need-cast-bytes-4
+cast-bytes-4 c = search needs
+
+slice-write-bytes-4 : tie.Need-slice-write-bytes-4
+slice-write-bytes-4 c = search needs
+
+same-length : tie.Need-same-length
+same-length c = search needs
+
+all-set : (bytes : List ℕ) (a b c d : ℕ) → length bytes ≡ 4 → set (set (set (set bytes 0 a) 1 b) 2 c) 3 d ≡ a ∷ b ∷ c ∷ d ∷ []
+unfolding window
+all-set bytes a b c d h = rw (spelled 4 bytes h)
+
+returns : tie.Need-returns
+unfolding bytesOfFour
+returns c = all-set (c .args .bytes .now) _ _ _ _ (c .pre)
+
+pub store-four-spec : {M : Type 1} → statement M
+store-four-spec =
+    tie.close
+    (tie.spec
+    cast-bytes
+    slice-write-bytes
+    cast-bytes-2
+    slice-write-bytes-2
+    cast-bytes-3
+    slice-write-bytes-3
+    cast-bytes-4
+    slice-write-bytes-4
+    same-length
+    returns)

@@ -1,0 +1,21 @@
+-- What exists at a record: the selected configuration, and the endpoints of the current settings.
+use Prim.Native.Nat.{ℕ}
+use mathlib.Core.List.{List}
+use mathlib.Core.Option.{Option}
+use Rattle.descriptors.specs.declared.Endpoint.{Endpoint}
+use Rattle.descriptors.specs.declared.ConfigurationValue.{ConfigurationValue}
+use Rattle.descriptors.specs.Configuration.{Configuration, currentOf, addressed}
+use Rattle.sets.specs.View.{View, byValue}
+use Rattle.records.specs.declared.Device.{Device}
+
+-- the configuration with the record's value. "Interfaces and endpoints other than zero exist only in Configured":
+-- elsewhere a fitting record has value 0, which no configuration has
+abbrev pub selected : View → Device → Configuration
+selected v d = byValue (record { 0 = d .configuration }) (v .configurations)
+
+abbrev pub currentEndpoints : View → Device → List Endpoint
+currentEndpoints v d = currentOf (d .alternates) (selected v d)
+
+-- the endpoint with this whole address in a current setting
+abbrev pub endpointAt : View → Device → ℕ → Option Endpoint
+endpointAt v d address = addressed address (currentEndpoints v d)

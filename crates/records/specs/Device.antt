@@ -1,0 +1,44 @@
+-- The device record's states, the fresh record, and records that differ in one field (document 01, "The device record").
+use Prim.Native.Nat.{ℕ}
+use mathlib.Core.List.{List}
+use lib.ListN.{replicate}
+use Rattle.records.specs.declared.Device.{Device}
+
+-- "0 state (0 Default, 1 Address, 2 Configured)"
+abbrev pub inDefault : ℕ
+inDefault = 0
+
+abbrev pub inAddress : ℕ
+inAddress = 1
+
+abbrev pub inConfigured : ℕ
+inConfigured = 2
+
+-- "waiting address (255: none)"
+abbrev pub nothing : ℕ
+nothing = 255
+
+abbrev pub zeros : List ℕ
+zeros = replicate 16 0
+
+-- "Fresh: all zero but byte 2 = 255."
+abbrev pub fresh : Device
+fresh = record { state = inDefault; address = 0; waiting = nothing; configuration = 0; wakeup = 0; power = 0; suspended = 0; speed = 0; alternates = zeros; halts = 0; toggles = 0 }
+
+-- ---- the same record but for what is named
+abbrev pub withWaiting : ℕ → Device → Device
+withWaiting w d = record { state = d .state; address = d .address; waiting = w; configuration = d .configuration; wakeup = d .wakeup; power = d .power; suspended = d .suspended; speed = d .speed; alternates = d .alternates; halts = d .halts; toggles = d .toggles }
+
+abbrev pub withWakeup : ℕ → Device → Device
+withWakeup w d = record { state = d .state; address = d .address; waiting = d .waiting; configuration = d .configuration; wakeup = w; power = d .power; suspended = d .suspended; speed = d .speed; alternates = d .alternates; halts = d .halts; toggles = d .toggles }
+
+-- its state and address, nothing waiting any more
+abbrev pub withAddress : ℕ → ℕ → Device → Device
+withAddress s a d = record { state = s; address = a; waiting = nothing; configuration = d .configuration; wakeup = d .wakeup; power = d .power; suspended = d .suspended; speed = d .speed; alternates = d .alternates; halts = d .halts; toggles = d .toggles }
+
+-- its state and configuration, every setting, halt and toggle 0
+abbrev pub withConfiguration : ℕ → ℕ → Device → Device
+withConfiguration s c d = record { state = s; address = d .address; waiting = d .waiting; configuration = c; wakeup = d .wakeup; power = d .power; suspended = d .suspended; speed = d .speed; alternates = zeros; halts = 0; toggles = 0 }
+
+abbrev pub withEndpoints : List ℕ → ℕ → ℕ → Device → Device
+withEndpoints a h t d = record { state = d .state; address = d .address; waiting = d .waiting; configuration = d .configuration; wakeup = d .wakeup; power = d .power; suspended = d .suspended; speed = d .speed; alternates = a; halts = h; toggles = t }

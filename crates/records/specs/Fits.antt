@@ -1,0 +1,46 @@
+-- Whether a record fits a set (document 01: "A record fits a set when ..").
+use Prim.Native.Nat.{ℕ}
+use mathlib.Core.List.{List}
+use mathlib.Core.Bool.{Bool, _&&_, _||_}
+use lib.ListN.{length, getD}
+use lib.Dec.{eqb, leb}
+use Rattle.octets.specs.Bit.{bit}
+use Rattle.octets.specs.Sentences.{pick, _⇒_, any, below}
+use Rattle.descriptors.specs.declared.Endpoint.{Endpoint}
+use Rattle.descriptors.specs.Configuration.{Configuration, hasInterface, hasSetting, canHalt, bitOf}
+use Rattle.sets.specs.View.{View, wakes}
+use Rattle.records.specs.declared.Device.{Device}
+use Rattle.records.specs.Device.{inDefault, inAddress, inConfigured, nothing}
+use Rattle.records.specs.Current.{selected, currentEndpoints}
+
+-- "those ranges hold": the state, the wakeup byte, and 5–7 zero
+abbrev pub inRange : Device → Bool
+inRange d = leb (d .state) 2 && leb (d .wakeup) 1 && eqb (d .power) 0 && eqb (d .suspended) 0 && eqb (d .speed) 0
+
+-- "a waiting address is at most 127"
+abbrev pub goodWaiting : Device → Bool
+goodWaiting d = leb (d .waiting) 127 || eqb (d .waiting) nothing
+
+-- "in Default, address and configuration are 0; in Address, address 1–127 and configuration 0;
+-- in Configured, address 1–127, a configuration value of the set, nothing waiting"
+abbrev pub goodState : View → Device → Bool
+goodState v d =
+    (eqb (d .state) inDefault ⇒ (eqb (d .address) 0 && eqb (d .configuration) 0)) &&
+    (eqb (d .state) inAddress ⇒ (leb 1 (d .address) && leb (d .address) 127 && eqb (d .configuration) 0)) &&
+    (eqb (d .state) inConfigured ⇒ (leb 1 (d .address) && leb (d .address) 127 && any (λ c. eqb (c .value) (d .configuration)) (v .configurations) && eqb (d .waiting) nothing))
+
+-- "alternates exist, and are 0 for interfaces that do not"
+abbrev pub goodAlternates : Configuration → Device → Bool
+goodAlternates c d = below 16 (λ j. pick (hasInterface c j) (hasSetting c j (getD (d .alternates) j 0)) (eqb (getD (d .alternates) j 0) 0))
+
+-- "halts stand only at bulk or interrupt endpoints of the current settings, toggles likewise"
+abbrev pub standsAt : List Endpoint → ℕ → Bool
+standsAt es word = below 32 (λ k. bit word k ⇒ any (λ e. canHalt e && eqb (bitOf (e .address)) k) es)
+
+unfoldable pub fits : View → Device → Bool
+fits v d =
+    let es = currentEndpoints v d in
+    inRange d && goodWaiting d && goodState v d &&
+    goodAlternates (selected v d) d &&
+    standsAt es (d .halts) && standsAt es (d .toggles) &&
+    (eqb (d .wakeup) 1 ⇒ wakes v)

@@ -1,0 +1,4 @@
+pub mod Device
+pub mod Image
+pub mod Current
+pub mod Fits

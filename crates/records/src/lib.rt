@@ -1,0 +1,161 @@
+// The device record: what a board keeps between events.
+ghost use mathlib.Core.Path.{_≡_};
+ghost use mathlib.Core.Bool.{true};
+ghost use Prim.Native.Nat.{_<_};
+ghost use lib.ListN.{length};
+ghost use lib.Dec.{eqb};
+ghost use Rattle.octets.specs.Sentences.{any};
+ghost use Rattle.descriptors.specs.Cut.{cut, wellCut};
+ghost use Rattle.descriptors.specs.Configuration.{configurationOf};
+ghost use Rattle.sets.specs.View.{View, wakes};
+ghost use Rattle.records.specs.Device.{fresh};
+ghost use Rattle.records.specs.Image.{fourBytes, bytesOfFour, deviceOf, imageOf};
+ghost use Rattle.records.specs.Current.{selected};
+ghost use Rattle.records.specs.Fits.{inRange, goodWaiting, goodState, fits};
+
+// In the order of its 32-byte image. state: 0 Default, 1 Address, 2 Configured; waiting: the address that the next status end
+// applies, 255 for none; power, suspended and speed (bytes 5 to 7) are zero; bit e of halts and toggles is OUT endpoint e, bit 16 + e is IN.
+#[repr(C)]
+pub struct Device {
+    pub state: u8,
+    pub address: u8,
+    pub waiting: u8,
+    pub configuration: u8,
+    pub wakeup: u8,
+    pub power: u8,
+    pub suspended: u8,
+    pub speed: u8,
+    pub alternates: [u8; 16],
+    pub halts: u32,
+    pub toggles: u32,
+}
+
+pub fn fresh() -> Device
+    ensures { λ r. ⌜ r ≡ fresh ⌝ }
+{
+    Device {
+        state: 0,
+        address: 0,
+        waiting: 255,
+        configuration: 0,
+        wakeup: 0,
+        power: 0,
+        suspended: 0,
+        speed: 0,
+        alternates: [0; 16],
+        halts: 0,
+        toggles: 0,
+    }
+}
+
+// The number of four bytes at k.
+fn four_bytes(bytes: &[u8], k: usize) -> u32
+    requires { ⌜ k < 32 ⌝ }
+    ensures { λ r. ⌜ r ≡ fourBytes (now (bytes .entry)) k ⌝ }
+{
+    let low = octets::word(bytes, k) as u32;
+    let high = octets::word(bytes, k + 2) as u32;
+    low + high * 65536
+}
+
+// The record of an image.
+pub fn load(image: &[u8]) -> Device
+    requires { ⌜ length (now image) ≡ 32 ⌝ }
+    ensures { λ r. ⌜ r ≡ deviceOf (now (image .entry)) ⌝ }
+{
+    let mut alternates = [0; 16];
+    bytes::copy(&image[8..24], &mut alternates);
+    Device {
+        state: image[0],
+        address: image[1],
+        waiting: image[2],
+        configuration: image[3],
+        wakeup: image[4],
+        power: image[5],
+        suspended: image[6],
+        speed: image[7],
+        alternates,
+        halts: four_bytes(image, 24),
+        toggles: four_bytes(image, 28),
+    }
+}
+
+// A number as four bytes.
+fn store_four(n: u32, bytes: &mut [u8])
+    requires { ⌜ length (now bytes) ≡ 4 ⌝ }
+    ensures { λ _. ⌜ now (bytes .exit) ≡ bytesOfFour n ⌝ }
+{
+    bytes[0] = (n % 256) as u8;
+    bytes[1] = (n / 256 % 256) as u8;
+    bytes[2] = (n / 65536 % 256) as u8;
+    bytes[3] = (n / 16777216 % 256) as u8;
+}
+
+// The record's image.
+pub fn store(device: Device, image: &mut [u8])
+    requires { ⌜ length (now image) ≡ 32 ⌝ }
+    ensures { λ _. ⌜ now (image .exit) ≡ imageOf device ⌝ }
+{
+    let front = [
+        device.state,
+        device.address,
+        device.waiting,
+        device.configuration,
+        device.wakeup,
+        device.power,
+        device.suspended,
+        device.speed,
+    ];
+    let alternates = device.alternates;
+    bytes::copy(&front, &mut image[0..8]);
+    bytes::copy(&alternates, &mut image[8..24]);
+    store_four(device.halts, &mut image[24..28]);
+    store_four(device.toggles, &mut image[28..32]);
+}
+
+// The ranges of the state, of wakeup and of bytes 5 to 7.
+fn in_range(device: Device) -> bool
+    ensures { λ r. ⌜ r ≡ inRange device ⌝ }
+{
+    (device.state <= 2)
+        & (device.wakeup <= 1)
+        & (device.power == 0)
+        & (device.suspended == 0)
+        & (device.speed == 0)
+}
+
+// Nothing waits, or an address.
+fn good_waiting(device: Device) -> bool
+    ensures { λ r. ⌜ r ≡ goodWaiting device ⌝ }
+{
+    (device.waiting <= 127) | (device.waiting == 255)
+}
+
+// What each state asks of the address, the configuration and what waits; `there`: the set has a configuration with the record's value.
+fn good_state(there: bool, device: Device) -> bool
+    ensures { λ r. ⌜ ((v : View) → there ≡ any (λ c. eqb (c .value) (device .configuration)) (v .configurations) → r ≡ goodState v device) ⌝ }
+{
+    let in_use = (1 <= device.address) & (device.address <= 127);
+    (!(device.state == 0) | ((device.address == 0) & (device.configuration == 0)))
+        & (!(device.state == 1) | (in_use & (device.configuration == 0)))
+        & (!(device.state == 2) | (in_use & there & (device.waiting == 255)))
+}
+
+// Whether a record fits. `body` is the selected configuration's, empty if none is; `there`: the set has a configuration with the record's
+// value; `waking`: some configuration supports remote wakeup.
+pub fn fits(body: &[u8], there: bool, waking: bool, device: Device) -> bool
+    requires { ⌜ wellCut (cut (now body)) ≡ true ⌝ }
+    ensures { λ r. ⌜ ((v : View) → configurationOf (now (body .entry)) ≡ selected v device
+        → there ≡ any (λ c. eqb (c .value) (device .configuration)) (v .configurations)
+        → waking ≡ wakes v → r ≡ fits v device) ⌝ }
+{
+    let alternates = device.alternates;
+    let allowed = descriptors::lookup::halting_bits(body, alternates);
+    in_range(device)
+        & good_waiting(device)
+        & good_state(there, device)
+        & descriptors::lookup::alternates_exist(body, alternates)
+        & descriptors::lookup::stands_at(device.halts, allowed)
+        & descriptors::lookup::stands_at(device.toggles, allowed)
+        & (!(device.wakeup == 1) | waking)
+}
