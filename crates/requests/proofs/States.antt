@@ -1,0 +1,51 @@
+-- The table's states are document 01's sentence: "Default allows 05 and 06. Address allows all but 0A and 0B. Configured allows all but 05."
+-- Computed over the table, and so of each setup that has a row. Assumes nothing.
+use Prim.Native.Nat.{ℕ}
+use mathlib.Core.Path.{_≡_, refl, ap, _∙_}
+use mathlib.Core.Bool.{Bool, true, false, _&&_, _||_, not, Bool·beq, false≢true}
+use mathlib.Core.Option.{some}
+use lib.Dec.{eqb}
+use borrow.Author.Tests.{eqb-true}
+use Rattle.octets.specs.Sentences.{every}
+use Rattle.octets.proofs.Sentences.{both, every-member, first-some}
+use Rattle.requests.specs.declared.Setup.{Setup}
+use Rattle.requests.specs.declared.Row.{Row}
+use Rattle.requests.specs.Table.{table, rowOf, inState}
+
+abbrev pub allowedInDefault : ℕ → Bool
+allowedInDefault code = eqb code 0x05 || eqb code 0x06
+
+abbrev pub allowedInAddress : ℕ → Bool
+allowedInAddress code = not (eqb code 0x0A) && not (eqb code 0x0B)
+
+abbrev pub allowedInConfigured : ℕ → Bool
+allowedInConfigured code = not (eqb code 0x05)
+
+equal : (a b : Bool) → Bool·beq a b ≡ true → a ≡ b
+equal true true p = refl
+equal true false p = absurd (false≢true p)
+equal false true p = absurd (false≢true p)
+equal false false p = refl
+
+-- whether a row's interval has a state exactly when its code is allowed there
+abbrev agrees : ℕ → (ℕ → Bool) → Row → Bool
+agrees state allowed r = Bool·beq (inState r state) (allowed (r .code))
+
+module _ (s : Setup) {r : Row} (p : rowOf s ≡ some r) where
+  same-code : r .code ≡ s .code
+  same-code = eqb-true _ _ (both (eqb (r .kind) (s .kind)) (eqb (r .code) (s .code)) (first-some _ table p .1) .1)
+
+  by-table : (state : ℕ) (allowed : ℕ → Bool) → every (agrees state allowed) table ≡ true → inState r state ≡ allowed (s .code)
+  by-table state allowed q = equal _ _ (every-member (agrees state allowed) q (first-some _ table p .0)) ∙ ap allowed same-code
+
+  pub in-default : inState r 0 ≡ allowedInDefault (s .code)
+  unfolding every
+  in-default = by-table 0 allowedInDefault refl
+
+  pub in-address : inState r 1 ≡ allowedInAddress (s .code)
+  unfolding every
+  in-address = by-table 1 allowedInAddress refl
+
+  pub in-configured : inState r 2 ≡ allowedInConfigured (s .code)
+  unfolding every
+  in-configured = by-table 2 allowedInConfigured refl
