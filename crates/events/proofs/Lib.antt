@@ -1,0 +1,4 @@
+pub mod Lookups
+pub mod Configurations
+pub mod Rows
+pub mod Steps

@@ -1,0 +1,41 @@
+-- What the table's row tells of a setup that it does not refuse. Assumes nothing.
+use Prim.Native.Nat.{ℕ, _<_}
+use native.Mathlib.Omega.{arith}
+use mathlib.Core.Path.{_≡_, refl, ap, _∙_}
+use mathlib.Core.Bool.{Bool, true, false, _&&_, _||_}
+use mathlib.Core.List.{[], _∷_}
+use mathlib.Core.Option.{Option, some, none}
+use lib.Dec.{eqb, leb}
+use borrow.Author.Tests.{eqb-true, leb-true}
+use Rattle.octets.specs.Sentences.{pick, _⇒_, every}
+use Rattle.octets.proofs.Sentences.{both, conjunct, if-then, every-member, first-some}
+use Rattle.requests.specs.declared.Setup.{Setup}
+use Rattle.requests.specs.declared.Row.{Row}
+use Rattle.requests.specs.Table.{table, rowOf, inState, largestIndex, fieldsFit, refusalAt, refusal}
+
+-- SET_ADDRESS and SET_CONFIGURATION
+abbrev takesByte : ℕ → Bool
+takesByte code = eqb code 5 || eqb code 9
+
+-- their rows ask for a wValue of one byte
+bytes : every (λ r. takesByte (r .code) ⇒ leb (r .value) 255) table ≡ true
+unfolding every
+bytes = refl
+
+fitting : (t f : Bool) → _≡_ {A = ℕ} (pick t (pick f 0 12) 11) 0 → f ≡ true
+fitting true true p = refl
+fitting true false p = absurd (omega arith)
+fitting false f p = absurd (omega arith)
+
+pub one-byte : (state : ℕ) (s : Setup) → refusal state s ≡ 0 → takesByte (s .code) ≡ true → s .value < 256
+unfolding refusal
+one-byte state s p q = go (rowOf s) refl p
+  where
+    go : (o : Option Row) → rowOf s ≡ o → refusalAt o state s ≡ 0 → s .value < 256
+    go none e p = absurd (omega arith)
+    go (some r) e p =
+        let (m, t) = first-some (λ r. eqb (r .kind) (s .kind) && eqb (r .code) (s .code)) table e in
+        let same = eqb-true (r .code) (s .code) (both (eqb (r .kind) (s .kind)) (eqb (r .code) (s .code)) t .1) in
+        let asked = if-then (takesByte (r .code)) (leb (r .value) 255) (every-member (λ r. takesByte (r .code) ⇒ leb (r .value) 255) bytes m) (ap takesByte same ∙ q) in
+        let fits = conjunct 0 (leb (s .value) (r .value) ∷ leb (s .index) (largestIndex r (s .value)) ∷ leb (r .shortest) (s .length) ∷ leb (s .length) (r .longest) ∷ []) (fitting (inState r state) (fieldsFit r s) p) in
+        omega (arith, leb-true (s .value) (r .value) fits, leb-true (r .value) 255 asked)

@@ -1,0 +1,106 @@
+-- `events::dispatch::respond` meets its contract: by the event. Assumes nothing.
+use borrow.Author.Needs.{needs}
+use Rattle.sets.specs.View.{viewOf}
+use Rattle.events.proofs.dispatch.respond.Statement.{statement}
+use Rattle.events.proofs.dispatch.respond.Tie as tie
+
+enum-known-event : tie.Need-enum-known-event
+enum-known-event c = search needs
+
+answer-setup-requires : tie.Need-answer-setup-requires
+answer-setup-requires c κs = search needs
+
+enum-told : tie.Need-enum-told
+enum-told c = search needs
+
+refused-requires : tie.Need-refused-requires
+refused-requires c κs = search needs
+
+enum-told-2 : tie.Need-enum-told-2
+enum-told-2 c = search needs
+
+status-end-requires : tie.Need-status-end-requires
+status-end-requires c κs = search needs
+
+enum-told-3 : tie.Need-enum-told-3
+enum-told-3 c = search needs
+
+fresh-requires : tie.Need-fresh-requires
+fresh-requires c κs = search needs
+
+done-requires : tie.Need-done-requires
+done-requires c κs = search needs
+
+enum-known-event-2 : tie.Need-enum-known-event-2
+enum-known-event-2 c = search needs
+
+cast-endpoint-at : tie.Need-cast-endpoint-at
+cast-endpoint-at c = search needs
+
+endpoint-at-requires : tie.Need-endpoint-at-requires
+endpoint-at-requires c κs = search needs
+
+halt-requires : tie.Need-halt-requires
+halt-requires c κs = search needs
+
+enum-known-event-3 : tie.Need-enum-known-event-3
+enum-known-event-3 c = search needs
+
+cast-endpoint-at-2 : tie.Need-cast-endpoint-at-2
+cast-endpoint-at-2 c = search needs
+
+endpoint-at-requires-2 : tie.Need-endpoint-at-requires-2
+endpoint-at-requires-2 c κs = search needs
+
+packet-passed-requires : tie.Need-packet-passed-requires
+packet-passed-requires c κs = search needs
+
+returns : tie.Need-returns
+returns c = λ q. rw (c .before .before .event .given .1) (c .answer-setup .ensures q)
+
+returns-2 : tie.Need-returns-2
+returns-2 c = λ q. rw (c .before .enum-told .given .1) (c .refused .ensures)
+
+returns-3 : tie.Need-returns-3
+returns-3 c = λ q. rw (c .before .enum-told2 .given .1) (c .status-end .ensures)
+
+returns-4 : tie.Need-returns-4
+returns-4 c = λ q. rw (c .before .before .enum-told3 .given .1, c .done .ensures, c .before .fresh .ensures)
+
+returns-5 : tie.Need-returns-5
+returns-5 c = λ q.
+    let v = viewOf (record { set = c .before .before .before .before .before .before .before .before .args .set .now; serial = c .before .before .before .before .before .before .before .before .args .serial .now }) in
+    rw (c .before .before .before .event2 .given .1) (c .halt .ensures v (c .before .before .before .event2 .given .0 .0) (c .before .endpoint-at .ensures v q))
+
+returns-6 : tie.Need-returns-6
+returns-6 c = λ q.
+    let v = viewOf (record { set = c .before .before .before .before .before .before .before .before .args .set .now; serial = c .before .before .before .before .before .before .before .before .args .serial .now }) in
+    rw (c .before .before .before .event3 .given .1) (c .packet-passed .ensures v (c .before .before .before .event3 .given .0 .0) (c .before .endpoint-at2 .ensures v q))
+
+pub respond-spec : {M : Type 1} → statement M
+respond-spec =
+    tie.close
+    (tie.spec
+    enum-known-event
+    answer-setup-requires
+    enum-told
+    refused-requires
+    enum-told-2
+    status-end-requires
+    enum-told-3
+    fresh-requires
+    done-requires
+    enum-known-event-2
+    cast-endpoint-at
+    endpoint-at-requires
+    halt-requires
+    enum-known-event-3
+    cast-endpoint-at-2
+    endpoint-at-requires-2
+    packet-passed-requires
+    returns
+    returns-2
+    returns-3
+    returns-4
+    returns-5
+    returns-6)

@@ -1,0 +1,16 @@
+-- `events::function::with_toggle` meets its contract: the toggles with one bit flipped. Assumes nothing.
+use borrow.Author.Needs.{needs}
+use Rattle.events.proofs.function.with_toggle.Statement.{statement}
+use Rattle.events.proofs.function.with_toggle.Tie as tie
+
+bit-of-requires : tie.Need-bit-of-requires
+bit-of-requires c κs = search needs
+
+flip-bit-requires : tie.Need-flip-bit-requires
+flip-bit-requires c κs = search needs
+
+returns : tie.Need-returns
+returns c = rw (c .flip-bit .ensures, c .before .bit-of .ensures .0)
+
+pub with-toggle-spec : {M : Type 1} → statement M
+with-toggle-spec = tie.close (tie.spec bit-of-requires flip-bit-requires returns)

@@ -1,0 +1,23 @@
+-- `events::outcomes::device_feature` meets its contract: by wakeup and whether the board wakes. Assumes nothing.
+use borrow.Author.Needs.{needs}
+use Rattle.events.proofs.outcomes.device_feature.Statement.{statement}
+use Rattle.events.proofs.outcomes.device_feature.Tie as tie
+
+cast-next : tie.Need-cast-next
+cast-next c = search needs
+
+done-requires : tie.Need-done-requires
+done-requires c κs = search needs
+
+returns : tie.Need-returns
+returns c = λ v e. rw (c .done .ensures, ← e, c .before .if1 .taken)
+
+refused-requires : tie.Need-refused-requires
+refused-requires c κs = search needs
+
+returns-2 : tie.Need-returns-2
+returns-2 c = λ v e. rw (c .refused .ensures, ← e, c .before .if1 .left)
+
+pub device-feature-spec : {M : Type 1} → statement M
+device-feature-spec =
+    tie.close (tie.spec cast-next done-requires returns refused-requires returns-2)

@@ -1,0 +1,18 @@
+-- `events::outcomes::set_address` meets its contract: the address waits. Assumes nothing.
+use borrow.Author.Needs.{needs}
+use Rattle.events.specs.Requests.{setAddress}
+use Rattle.events.proofs.outcomes.set_address.Statement.{statement}
+use Rattle.events.proofs.outcomes.set_address.Tie as tie
+
+cast-next : tie.Need-cast-next
+cast-next c = search needs
+
+done-requires : tie.Need-done-requires
+done-requires c κs = search needs
+
+returns : tie.Need-returns
+unfolding setAddress
+returns c = λ v. c .done .ensures
+
+pub set-address-spec : {M : Type 1} → statement M
+set-address-spec = tie.close (tie.spec cast-next done-requires returns)

@@ -1,0 +1,50 @@
+-- `events::outcomes::set_configuration` meets its contract: by the value, and whether a configuration has it. Assumes nothing.
+use borrow.Author.Tests.{eq-eqb, ne-eqb}
+use borrow.Author.Needs.{needs}
+use Rattle.events.specs.Requests.{setConfiguration}
+use Rattle.events.proofs.outcomes.set_configuration.Statement.{statement}
+use Rattle.events.proofs.outcomes.set_configuration.Tie as tie
+
+cast-value : tie.Need-cast-value
+cast-value c = search needs
+
+with-configuration-requires : tie.Need-with-configuration-requires
+with-configuration-requires c κs = search needs
+
+done-requires : tie.Need-done-requires
+done-requires c κs = search needs
+
+returns : tie.Need-returns
+unfolding setConfiguration
+returns c = λ v e. rw (c .done .ensures, c .before .with-configuration .ensures, eq-eqb _ _ (c .before .before .if1 .taken))
+
+with-configuration-requires-2 : tie.Need-with-configuration-requires-2
+with-configuration-requires-2 c κs = search needs
+
+done-requires-2 : tie.Need-done-requires-2
+done-requires-2 c κs = search needs
+
+returns-2 : tie.Need-returns-2
+unfolding setConfiguration
+returns-2 c = λ v e. rw (c .done2 .ensures, c .before .with-configuration2 .ensures, ne-eqb _ _ (c .before .before .before .if1 .left), ← e, c .before .before .if2 .taken)
+
+refused-requires : tie.Need-refused-requires
+refused-requires c κs = search needs
+
+returns-3 : tie.Need-returns-3
+unfolding setConfiguration
+returns-3 c = λ v e. rw (c .refused .ensures, ne-eqb _ _ (c .before .before .if1 .left), ← e, c .before .if2 .left)
+
+pub set-configuration-spec : {M : Type 1} → statement M
+set-configuration-spec =
+    tie.close
+    (tie.spec
+    cast-value
+    with-configuration-requires
+    done-requires
+    returns
+    with-configuration-requires-2
+    done-requires-2
+    returns-2
+    refused-requires
+    returns-3)

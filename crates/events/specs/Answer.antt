@@ -1,0 +1,52 @@
+-- Document 01's number and values for every case of an answer.
+use Prim.Native.Nat.{ℕ}
+use mathlib.Core.List.{List, [], _∷_}
+use Rattle.records.specs.declared.Device.{Device}
+use Rattle.events.specs.declared.Answer.{Answer}
+use Rattle.events.specs.declared.Answer.the-variants.{Done, OneByte, TwoBytes, SetPart, SerialPart, Refused}
+use Rattle.events.specs.declared.Outcome.{Outcome}
+
+abbrev pub numberOf : Answer → ℕ
+numberOf Done = 0
+numberOf (OneByte a) = 0
+numberOf (TwoBytes a b) = 0
+numberOf (SetPart offset size) = 0
+numberOf (SerialPart size) = 0
+numberOf (Refused n) = n
+
+-- "done, with 0, 1 or 2 bytes"; "Refusals hand back no bytes"
+abbrev pub bytesOf : Answer → List ℕ
+bytesOf Done = []
+bytesOf (OneByte a) = a ∷ []
+bytesOf (TwoBytes a b) = a ∷ b ∷ []
+bytesOf (SetPart offset size) = []
+bytesOf (SerialPart size) = []
+bytesOf (Refused n) = []
+
+-- the slice that a part lies in
+pub data Block : Type 0 where
+  ofSet ofSerial : Block
+
+pub record Part : Type 0 where
+  pub block : Block
+  pub offset : ℕ
+  pub length : ℕ
+
+-- "or a descriptor part"; "an empty part": the set's first 0 bytes
+abbrev pub partOf : Answer → Part
+partOf Done = record { block = ofSet; offset = 0; length = 0 }
+partOf (OneByte a) = record { block = ofSet; offset = 0; length = 0 }
+partOf (TwoBytes a b) = record { block = ofSet; offset = 0; length = 0 }
+partOf (SetPart offset size) = record { block = ofSet; offset = offset; length = size }
+partOf (SerialPart size) = record { block = ofSerial; offset = 0; length = size }
+partOf (Refused n) = record { block = ofSet; offset = 0; length = 0 }
+
+-- ---- outcomes
+abbrev pub gives : Answer → Device → Outcome
+gives a d = record { answer = a; device = d }
+
+abbrev pub done : Device → Outcome
+done = gives Done
+
+abbrev pub refused : ℕ → Device → Outcome
+refused n = gives (Refused n)

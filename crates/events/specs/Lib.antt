@@ -1,0 +1,6 @@
+pub mod Answer
+pub mod Requests
+pub mod Facts
+pub mod Step
+pub mod Concerns
+pub mod Places

@@ -1,0 +1,148 @@
+-- One definition for each standard request, on a device that fits and with nothing waiting (document 01, below "States").
+-- A request is given the view of the board, the record and the setup, past the table's refusals 10 to 12.
+use Prim.Native.Nat.{ℕ, _+_, _*_, _/_, _%_, min}
+use mathlib.Core.List.{List, [], _∷_}
+use mathlib.Core.Bool.{Bool, true, false, _&&_, _||_}
+use mathlib.Core.Option.{Option, some, none}
+use lib.ListN.{getD, set}
+use lib.Dec.{eqb, leb}
+use Rattle.octets.specs.Bit.{bit, setBit, clearBit}
+use Rattle.octets.specs.Sentences.{pick, any, only, first, member}
+use Rattle.descriptors.specs.declared.Endpoint.{Endpoint}
+use Rattle.descriptors.specs.declared.ConfigurationIndex.{ConfigurationIndex}
+use Rattle.descriptors.specs.declared.ConfigurationValue.{ConfigurationValue}
+use Rattle.descriptors.specs.Configuration.{Configuration, hasInterface, hasSetting, canHalt, bitOf, cleared, ofEither}
+use Rattle.sets.specs.declared.Entry.{Entry}
+use Rattle.sets.specs.View.{View, byIndex, byValue, wakes}
+use Rattle.records.specs.declared.Device.{Device}
+use Rattle.records.specs.Device.{inAddress, inConfigured, withWaiting, withWakeup, withConfiguration, withEndpoints}
+use Rattle.records.specs.Current.{selected, endpointAt}
+use Rattle.requests.specs.declared.Setup.{Setup}
+use Rattle.requests.specs.Setup.{recipient}
+use Rattle.events.specs.declared.Answer.{Answer}
+use Rattle.events.specs.declared.Answer.the-variants.{OneByte, TwoBytes, SetPart, SerialPart}
+use Rattle.events.specs.declared.Outcome.{Outcome}
+use Rattle.events.specs.Answer.{gives, done, refused}
+
+-- the recipient decides: device, interface or endpoint (the table has no other)
+abbrev pub byRecipient : Setup → Outcome → Outcome → Outcome → Outcome
+byRecipient s device interface endpoint = pick (eqb (recipient s) 0) device (pick (eqb (recipient s) 1) interface endpoint)
+
+-- "wIndex 0000 and 0080 both mean endpoint zero"
+abbrev pub isEndpointZero : ℕ → Bool
+isEndpointZero index = eqb index 0 || eqb index 128
+
+-- ---- GET_STATUS
+abbrev pub digit : Bool → ℕ
+digit true = 1
+digit false = 0
+
+-- "D0 is attribute bit 6 of the selected configuration (index 0 in Address)"
+abbrev pub powering : View → Device → Configuration
+powering v d = pick (eqb (d .state) inAddress) (byIndex (record { 0 = 0 }) (v .configurations)) (selected v d)
+
+-- "D1 is wakeup"
+abbrev pub getDeviceStatus : View → Device → Outcome
+getDeviceStatus v d = gives (TwoBytes (digit (bit (powering v d .attributes) 6) + 2 * d .wakeup) 0) d
+
+-- "interface 0, 0"
+abbrev pub getInterfaceStatus : View → Device → ℕ → Outcome
+getInterfaceStatus v d j = pick (hasInterface (selected v d) j) (gives (TwoBytes 0 0) d) (refused 13 d)
+
+-- "endpoint its halt (zero and isochronous: 0)"; at an isochronous endpoint no halt stands
+abbrev pub endpointStatus : Device → Option Endpoint → Outcome
+endpointStatus d none = refused 13 d
+endpointStatus d (some e) = gives (TwoBytes (digit (canHalt e && bit (d .halts) (bitOf (e .address)))) 0) d
+
+abbrev pub getEndpointStatus : View → Device → ℕ → Outcome
+getEndpointStatus v d index = pick (isEndpointZero index) (gives (TwoBytes 0 0) d) (endpointStatus d (endpointAt v d index))
+
+unfoldable pub getStatus : View → Device → Setup → Outcome
+getStatus v d s = byRecipient s (getDeviceStatus v d) (getInterfaceStatus v d (s .index)) (getEndpointStatus v d (s .index))
+
+-- ---- CLEAR_FEATURE and SET_FEATURE
+-- "Features: device 1 (wakeup, if supported)"
+abbrev pub deviceFeature : ℕ → View → Device → Setup → Outcome
+deviceFeature on v d s = pick (eqb (s .value) 1 && wakes v) (done (withWakeup on d)) (refused 14 d)
+
+-- "Interfaces and endpoint zero have none. 13 comes before 14."
+abbrev pub interfaceFeature : View → Device → Setup → Outcome
+interfaceFeature v d s = pick (hasInterface (selected v d) (s .index)) (refused 14 d) (refused 13 d)
+
+-- "endpoint 0 (halt, bulk and interrupt only)"
+abbrev pub haltFeature : (Device → ℕ → Device) → Device → Setup → Option Endpoint → Outcome
+haltFeature change d s none = refused 13 d
+haltFeature change d s (some e) = pick (eqb (s .value) 0 && canHalt e) (done (change d (bitOf (e .address)))) (refused 14 d)
+
+abbrev pub endpointFeature : (Device → ℕ → Device) → View → Device → Setup → Outcome
+endpointFeature change v d s = pick (isEndpointZero (s .index)) (refused 14 d) (haltFeature change d s (endpointAt v d (s .index)))
+
+-- "Clearing a halt sets the toggle to 0, halted or not"
+abbrev pub clearHalt : Device → ℕ → Device
+clearHalt d k = withEndpoints (d .alternates) (clearBit (d .halts) k) (clearBit (d .toggles) k) d
+
+-- "setting one keeps the toggle"
+abbrev pub setHalt : Device → ℕ → Device
+setHalt d k = withEndpoints (d .alternates) (setBit (d .halts) k) (d .toggles) d
+
+unfoldable pub clearFeature : View → Device → Setup → Outcome
+clearFeature v d s = byRecipient s (deviceFeature 0 v d s) (interfaceFeature v d s) (endpointFeature clearHalt v d s)
+
+unfoldable pub setFeature : View → Device → Setup → Outcome
+setFeature v d s = byRecipient s (deviceFeature 1 v d s) (interfaceFeature v d s) (endpointFeature setHalt v d s)
+
+-- ---- SET_ADDRESS: "the address waits"
+unfoldable pub setAddress : View → Device → Setup → Outcome
+setAddress v d s = done (withWaiting (s .value) d)
+
+-- ---- GET_DESCRIPTOR: "never more than wLength bytes, from the start of the body"
+abbrev pub setPart : Device → ℕ → Option Entry → Outcome
+setPart d asked none = refused 13 d
+setPart d asked (some e) = gives (SetPart (e .offset) (min (e .length) asked)) d
+
+abbrev pub isEntry : ℕ → ℕ → ℕ → Entry → Bool
+isEntry kind index language e = eqb (e .kind) kind && eqb (e .index) index && eqb (e .language) language
+
+-- "The serial index is answered from the serial block"; it is given in each listed language
+abbrev pub serialPart : View → Device → ℕ → ℕ → Outcome
+serialPart v d language asked = pick (member language (v .languages)) (gives (SerialPart (min (v .block) asked)) d) (refused 13 d)
+
+-- the language in which a string is given: "String 0 is given from the set for any wIndex; other strings need a listed language"
+abbrev pub languageFor : ℕ → ℕ → ℕ
+languageFor index asked = pick (eqb index 0) 0 asked
+
+abbrev pub getString : View → Device → ℕ → ℕ → ℕ → Outcome
+getString v d index language asked =
+    pick (leb 1 index && eqb index (v .serial)) (serialPart v d language asked)
+    (setPart d asked (first (isEntry 3 index (languageFor index language)) (v .entries)))
+
+-- "Device index must be 0 (13)": the one device entry has index 0; a configuration goes by its index; any other type gives 13
+unfoldable pub getDescriptor : View → Device → Setup → Outcome
+getDescriptor v d s =
+    pick (eqb (s .value / 256) 3) (getString v d (s .value % 256) (s .index) (s .length))
+    (pick (eqb (s .value / 256) 1 || eqb (s .value / 256) 2)
+    (setPart d (s .length) (first (isEntry (s .value / 256) (s .value % 256) 0) (v .entries)))
+    (refused 13 d))
+
+-- ---- GET_CONFIGURATION
+unfoldable pub getConfiguration : View → Device → Setup → Outcome
+getConfiguration v d s = gives (OneByte (d .configuration)) d
+
+-- ---- SET_CONFIGURATION: "0 leads to Address. Either way alternates, halts and toggles become 0, also for the same value again."
+unfoldable pub setConfiguration : View → Device → Setup → Outcome
+setConfiguration v d s =
+    pick (eqb (s .value) 0) (done (withConfiguration inAddress 0 d))
+    (pick (any (λ c. eqb (c .value) (s .value)) (v .configurations)) (done (withConfiguration inConfigured (s .value) d)) (refused 13 d))
+
+-- ---- GET_INTERFACE
+unfoldable pub getInterface : View → Device → Setup → Outcome
+getInterface v d s = pick (hasInterface (selected v d) (s .index)) (gives (OneByte (getD (d .alternates) (s .index) 0)) d) (refused 13 d)
+
+-- ---- SET_INTERFACE: "clears halts and toggles of all endpoints of that interface, old and new setting, same setting included"
+abbrev pub withSetting : View → Device → ℕ → ℕ → Device
+withSetting v d j a =
+    let es = only (ofEither j (getD (d .alternates) j 0) a) (selected v d .endpoints) in
+    withEndpoints (set (d .alternates) j a) (cleared es (d .halts)) (cleared es (d .toggles)) d
+
+unfoldable pub setInterface : View → Device → Setup → Outcome
+setInterface v d s = pick (hasSetting (selected v d) (s .index) (s .value)) (done (withSetting v d (s .index) (s .value))) (refused 13 d)

@@ -1,0 +1,116 @@
+-- The step: from a board, a record and an event to the answer and the next record.
+use Prim.Native.Nat.{ℕ}
+use mathlib.Core.List.{List}
+use mathlib.Core.Bool.{Bool, true, false, _&&_, not}
+use mathlib.Core.Option.{Option, some, none}
+use lib.ListN.{length}
+use lib.Dec.{eqb}
+use Rattle.octets.specs.Bit.{bit, flipBit}
+use Rattle.octets.specs.Sentences.{pick}
+use Rattle.descriptors.specs.declared.Endpoint.{Endpoint}
+use Rattle.descriptors.specs.Limits.{fullSpeed}
+use Rattle.sets.specs.Opening.{Board, opening}
+use Rattle.sets.specs.View.{View, viewOf, accepted}
+use Rattle.records.specs.declared.Device.{Device}
+use Rattle.records.specs.Device.{inDefault, inAddress, nothing, fresh, withWaiting, withAddress, withEndpoints}
+use Rattle.records.specs.Image.{deviceOf, imageOf}
+use Rattle.descriptors.specs.Configuration.{canHalt, bitOf}
+use Rattle.records.specs.Current.{endpointAt}
+use Rattle.records.specs.Fits.{fits}
+use Rattle.requests.specs.declared.Setup.{Setup}
+use Rattle.requests.specs.Setup.{setupOf}
+use Rattle.requests.specs.Table.{refusal}
+use Rattle.events.specs.declared.Answer.{Answer}
+use Rattle.events.specs.declared.Answer.the-variants.{Refused}
+use Rattle.events.specs.declared.Event.{Event}
+use Rattle.events.specs.declared.Event.the-variants.{Request, Malformed, StatusEnd, BusReset, Halt, PacketPassed}
+use Rattle.events.specs.declared.Outcome.{Outcome}
+use Rattle.events.specs.Answer.{gives, done, refused, numberOf}
+use Rattle.events.specs.Requests.{getStatus, clearFeature, setFeature, setHalt, setAddress, getDescriptor, getConfiguration, setConfiguration, getInterface, setInterface}
+
+-- ---- a setup: the request by its code (the table has no other)
+unfoldable pub request : View → Device → Setup → Outcome
+request v d s =
+    pick (eqb (s .code) 0x00) (getStatus v d s)
+    (pick (eqb (s .code) 0x01) (clearFeature v d s)
+    (pick (eqb (s .code) 0x03) (setFeature v d s)
+    (pick (eqb (s .code) 0x05) (setAddress v d s)
+    (pick (eqb (s .code) 0x06) (getDescriptor v d s)
+    (pick (eqb (s .code) 0x08) (getConfiguration v d s)
+    (pick (eqb (s .code) 0x09) (setConfiguration v d s)
+    (pick (eqb (s .code) 0x0A) (getInterface v d s)
+    (setInterface v d s))))))))
+
+-- the table's refusal, or else the request
+abbrev pub unlessRefused : ℕ → View → Device → Setup → Outcome
+unlessRefused n v d s = pick (eqb n 0) (request v d s) (refused n d)
+
+-- "Past 7 to 9, a setup first drops any waiting address."
+unfoldable pub answerSetup : View → Device → Setup → Outcome
+answerSetup v d s = unlessRefused (refusal (d .state) s) v (withWaiting nothing d) s
+
+-- ---- status end: "applies it and byte 2 is 255 again. Zero leads to Default, others to Address"; "nothing waiting changes nothing"
+unfoldable pub statusEnd : Device → Outcome
+statusEnd d =
+    pick (eqb (d .waiting) nothing) (done d)
+    (done (withAddress (pick (eqb (d .waiting) 0) inDefault inAddress) (d .waiting) d))
+
+-- ---- "Two function events name an endpoint address"
+-- "halt (bulk or interrupt in a current setting)"
+abbrev pub haltAt : Device → Option Endpoint → Outcome
+haltAt d none = refused 16 d
+haltAt d (some e) = pick (canHalt e) (done (setHalt d (bitOf (e .address)))) (refused 16 d)
+
+unfoldable pub halt : View → Device → ℕ → Outcome
+halt v d address = haltAt d (endpointAt v d address)
+
+-- "packet passed (flips the toggle; bulk or interrupt, current, not halted)"
+abbrev pub passAt : Device → Option Endpoint → Outcome
+passAt d none = refused 16 d
+passAt d (some e) =
+    let k = bitOf (e .address) in
+    pick (canHalt e && not (bit (d .halts) k)) (done (withEndpoints (d .alternates) (d .halts) (flipBit (d .toggles) k) d)) (refused 16 d)
+
+unfoldable pub packetPassed : View → Device → ℕ → Outcome
+packetPassed v d address = passAt d (endpointAt v d address)
+
+-- ---- every event, on a record that fits
+abbrev pub respond : View → Device → Event → Outcome
+respond v d (Request s) = answerSetup v d s
+respond v d Malformed = refused 9 d
+respond v d StatusEnd = statusEnd d
+respond v d BusReset = done fresh
+respond v d (Halt a) = halt v d a
+respond v d (PacketPassed a) = packetPassed v d a
+
+-- "Order: 7, 8, then for a setup 9 to 14, for a function event 16."
+unfoldable pub step : Board → Device → Event → Outcome
+step b d e = pick (accepted b) (pick (fits (viewOf b) d) (respond (viewOf b) d e) (refused 8 d)) (refused 7 d)
+
+-- "setup not 8 bytes"
+abbrev pub setupEvent : List ℕ → Event
+setupEvent bytes = pick (eqb (length bytes) 8) (Request (setupOf bytes)) Malformed
+
+-- ---- on images of any length
+pub record Reply : Type 0 where
+  pub answer : Answer
+  pub image : List ℕ
+
+abbrev pub replyOf : Outcome → Reply
+replyOf o = record { answer = o .answer; image = imageOf (o .device) }
+
+-- 7 comes before 8, "record not 32 bytes"
+unfoldable pub event : Board → List ℕ → Event → Reply
+event b image e =
+    pick (eqb (length image) 32) (replyOf (step b (deviceOf image) e))
+    (record { answer = Refused (pick (accepted b) 8 7); image = image })
+
+-- "an image not 32 bytes gives 8 before group 1; else it becomes the fresh record, accepted or not"
+pub record Opened : Type 0 where
+  pub number : ℕ
+  pub image : List ℕ
+
+unfoldable pub opened : Board → List ℕ → Opened
+opened b image =
+    pick (eqb (length image) 32) (record { number = opening fullSpeed b; image = imageOf fresh })
+    (record { number = 8; image = image })

@@ -1,0 +1,93 @@
+// An answer's number, bytes and part.
+use crate::Answer;
+ghost use mathlib.Core.Path.{_≡_};
+ghost use Prim.Native.Nat.{_+_};
+ghost use lib.ListN.{length};
+ghost use Rattle.octets.specs.Octets.{byte};
+ghost use Rattle.events.specs.Answer.{numberOf, bytesOf, partOf};
+ghost use Rattle.events.specs.Places.{inBlock, Inside, bytesIn};
+
+// Document 01's number.
+pub fn number(answer: Answer) -> u8
+    ensures { λ r. ⌜ r ≡ numberOf answer ⌝ }
+{
+    match answer {
+        Answer::Done => 0,
+        Answer::OneByte(_) => 0,
+        Answer::TwoBytes(_, _) => 0,
+        Answer::SetPart {
+            offset: _,
+            length: _,
+        } => 0,
+        Answer::SerialPart { length: _ } => 0,
+        Answer::Refused(number) => number,
+    }
+}
+
+// How many bytes are handed back.
+pub fn count(answer: Answer) -> u8
+    ensures { λ r. ⌜ r ≡ length (bytesOf answer) ⌝ }
+{
+    match answer {
+        Answer::Done => 0,
+        Answer::OneByte(_) => 1,
+        Answer::TwoBytes(_, _) => 2,
+        Answer::SetPart {
+            offset: _,
+            length: _,
+        } => 0,
+        Answer::SerialPart { length: _ } => 0,
+        Answer::Refused(_) => 0,
+    }
+}
+
+// The first of them, or 0.
+pub fn first_byte(answer: Answer) -> u8
+    ensures { λ r. ⌜ r ≡ byte (bytesOf answer) 0 ⌝ }
+{
+    match answer {
+        Answer::Done => 0,
+        Answer::OneByte(first) => first,
+        Answer::TwoBytes(first, _) => first,
+        Answer::SetPart {
+            offset: _,
+            length: _,
+        } => 0,
+        Answer::SerialPart { length: _ } => 0,
+        Answer::Refused(_) => 0,
+    }
+}
+
+// The second of them, or 0.
+pub fn second_byte(answer: Answer) -> u8
+    ensures { λ r. ⌜ r ≡ byte (bytesOf answer) 1 ⌝ }
+{
+    match answer {
+        Answer::Done => 0,
+        Answer::OneByte(_) => 0,
+        Answer::TwoBytes(_, second) => second,
+        Answer::SetPart {
+            offset: _,
+            length: _,
+        } => 0,
+        Answer::SerialPart { length: _ } => 0,
+        Answer::Refused(_) => 0,
+    }
+}
+
+// The part of the set or of the serial block, and no copy; for an answer without one, the set's first 0 bytes.
+pub fn part<'a>(set: &'a [u8], serial: &'a [u8], answer: Answer) -> &'a [u8]
+    requires { ⌜ Inside (now set) (now serial) (partOf answer) ⌝ }
+    ensures bytes { λ r. ⌜ now r ≡ bytesIn (now (set .entry)) (now (serial .entry)) (partOf answer) ⌝ }
+    ensures block { λ r. ⌜ r .ptr .0 ≡ inBlock ((set .entry) .ptr .0) ((serial .entry) .ptr .0) (partOf answer .block) ⌝ }
+    ensures offset { λ r. ⌜ r .ptr .1 ≡ inBlock ((set .entry) .ptr .1) ((serial .entry) .ptr .1) (partOf answer .block) + partOf answer .offset ⌝ }
+{
+    match answer {
+        Answer::SetPart { offset, length } => &set[offset..offset + length],
+        Answer::SerialPart { length } => &serial[0..length],
+        Answer::Done => &set[0..0],
+        Answer::OneByte(_) => &set[0..0],
+        Answer::TwoBytes(_, _) => &set[0..0],
+        Answer::Refused(_) => &set[0..0],
+    }
+}
