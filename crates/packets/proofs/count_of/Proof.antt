@@ -1,0 +1,34 @@
+-- `packets::count_of` meets its contract. Assumes nothing.
+use native.Mathlib.Nat.{div-le-self}
+use native.Mathlib.Omega.{arith}
+use borrow.Author.Tests.{eq-eqb, ne-eqb}
+use Rattle.packets.proofs.Sizes.{bounded, not-longer}
+use borrow.Author.Needs.{needs}
+use Rattle.packets.proofs.count_of.Statement.{statement}
+use Rattle.packets.proofs.count_of.Tie as tie
+
+add-result : tie.Need-add-result
+add-result c = search needs
+
+sub-result : tie.Need-sub-result
+sub-result c = let a = c .before .args in omega (arith, bounded (a .reply) (a .asked) (a .size) (c .before .pre))
+
+div-result : tie.Need-div-result
+div-result c = let a = c .before .args in omega (arith, bounded (a .reply) (a .asked) (a .size) (c .before .pre))
+
+returns : tie.Need-returns
+returns c = simp (eq-eqb _ _ (c .if1 .taken))
+
+div-result-2 : tie.Need-div-result-2
+div-result-2 c = let a = c .before .args in omega (arith, bounded (a .reply) (a .asked) (a .size) (c .before .pre))
+
+add-result-2 : tie.Need-add-result-2
+add-result-2 c = let a = c .before .args in omega (arith, not-longer (a .reply) (a .asked) (a .size) (c .before .pre), div-le-self (a .reply) (a .size))
+
+returns-2 : tie.Need-returns-2
+returns-2 c = simp (ne-eqb _ _ (c .if1 .left))
+
+pub count-of-spec : {M : Type 1} → statement M
+count-of-spec =
+    tie.close
+    (tie.spec add-result sub-result div-result returns div-result-2 add-result-2 returns-2)

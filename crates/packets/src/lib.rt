@@ -1,0 +1,75 @@
+// A reply, cut into packets.
+ghost use mathlib.Core.Path.{_≡_};
+ghost use mathlib.Core.Bool.{true};
+ghost use Prim.Native.Nat.{_+_, _≤_};
+ghost use lib.ListN.{length};
+ghost use Rattle.octets.specs.Octets.{part};
+ghost use Rattle.packets.specs.Packets.{canCut, count, packet};
+
+// A packet: document 01's number, and the part of the reply that it is.
+pub struct Packet {
+    pub number: u8,
+    pub offset: usize,
+    pub length: usize,
+}
+
+fn can_cut(reply: usize, asked: u16, size: u32) -> bool
+    ensures { λ r. ⌜ r ≡ canCut reply asked size ⌝ }
+{
+    ((size == 8) | (size == 16) | (size == 32) | (size == 64)) & (reply <= asked as usize)
+}
+
+// How many packets a reply has that may be cut.
+fn count_of(reply: usize, asked: u16, size: u32) -> usize
+    requires { ⌜ canCut reply asked size ≡ true ⌝ }
+    ensures { λ r. ⌜ r ≡ count reply asked size ⌝ }
+{
+    let each = size as usize;
+    if reply == asked as usize {
+        return (reply + each - 1) / each;
+    }
+    reply / each + 1
+}
+
+// Packet `number` of a reply of so many bytes.
+pub fn packet_of(reply: usize, asked: u16, size: u32, number: u32) -> Packet
+    ensures { λ r. ⌜ r ≡ packet reply asked size number ⌝ }
+{
+    if can_cut(reply, asked, size) {
+        let each = size as usize;
+        let k = number as usize;
+        if k < count_of(reply, asked, size) {
+            let offset = k * each;
+            let left = reply - offset;
+            if left < each {
+                return Packet {
+                    number: 0,
+                    offset,
+                    length: left,
+                };
+            }
+            return Packet {
+                number: 0,
+                offset,
+                length: each,
+            };
+        }
+    }
+    Packet {
+        number: 15,
+        offset: 0,
+        length: 0,
+    }
+}
+
+// The packet as a part of the reply, and no copy.
+pub fn cut<'a>(reply: &'a [u8], asked: u16, size: u32, number: u32) -> &'a [u8]
+    ensures bytes { λ r. ⌜ now r ≡ part (now (reply .entry)) (packet (length (now (reply .entry))) asked size number .offset) (packet (length (now (reply .entry))) asked size number .length) ⌝ }
+    ensures block { λ r. ⌜ r .ptr .0 ≡ (reply .entry) .ptr .0 ⌝ }
+    ensures offset { λ r. ⌜ r .ptr .1 ≡ (reply .entry) .ptr .1 + packet (length (now (reply .entry))) asked size number .offset ⌝ }
+{
+    let here = packet_of(reply.len(), asked, size, number);
+    let start = here.offset;
+    let end = start + here.length;
+    &reply[start..end]
+}
