@@ -1,0 +1,5 @@
+pub mod Written
+pub mod Decimal
+pub mod Lines
+pub mod Bound
+pub mod Listed

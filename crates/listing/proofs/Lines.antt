@@ -1,0 +1,159 @@
+-- The lines of a configuration, descriptor by descriptor, and the fields of a line, one by one. Assumes nothing.
+use Prim.Native.Nat.{ℕ, _+_, _*_, _≤_, _<_}
+use native.Mathlib.Omega.{arith}
+use mathlib.Core.Path.{_≡_, refl, sym, ap, _∙_}
+use mathlib.Core.List.{List, [], _∷_, _++_, map, flatMap, append-assoc}
+use mathlib.Core.Bool.{Bool, true, false, _&&_}
+use lib.ListN.{length, drop, getD, drop-of-length-le}
+use Rattle.octets.specs.Sentences.{pick, _⇒_, every, only, pairs, isEmpty}
+use Rattle.octets.proofs.Sentences.{both, conjunct}
+use Rattle.descriptors.specs.declared.Limits.{Limits}
+use Rattle.descriptors.specs.Cut.{cut, descriptorsOf, wellCut}
+use Rattle.descriptors.specs.Descriptor.{isInterface, isEndpoint, goodDescriptor}
+use Rattle.descriptors.specs.Interfaces.{grouped, settingOf, endpointsOf, goodSettings, counted, apart, goodInterfaces}
+use Rattle.descriptors.specs.Configuration.{bNumInterfaces, bConfigurationValue, goodHead, goodDescriptors, goodConfiguration, behind, groupsOf}
+use Rattle.descriptors.specs.Limits.{fullSpeed}
+use Rattle.sets.specs.declared.Entry.{Entry}
+use Rattle.sets.specs.Contents.{entryOf, entries, bodyOf, bodies, isKind, count}
+use Rattle.sets.proofs.Entries.{rest, rest-start, next-entry, no-entry, every-cons}
+use Rattle.listing.specs.Listing.{decimal, fields, line, endpointLine, interfaceLines, configurationLines}
+use Rattle.listing.specs.Written.{Room, interfaceLine, descriptorLine, descriptorLines, entryLines, goodListed}
+use Rattle.descriptors.specs.declared.Stand.{Stand}
+use Rattle.descriptors.specs.declared.Step.{Step}
+use Rattle.descriptors.proofs.Walk.{spanned}
+use Rattle.descriptors.proofs.Ahead.{Begun, Turn, ahead, ahead-end}
+use Rattle.listing.proofs.Written.{Going, begun, one-more}
+
+-- ---- the fields of a line
+fields-more : (x : ℕ) (xs : List ℕ) → fields (x ∷ xs) ≡ 32 ∷ decimal x ++ fields xs
+unfolding fields
+fields-more x xs = refl
+
+fields-none : fields [] ≡ 10 ∷ []
+unfolding fields
+fields-none = refl
+
+pub next-field : (xs : List ℕ) (i : ℕ) → i < length xs → fields (drop i xs) ≡ (32 ∷ []) ++ (decimal (getD xs i 0) ++ fields (drop (i + 1) xs))
+next-field xs i h = ap fields (one-more xs i h) ∙ fields-more (getD xs i 0) (drop (i + 1) xs)
+
+pub no-field : (xs : List ℕ) (i : ℕ) → length xs ≤ i → fields (drop i xs) ≡ 10 ∷ []
+no-field xs i h = ap fields (drop-of-length-le xs h) ∙ fields-none
+
+-- ---- the descriptors of a configuration
+pub flat-cons : {A : Type 0} (f : A → List ℕ) (x : A) (xs : List A) → flatMap f (x ∷ xs) ≡ f x ++ flatMap f xs
+unfolding flatMap
+flat-cons f x xs = refl
+
+pub flat-none : {A : Type 0} (f : A → List ℕ) → flatMap f [] ≡ []
+unfolding flatMap
+flat-none f = refl
+
+-- the lines of descriptors by interface are their own lines in order; those of the loose ones come first
+by-descriptor : (ds : List (List ℕ)) → flatMap endpointLine (grouped ds .loose) ++ flatMap interfaceLines (grouped ds .groups) ≡ flatMap descriptorLine ds
+unfolding flatMap grouped
+by-descriptor [] = refl
+by-descriptor (d ∷ ds) = go (isInterface d) (isEndpoint d) refl refl (by-descriptor ds)
+  where
+    go : (b c : Bool) → isInterface d ≡ b → isEndpoint d ≡ c
+        → flatMap endpointLine (grouped ds .loose) ++ flatMap interfaceLines (grouped ds .groups) ≡ flatMap descriptorLine ds
+        → flatMap endpointLine (grouped (d ∷ ds) .loose) ++ flatMap interfaceLines (grouped (d ∷ ds) .groups) ≡ flatMap descriptorLine (d ∷ ds)
+    go true c p q rest = rw (p, append-assoc) (ap (λ (l : List ℕ). interfaceLine d ++ l) rest)
+    go false true p q rest = rw (p, q, append-assoc) (ap (λ (l : List ℕ). endpointLine d ++ l) rest)
+    go false false p q rest = rw (p, q) rest
+
+pub differ : false ≡ true → ⊥
+differ p = let z : _≡_ {A = ℕ} 0 1 = ap (λ (b : Bool). pick b 1 0) p in omega arith
+
+none-loose : (ds : List (List ℕ)) → isEmpty ds ≡ true → flatMap endpointLine ds ≡ []
+none-loose [] p = flat-none endpointLine
+none-loose (d ∷ ds) p = absurd (differ p)
+
+pub in-order : (body : List ℕ) → isEmpty (grouped (behind (descriptorsOf (cut body))) .loose) ≡ true
+    → flatMap interfaceLines (groupsOf body) ≡ descriptorLines body
+unfolding groupsOf descriptorLines
+in-order body p =
+    let ds = behind (descriptorsOf (cut body)) in
+    ap (λ (l : List ℕ). l ++ flatMap interfaceLines (grouped ds .groups)) (sym (none-loose (grouped ds .loose) p)) ∙ by-descriptor ds
+
+-- the lines of the descriptors ahead, in a walk: all of them, those behind the next descriptor, none
+module _ {body : List ℕ} {at : ℕ} where
+  pub lines-begin : Begun body at → (out : List ℕ) (place : ℕ) → Room out place (descriptorLines body)
+      → Going out place (descriptorLines body) out place (flatMap descriptorLine (ahead body at))
+  unfolding descriptorLines
+  lines-begin b out place h = rw (b .all) (begun out place (descriptorLines body) h)
+
+  pub next-lines : {stand : Stand} {step : Step} → Turn body at stand step
+      → flatMap descriptorLine (ahead body at) ≡ descriptorLine (spanned body at (step .end)) ++ flatMap descriptorLine (ahead body (step .end))
+  next-lines t = ap (flatMap descriptorLine) (t .next) ∙ flat-cons descriptorLine _ _
+
+pub no-lines : (body : List ℕ) (at : ℕ) → length body ≤ at → flatMap descriptorLine (ahead body at) ≡ []
+no-lines body at h = ap (flatMap descriptorLine) (ahead-end body at h) ∙ flat-none descriptorLine
+
+-- ---- a configuration that is accepted
+module _ (limits : Limits) (body : List ℕ) (p : goodConfiguration limits body ≡ true) where
+  pub good-cut : wellCut (cut body) ≡ true
+  unfolding goodConfiguration
+  good-cut = both (wellCut (cut body)) (goodDescriptors limits (length body) (descriptorsOf (cut body))) p .0
+
+  pub good-descriptors : goodDescriptors limits (length body) (descriptorsOf (cut body)) ≡ true
+  unfolding goodConfiguration
+  good-descriptors = both (wellCut (cut body)) (goodDescriptors limits (length body) (descriptorsOf (cut body))) p .1
+
+-- the rules of the descriptors behind the first
+behind-good : (limits : Limits) (size : ℕ) (ds : List (List ℕ)) → goodDescriptors limits size ds ≡ true
+    → (every (goodDescriptor limits) (behind ds) ≡ true) × (isEmpty (grouped (behind ds) .loose) ≡ true)
+unfolding goodDescriptors
+behind-good limits size [] p = absurd (differ p)
+behind-good limits size (d ∷ ds) p =
+    let gs = grouped ds in
+    let rules = goodHead size d ∷ every (goodDescriptor limits) ds ∷ goodInterfaces (bNumInterfaces d) gs ∷ [] in
+    let inner = isEmpty (gs .loose) ∷ goodSettings (bNumInterfaces d) (map settingOf (gs .groups)) ∷ every counted (gs .groups) ∷ pairs apart (endpointsOf (gs .groups)) ∷ [] in
+    (conjunct 1 rules p, conjunct 0 inner (conjunct 2 rules p))
+
+-- so its lines are its own and those of its descriptors in order
+abbrev pub headLine : List ℕ → List ℕ
+headLine body = line (67 ∷ []) (bConfigurationValue body ∷ bNumInterfaces body ∷ [])
+
+pub configuration-lines : (limits : Limits) (body : List ℕ) → goodConfiguration limits body ≡ true → configurationLines body ≡ headLine body ++ descriptorLines body
+configuration-lines limits body p =
+    ap (λ (l : List ℕ). headLine body ++ l) (in-order body (behind-good limits (length body) (descriptorsOf (cut body)) (good-descriptors limits body p) .1))
+
+-- ---- the configurations of a set, entry by entry
+by-entry : (set : List ℕ) (es : List Entry) → flatMap configurationLines (map (bodyOf set) (only (isKind 2) es)) ≡ flatMap (entryLines set) es
+unfolding flatMap only
+by-entry set [] = refl
+by-entry set (e ∷ es) = go (isKind 2 e) (by-entry set es)
+  where
+    go : (b : Bool) → flatMap configurationLines (map (bodyOf set) (only (isKind 2) es)) ≡ flatMap (entryLines set) es
+        → flatMap configurationLines (map (bodyOf set) (pick b (e ∷ only (isKind 2) es) (only (isKind 2) es))) ≡ pick b (configurationLines (bodyOf set e)) [] ++ flatMap (entryLines set) es
+    go true p = ap (λ (l : List ℕ). configurationLines (bodyOf set e) ++ l) p
+    go false p = p
+
+pub entry-lines : (set : List ℕ) → flatMap configurationLines (bodies 2 set) ≡ flatMap (entryLines set) (rest set 0)
+entry-lines set = by-entry set (entries set) ∙ ap (flatMap (entryLines set)) (rest-start set)
+
+good-by-entry : (set : List ℕ) (es : List Entry) → every (goodConfiguration fullSpeed) (map (bodyOf set) (only (isKind 2) es)) ≡ every (goodListed set) es
+unfolding every only
+good-by-entry set [] = refl
+good-by-entry set (e ∷ es) = go (isKind 2 e) (good-by-entry set es)
+  where
+    go : (b : Bool) → every (goodConfiguration fullSpeed) (map (bodyOf set) (only (isKind 2) es)) ≡ every (goodListed set) es
+        → every (goodConfiguration fullSpeed) (map (bodyOf set) (pick b (e ∷ only (isKind 2) es) (only (isKind 2) es))) ≡ ((b ⇒ goodConfiguration fullSpeed (bodyOf set e)) && every (goodListed set) es)
+    go true p = ap (λ (b : Bool). goodConfiguration fullSpeed (bodyOf set e) && b) p
+    go false p = p
+
+pub entries-good : (set : List ℕ) → every (goodConfiguration fullSpeed) (bodies 2 set) ≡ true → every (goodListed set) (rest set 0) ≡ true
+entries-good set p = sym (good-by-entry set (entries set) ∙ ap (every (goodListed set)) (rest-start set)) ∙ p
+
+-- a turn of the loop over them, where e is the i-th, and its end
+module _ (set : List ℕ) (n : ℕ) (p : n ≡ count set) (i : ℕ) where
+  pub next-entry-lines : i < n → (e : Entry) → e ≡ entryOf (drop (4 + 8 * i) set) → flatMap (entryLines set) (rest set i) ≡ entryLines set e ++ flatMap (entryLines set) (rest set (i + 1))
+  next-entry-lines h e q = ap (flatMap (entryLines set)) (next-entry set n p i h e q) ∙ flat-cons (entryLines set) e (rest set (i + 1))
+
+  pub next-good : i < n → (e : Entry) → e ≡ entryOf (drop (4 + 8 * i) set) → every (goodListed set) (rest set i) ≡ true → (goodListed set e ≡ true) × (every (goodListed set) (rest set (i + 1)) ≡ true)
+  next-good h e q g =
+      both (goodListed set e) (every (goodListed set) (rest set (i + 1)))
+      (sym (every-cons (goodListed set) e (rest set (i + 1))) ∙ ap (every (goodListed set)) (sym (next-entry set n p i h e q)) ∙ g)
+
+  pub no-entry-lines : n ≤ i → flatMap (entryLines set) (rest set i) ≡ []
+  no-entry-lines h = ap (flatMap (entryLines set)) (no-entry set n p i h) ∙ flat-none (entryLines set)

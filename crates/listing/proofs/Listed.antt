@@ -1,0 +1,49 @@
+-- The text of a board that is refused and of one that is accepted, and a whole text at a buffer's start. Assumes nothing.
+use Prim.Native.Nat.{ℕ, _≤_}
+use native.Mathlib.Nat.{zero-add}
+use native.Mathlib.Omega.{arith}
+use mathlib.Core.Path.{_≡_, sym, ap, _∙_}
+use mathlib.Core.List.{List, [], _∷_}
+use mathlib.Core.Bool.{true}
+use lib.ListN.{length}
+use lib.Seq.{length-sets, sets-eq, length-take-le}
+use borrow.Author.Tests.{eq-eqb, ne-eqb}
+use Rattle.octets.specs.Sentences.{every}
+use Rattle.descriptors.specs.Limits.{fullSpeed}
+use Rattle.descriptors.specs.Configuration.{goodConfiguration}
+use Rattle.sets.specs.Contents.{bodies}
+use Rattle.sets.specs.Opening.{Board, opening}
+use Rattle.sets.proofs.Groups.{groups}
+use Rattle.listing.specs.Listing.{line, refusedWord, acceptedLines, listing}
+use Rattle.listing.specs.Written.{Room, room, Wrote, Listed}
+use Rattle.listing.proofs.Bound.{good-bodies, listing-length}
+
+-- n is what opening answered
+module _ (b : Board) (n : ℕ) (o : n ≡ opening fullSpeed b) where
+  pub refused : (n ≡ 0 → ⊥) → listing b ≡ line refusedWord (n ∷ [])
+  unfolding listing
+  refused p = rw (o, ne-eqb (opening fullSpeed b) 0 (λ q. p (o ∙ q)))
+
+  pub accepted : n ≡ 0 → listing b ≡ acceptedLines (b .set)
+  unfolding listing
+  accepted p = rw (eq-eqb (opening fullSpeed b) 0 (sym o ∙ p))
+
+  pub good : n ≡ 0 → every (goodConfiguration fullSpeed) (bodies 2 (b .set)) ≡ true
+  good p = good-bodies fullSpeed (b .set) (groups fullSpeed b (sym o ∙ p) .configurations)
+
+-- its text, in a buffer that is long enough for any
+module _ (b : Board) (text : List ℕ) (e : listing b ≡ text) (out : List ℕ) (h : room ≤ length out) where
+  pub enough : Room out 0 text
+  enough = omega (arith, listing-length b, ap length e)
+
+  pub listed : {after : List ℕ} {end : ℕ} → Wrote out 0 text after end → Listed b out after end
+  listed {after} {end} w =
+      let size : end ≡ length text = w .place ∙ zero-add (length text) in
+      let kept : length after ≡ length out = ap length (w .bytes) ∙ length-sets out 0 text in
+      let fits : end ≤ length after = omega (arith, enough) in
+      record {
+        text = w .bytes ∙ sets-eq text out 0 enough ∙ rw (zero-add, e);
+        end = size ∙ rw e;
+        inside = fits;
+        whole = sym (length-take-le end after fits);
+      }

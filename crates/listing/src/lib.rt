@@ -1,0 +1,208 @@
+// The lister's lines, written into a lent buffer. Each function writes at a place and gives the place behind what it wrote.
+use sets::Entry;
+use sets::contents::body_of;
+use sets::contents::count_of;
+use sets::contents::entry_at;
+ghost use mathlib.Core.Path.{_≡_};
+ghost use mathlib.Core.Bool.{true};
+ghost use mathlib.Core.List.{[], _∷_, flatMap};
+ghost use Prim.Native.Nat.{_≤_};
+ghost use lib.ListN.{length};
+ghost use Rattle.octets.specs.Sentences.{every};
+ghost use Rattle.descriptors.specs.Limits.{fullSpeed};
+ghost use Rattle.descriptors.specs.Cut.{cut, wellCut};
+ghost use Rattle.descriptors.specs.Configuration.{goodConfiguration};
+ghost use Rattle.sets.specs.Contents.{bodies};
+ghost use Rattle.listing.specs.Listing.{decimal, fields, line, endpointLine, configurationLines, acceptedLines};
+ghost use Rattle.listing.specs.Written.{Room, Wrote, room, lead, interfaceLine, descriptorLine, descriptorLines, entryLines, goodListed, Listed};
+
+// The length of a buffer in which the text of any set has room.
+pub const ROOM: usize = 49152;
+
+// One byte.
+fn put(out: &mut [u8], at: usize, byte: u8) -> usize
+    requires { ⌜ Room (now out) at (byte ∷ []) ⌝ }
+    ensures { λ r. ⌜ Wrote (now (out .entry)) at (byte ∷ []) (now (out .exit)) r ⌝ }
+{
+    out[at] = byte;
+    at + 1
+}
+
+// A word: a fixed string of bytes.
+fn put_word(out: &mut [u8], at: usize, word: &[u8]) -> usize
+    requires { ⌜ Room (now out) at (now word) ⌝ }
+    ensures { λ r. ⌜ Wrote (now (out .entry)) at (now (word .entry)) (now (out .exit)) r ⌝ }
+{
+    let mut next = at;
+    let mut i = 0;
+    while i < word.len() {
+        next = put(out, next, word[i]);
+        i += 1;
+    }
+    next
+}
+
+// The digit of a power of ten, from the first that is not zero on.
+fn put_lead(out: &mut [u8], at: usize, x: u16, power: u16) -> usize
+    requires { ⌜ Room (now out) at (lead power x) ⌝ }
+    requires { ⌜ 1 ≤ power ⌝ }
+    ensures { λ r. ⌜ Wrote (now (out .entry)) at (lead power x) (now (out .exit)) r ⌝ }
+{
+    if power <= x {
+        return put(out, at, b'0' + (x / power % 10) as u8);
+    }
+    at
+}
+
+// A number in decimal.
+fn put_decimal(out: &mut [u8], at: usize, x: u16) -> usize
+    requires { ⌜ Room (now out) at (decimal x) ⌝ }
+    ensures { λ r. ⌜ Wrote (now (out .entry)) at (decimal x) (now (out .exit)) r ⌝ }
+{
+    let second = put_lead(out, at, x, 10000);
+    let third = put_lead(out, second, x, 1000);
+    let fourth = put_lead(out, third, x, 100);
+    let last = put_lead(out, fourth, x, 10);
+    put(out, last, b'0' + (x % 10) as u8)
+}
+
+// The fields of a line, each after a space, and the line feed.
+fn put_fields(out: &mut [u8], at: usize, numbers: &[u16]) -> usize
+    requires { ⌜ Room (now out) at (fields (now numbers)) ⌝ }
+    ensures { λ r. ⌜ Wrote (now (out .entry)) at (fields (now (numbers .entry))) (now (out .exit)) r ⌝ }
+{
+    let mut next = at;
+    let mut i = 0;
+    while i < numbers.len() {
+        let digits = put(out, next, b' ');
+        next = put_decimal(out, digits, numbers[i]);
+        i += 1;
+    }
+    put(out, next, b'\n')
+}
+
+// A line: its word and its fields.
+fn put_line(out: &mut [u8], at: usize, word: &[u8], numbers: &[u16]) -> usize
+    requires { ⌜ Room (now out) at (line (now word) (now numbers)) ⌝ }
+    ensures { λ r. ⌜ Wrote (now (out .entry)) at (line (now (word .entry)) (now (numbers .entry))) (now (out .exit)) r ⌝ }
+{
+    let next = put_word(out, at, word);
+    put_fields(out, next, numbers)
+}
+
+// An interface descriptor's line.
+fn put_interface(out: &mut [u8], at: usize, d: &[u8]) -> usize
+    requires { ⌜ Room (now out) at (interfaceLine (now d)) ⌝ }
+    ensures { λ r. ⌜ Wrote (now (out .entry)) at (interfaceLine (now (d .entry))) (now (out .exit)) r ⌝ }
+{
+    let number = octets::peek(d, 2) as u16;
+    let alternate = octets::peek(d, 3) as u16;
+    let endpoints = octets::peek(d, 4) as u16;
+    put_line(out, at, b"I", &[number, alternate, endpoints])
+}
+
+// An endpoint descriptor's line.
+fn put_endpoint(out: &mut [u8], at: usize, d: &[u8]) -> usize
+    requires { ⌜ Room (now out) at (endpointLine (now d)) ⌝ }
+    ensures { λ r. ⌜ Wrote (now (out .entry)) at (endpointLine (now (d .entry))) (now (out .exit)) r ⌝ }
+{
+    let address = octets::peek(d, 2) as u16;
+    let transfer = (octets::peek(d, 3) % 4) as u16;
+    let size = octets::word(d, 4);
+    put_line(out, at, b"E", &[address, transfer, size])
+}
+
+// The line of a descriptor behind the first, if it is an interface's or an endpoint's.
+fn put_descriptor(out: &mut [u8], at: usize, d: &[u8]) -> usize
+    requires { ⌜ Room (now out) at (descriptorLine (now d)) ⌝ }
+    ensures { λ r. ⌜ Wrote (now (out .entry)) at (descriptorLine (now (d .entry))) (now (out .exit)) r ⌝ }
+{
+    let kind = octets::peek(d, 1);
+    if kind == 4 {
+        return put_interface(out, at, d);
+    }
+    if kind == 5 {
+        return put_endpoint(out, at, d);
+    }
+    at
+}
+
+// The lines of the descriptors behind the first.
+fn put_descriptors(out: &mut [u8], at: usize, body: &[u8]) -> usize
+    requires { ⌜ wellCut (cut (now body)) ≡ true ⌝ }
+    requires { ⌜ Room (now out) at (descriptorLines (now body)) ⌝ }
+    ensures { λ r. ⌜ Wrote (now (out .entry)) at (descriptorLines (now (body .entry))) (now (out .exit)) r ⌝ }
+{
+    let stand = descriptors::outside();
+    let mut next = at;
+    let mut from = octets::peek(body, 0) as usize;
+    while from < body.len() {
+        let end = descriptors::advance(body, from, stand).end;
+        next = put_descriptor(out, next, &body[from..end]);
+        from = end;
+    }
+    next
+}
+
+// The lines of a configuration.
+fn put_configuration(out: &mut [u8], at: usize, body: &[u8]) -> usize
+    requires { ⌜ goodConfiguration fullSpeed (now body) ≡ true ⌝ }
+    requires { ⌜ Room (now out) at (configurationLines (now body)) ⌝ }
+    ensures { λ r. ⌜ Wrote (now (out .entry)) at (configurationLines (now (body .entry))) (now (out .exit)) r ⌝ }
+{
+    let value = octets::peek(body, 5) as u16;
+    let interfaces = octets::peek(body, 4) as u16;
+    let next = put_line(out, at, b"C", &[value, interfaces]);
+    put_descriptors(out, next, body)
+}
+
+// The lines of an entry: a configuration's, and none for any other.
+fn put_entry(out: &mut [u8], at: usize, set: &[u8], e: Entry) -> usize
+    requires { ⌜ goodListed (now set) e ≡ true ⌝ }
+    requires { ⌜ Room (now out) at (entryLines (now set) e) ⌝ }
+    ensures { λ r. ⌜ Wrote (now (out .entry)) at (entryLines (now (set .entry)) e) (now (out .exit)) r ⌝ }
+{
+    if e.kind == 2 {
+        return put_configuration(out, at, body_of(set, e));
+    }
+    at
+}
+
+// The lines of all configurations, in the set's order.
+fn put_configurations(out: &mut [u8], at: usize, set: &[u8]) -> usize
+    requires { ⌜ every (goodConfiguration fullSpeed) (bodies 2 (now set)) ≡ true ⌝ }
+    requires { ⌜ Room (now out) at (flatMap configurationLines (bodies 2 (now set))) ⌝ }
+    ensures { λ r. ⌜ Wrote (now (out .entry)) at (flatMap configurationLines (bodies 2 (now (set .entry)))) (now (out .exit)) r ⌝ }
+{
+    let count = octets::peek(set, 2);
+    let mut next = at;
+    let mut i: u8 = 0;
+    while i < count {
+        next = put_entry(out, next, set, entry_at(set, i));
+        i += 1;
+    }
+    next
+}
+
+// The lines of an accepted set.
+fn put_accepted(out: &mut [u8], set: &[u8]) -> usize
+    requires { ⌜ every (goodConfiguration fullSpeed) (bodies 2 (now set)) ≡ true ⌝ }
+    requires { ⌜ Room (now out) 0 (acceptedLines (now set)) ⌝ }
+    ensures { λ r. ⌜ Wrote (now (out .entry)) 0 (acceptedLines (now (set .entry))) (now (out .exit)) r ⌝ }
+{
+    let configurations = count_of(set, 2) as u16;
+    let next = put_line(out, 0, b"ACCEPTED", &[configurations]);
+    put_configurations(out, next, set)
+}
+
+// The lister's text of a set and a serial block, at the buffer's start; its length comes back.
+pub fn list(set: &[u8], serial: &[u8], out: &mut [u8]) -> usize
+    requires { ⌜ room ≤ length (now out) ⌝ }
+    ensures { λ r. ⌜ Listed (record { set = now (set .entry); serial = now (serial .entry) }) (now (out .entry)) (now (out .exit)) r ⌝ }
+{
+    let number = sets::opening(set, serial, descriptors::full_speed()) as u16;
+    if number != 0 {
+        return put_line(out, 0, b"REFUSED", &[number]);
+    }
+    put_accepted(out, set)
+}
