@@ -1,0 +1,370 @@
+-- An event that concerns k or nobody: records that k cannot tell apart get the same answer and stay so. Assumes nothing.
+use Prim.Native.Nat.{ℕ, _+_, _*_, _/_, _%_, _≤_, _<_}
+use native.Mathlib.Omega.{arith}
+use mathlib.Core.Path.{_≡_, refl, sym, ap, _∙_}
+use mathlib.Core.Bool.{Bool, true, false, _&&_, _||_, not, false≢true}
+use mathlib.Core.List.{List}
+use mathlib.Core.Option.{Option, some, none}
+use lib.ListN.{length, getD, set}
+use lib.Seq.{getD-set-same}
+use lib.Dec.{eqb, leb}
+use borrow.Author.Tests.{eqb-true, eqb-false}
+use Rattle.octets.specs.Bit.{bit, flipBit}
+use Rattle.octets.specs.Sentences.{pick, any, only, first, member}
+use Rattle.octets.proofs.Sentences.{both, any-member, member-any}
+use Rattle.descriptors.specs.declared.Endpoint.{Endpoint}
+use Rattle.descriptors.specs.Configuration.{Configuration, hasInterface, hasSetting, currentOf, addressed, canHalt, bitOf, cleared, ofEither}
+use Rattle.sets.specs.declared.Entry.{Entry}
+use Rattle.sets.specs.View.{View, byIndex, byValue, wakes}
+use Rattle.records.specs.declared.Device.{Device}
+use Rattle.records.specs.Device.{inDefault, inAddress, inConfigured, nothing, fresh, withWaiting, withWakeup, withConfiguration, withEndpoints}
+use Rattle.records.specs.Current.{selected, endpointAt}
+use Rattle.requests.specs.declared.Setup.{Setup}
+use Rattle.requests.specs.Setup.{recipient}
+use Rattle.requests.specs.Table.{refusal}
+use Rattle.events.specs.declared.Answer.{Answer}
+use Rattle.events.specs.declared.Answer.the-variants.{OneByte, TwoBytes, Refused}
+use Rattle.events.specs.declared.Outcome.{Outcome}
+use Rattle.events.specs.declared.Event.{Event}
+use Rattle.events.specs.declared.Event.the-variants.{Request, Malformed, StatusEnd, BusReset, Halt, PacketPassed}
+use Rattle.events.specs.Answer.{gives, refused}
+use Rattle.events.specs.Requests.{byRecipient, getStatus, endpointStatus, isEndpointZero, digit, deviceFeature, interfaceFeature, haltFeature, endpointFeature, clearHalt, setHalt, clearFeature, setFeature, setAddress, setPart, isEntry, languageFor, getDescriptor, getConfiguration, setConfiguration, getInterface, withSetting, setInterface}
+use Rattle.events.specs.Step.{request, answerSetup, statusEnd, haltAt, halt, passAt, packetPassed, respond}
+use Rattle.events.specs.Concerns.{setupConcerns, eventConcerns}
+use Rattle.sets.proofs.Sound.{SoundConfiguration}
+use Rattle.promises.specs.Parts.{home, Shared, shared, Same, rest, self}
+use Rattle.promises.specs.Homes.{AllIn, all-in, found-home, found-alike, set-both, clear-both, flip-both, cleared-both}
+use Rattle.promises.specs.Recipients.{Tabled, table-fits}
+
+-- two choices by equal tests
+pick-alike : {A : Type 0} (P : A → A → Type 0) (a b : Bool) → a ≡ b → {x y u w : A} → (a ≡ true → P x u) → (a ≡ false → P y w)
+    → P (pick a x y) (pick b u w)
+pick-alike P true true e f g = f refl
+pick-alike P true false e f g = absurd (false≢true (sym e))
+pick-alike P false true e f g = absurd (false≢true e)
+pick-alike P false false e f g = g refl
+
+-- sixteen alternates
+abbrev Sixteen : Device → Type 0
+Sixteen d = length (d .alternates) ≡ 16
+
+-- a setting's interface exists, and its number is below 16
+has-setting : (c : Configuration) → SoundConfiguration c → (j a : ℕ) → hasSetting c j a ≡ true → (hasInterface c j ≡ true) × (j < 16)
+has-setting c S j a p =
+    let (x, m, q) = any-member (λ s. eqb (s .interface) j && eqb (s .alternate) a) (c .settings) p in
+    let (i, t) = both (eqb (x .interface) j) (eqb (x .alternate) a) q in
+    (member-any (λ s. eqb (s .interface) j) m i, rw (← (eqb-true (x .interface) j i)) (S .interfaces x m))
+
+-- ---- records that k cannot tell apart, and outcomes that it cannot; T: whether the rest is compared too
+pub record Near (v : View) (T : Type 0) (k : ℕ) (d s : Device) : Type 0 where
+  pub part : Same v k d s
+  pub still : T → rest d ≡ rest s
+
+pub record Alike (v : View) (T : Type 0) (k : ℕ) (o p : Outcome) : Type 0 where
+  pub answer : o .answer ≡ p .answer
+  pub near : Near v T k (o .device) (p .device)
+
+module _ (v : View) (T : Type 0) (k : ℕ) (d s : Device) (h : Near v T k d s) where
+  -- by equal tests, and by one test
+  tests : (a b : Bool) → a ≡ b → {x y u w : Outcome} → (a ≡ true → Alike v T k x u) → (a ≡ false → Alike v T k y w)
+      → Alike v T k (pick a x y) (pick b u w)
+  tests a b e f g = pick-alike (Alike v T k) a b e f g
+
+  test : (a : Bool) {x y u w : Outcome} → (a ≡ true → Alike v T k x u) → (a ≡ false → Alike v T k y w) → Alike v T k (pick a x y) (pick a u w)
+  test a f g = tests a a refl f g
+
+  give : {a b : Answer} → a ≡ b → Alike v T k (gives a d) (gives b s)
+  give p = record { answer = p; near = h }
+
+  refuse : (n : ℕ) → Alike v T k (refused n d) (refused n s)
+  refuse n = give refl
+
+  -- ---- records that differ from them in the same fields
+  near-waiting : (w : ℕ) → Near v T k (withWaiting w d) (withWaiting w s)
+  near-waiting w = record {
+    part = record { firm = h .part .firm; alternate = h .part .alternate; halts = h .part .halts; toggles = h .part .toggles };
+    still = λ t. ap (λ (r : ℕ × ℕ). (w, r .1)) (h .still t);
+  }
+
+  near-wakeup : (on : ℕ) → Near v T k (withWakeup on d) (withWakeup on s)
+  unfolding home
+  near-wakeup on = record {
+    part = record {
+      firm = λ i. record {
+        state = h .part .firm i .state;
+        address = h .part .firm i .address;
+        configuration = h .part .firm i .configuration;
+        wakeup = on;
+        power = h .part .firm i .power;
+        speed = h .part .firm i .speed;
+      };
+      alternate = h .part .alternate;
+      halts = h .part .halts;
+      toggles = h .part .toggles;
+    };
+    still = h .still;
+  }
+
+  near-configuration : (state value : ℕ) → Near v T k (withConfiguration state value d) (withConfiguration state value s)
+  near-configuration state value = record {
+    part = record {
+      firm = λ i. record {
+        state = state;
+        address = h .part .firm i .address;
+        configuration = value;
+        wakeup = h .part .firm i .wakeup;
+        power = h .part .firm i .power;
+        speed = h .part .firm i .speed;
+      };
+      alternate = refl;
+      halts = λ e p. refl;
+      toggles = λ e p. refl;
+    };
+    still = h .still;
+  }
+
+  near-endpoints : (l m : List ℕ) (b c x y : ℕ) → getD l k 0 ≡ getD m k 0 → ((e : ℕ) → home v (shared d) e ≡ k → bit b e ≡ bit c e)
+      → ((e : ℕ) → home v (shared d) e ≡ k → bit x e ≡ bit y e) → Near v T k (withEndpoints l b x d) (withEndpoints m c y s)
+  near-endpoints l m b c x y p q r = record {
+    part = record { firm = h .part .firm; alternate = p; halts = q; toggles = r };
+    still = h .still;
+  }
+
+  -- ---- what exists is the same
+  same-selected : selected v d ≡ selected v s
+  same-selected = ap (λ (x : Shared). byValue (record { 0 = x .configuration }) (v .configurations)) (h .part .firm)
+
+  -- the tests and answers that hang on the firm fields alone
+  interface-test : (j : ℕ) → hasInterface (selected v d) j ≡ hasInterface (selected v s) j
+  interface-test j = ap (λ c. hasInterface c j) same-selected
+
+  -- ---- an endpoint of interface k
+  module _ (S : SoundConfiguration (selected v d)) (a : ℕ) (w : AllIn (selected v d) a k) where
+    endpoint-test : endpointAt v d a ≡ endpointAt v s a
+    endpoint-test =
+        found-alike (selected v d) (d .alternates) (s .alternates) a k w (h .part .alternate)
+        ∙ ap (λ c. addressed a (currentOf (s .alternates) c)) same-selected
+
+    endpoint-home : (e : Endpoint) → endpointAt v d a ≡ some e → home v (shared d) (bitOf (e .address)) ≡ k
+    unfolding home
+    endpoint-home e p = found-home (selected v d) S (d .alternates) a k w e p
+
+    at-endpoint : (P : Option Endpoint → Option Endpoint → Type 0) → P none none
+        → ((e : Endpoint) → home v (shared d) (bitOf (e .address)) ≡ k → P (some e) (some e)) → P (endpointAt v d a) (endpointAt v s a)
+    at-endpoint P x f = rw (← endpoint-test) (go (endpointAt v d a) refl)
+      where
+        go : (o : Option Endpoint) → endpointAt v d a ≡ o → P o o
+        go none p = x
+        go (some e) p = f e (endpoint-home e p)
+
+    alike-status : Alike v T k (endpointStatus d (endpointAt v d a)) (endpointStatus s (endpointAt v s a))
+    alike-status = at-endpoint (λ o p. Alike v T k (endpointStatus d o) (endpointStatus s p)) (refuse 13)
+        (λ e p. give (ap (λ t. TwoBytes (digit (canHalt e && t)) 0) (h .part .halts (bitOf (e .address)) p)))
+
+    alike-feature : (change : Device → ℕ → Device) → ((e : ℕ) → home v (shared d) e ≡ k → Near v T k (change d e) (change s e))
+        → (q : Setup) → Alike v T k (haltFeature change d q (endpointAt v d a)) (haltFeature change s q (endpointAt v s a))
+    alike-feature change f q = at-endpoint (λ o p. Alike v T k (haltFeature change d q o) (haltFeature change s q p)) (refuse 13)
+        (λ e p. test (eqb (q .value) 0 && canHalt e)
+        (λ t. record { answer = refl; near = f (bitOf (e .address)) p }) (λ t. refuse 14))
+
+  near-set : (e : ℕ) → home v (shared d) e ≡ k → Near v T k (setHalt d e) (setHalt s e)
+  near-set e p = near-endpoints _ _ _ _ _ _ (h .part .alternate) (λ f q. set-both _ _ e f (h .part .halts f q)) (h .part .toggles)
+
+  near-clear : (e : ℕ) → home v (shared d) e ≡ k → Near v T k (clearHalt d e) (clearHalt s e)
+  near-clear e p = near-endpoints _ _ _ _ _ _ (h .part .alternate)
+      (λ f q. clear-both _ _ e f (h .part .halts f q)) (λ f q. clear-both _ _ e f (h .part .toggles f q))
+
+  abbrev flipped : ℕ → Device → Device
+  flipped e r = withEndpoints (r .alternates) (r .halts) (flipBit (r .toggles) e) r
+
+  near-flip : (e : ℕ) → Near v T k (flipped e d) (flipped e s)
+  near-flip e = near-endpoints _ _ _ _ _ _ (h .part .alternate) (h .part .halts) (λ f q. flip-both _ _ e f (h .part .toggles f q))
+
+  -- ---- the function events
+  alike-halt : SoundConfiguration (selected v d) → (a : ℕ) → AllIn (selected v d) a k → Alike v T k (halt v d a) (halt v s a)
+  unfolding halt
+  alike-halt S a w = at-endpoint S a w (λ o p. Alike v T k (haltAt d o) (haltAt s p)) (refuse 16)
+      (λ e p. test (canHalt e)
+      (λ t. record { answer = refl; near = near-set (bitOf (e .address)) p }) (λ t. refuse 16))
+
+  alike-pass : SoundConfiguration (selected v d) → (a : ℕ) → AllIn (selected v d) a k → Alike v T k (packetPassed v d a) (packetPassed v s a)
+  unfolding packetPassed
+  alike-pass S a w = at-endpoint S a w (λ o p. Alike v T k (passAt d o) (passAt s p)) (refuse 16)
+      (λ e p. tests (passes d e) (passes s e) (ap (λ t. canHalt e && not t) (h .part .halts (bitOf (e .address)) p))
+      (λ t. record { answer = refl; near = near-flip (bitOf (e .address)) }) (λ t. refuse 16))
+    where
+      passes : Device → Endpoint → Bool
+      passes r e = canHalt e && not (bit (r .halts) (bitOf (e .address)))
+
+  -- ---- the requests
+  module _ (S : SoundConfiguration (selected v d)) (zd : Sixteen d) (zs : Sixteen s) (q : Setup) (F : Tabled q)
+      (w : (j : ℕ) → setupConcerns (selected v d) q ≡ some j → j ≡ k) where
+    of-interface : recipient q ≡ 1 → hasInterface (selected v d) (q .index) ≡ true → q .index ≡ k
+    of-interface r i = w (q .index) (rw (r, i))
+
+    of-endpoint : recipient q ≡ 2 → AllIn (selected v d) (q .index) k
+    of-endpoint r = all-in (selected v d) S (q .index) k (λ j p. w j (rw r p))
+
+    alike-recipient : {x y z a b c : Outcome} → Alike v T k x a → (recipient q ≡ 1 → Alike v T k y b) → (recipient q ≡ 2 → Alike v T k z c)
+        → Alike v T k (byRecipient q x y z) (byRecipient q a b c)
+    alike-recipient f g i = test (eqb (recipient q) 0) (λ p. f)
+        (λ n. test (eqb (recipient q) 1) (λ p. g (eqb-true _ _ p)) (λ m. i (two n m)))
+      where
+        two : eqb (recipient q) 0 ≡ false → eqb (recipient q) 1 ≡ false → recipient q ≡ 2
+        two n m =
+            let l : recipient q ≤ 2 = F .known in
+            let a : recipient q ≡ 0 → ⊥ = eqb-false _ _ n in
+            let b : recipient q ≡ 1 → ⊥ = eqb-false _ _ m in
+            omega arith
+
+    alike-get-status : Alike v T k (getStatus v d q) (getStatus v s q)
+    unfolding getStatus
+    alike-get-status = alike-recipient
+        (give (ap (λ (x : Shared). TwoBytes (digit (bit (poweringOf x .attributes) 6) + 2 * x .wakeup) 0) (h .part .firm)))
+        (λ r. tests _ _ (interface-test (q .index)) (λ i. give refl) (λ i. refuse 13))
+        (λ r. test (isEndpointZero (q .index)) (λ z. give refl) (λ z. alike-status S (q .index) (of-endpoint r)))
+      where
+        poweringOf : Shared → Configuration
+        poweringOf x =
+            pick (eqb (x .state) inAddress) (byIndex (record { 0 = 0 }) (v .configurations)) (byValue (record { 0 = x .configuration }) (v .configurations))
+
+    alike-interface-feature : Alike v T k (interfaceFeature v d q) (interfaceFeature v s q)
+    alike-interface-feature = tests _ _ (interface-test (q .index)) (λ i. refuse 14) (λ i. refuse 13)
+
+    alike-endpoint-feature : (change : Device → ℕ → Device) → ((e : ℕ) → home v (shared d) e ≡ k → Near v T k (change d e) (change s e))
+        → recipient q ≡ 2 → Alike v T k (endpointFeature change v d q) (endpointFeature change v s q)
+    alike-endpoint-feature change f r =
+        test (isEndpointZero (q .index)) (λ z. refuse 14) (λ z. alike-feature S (q .index) (of-endpoint r) change f q)
+
+    alike-device-feature : (on : ℕ) → Alike v T k (deviceFeature on v d q) (deviceFeature on v s q)
+    alike-device-feature on = test (eqb (q .value) 1 && wakes v) (λ p. record { answer = refl; near = near-wakeup on }) (λ p. refuse 14)
+
+    alike-clear-feature : Alike v T k (clearFeature v d q) (clearFeature v s q)
+    unfolding clearFeature
+    alike-clear-feature = alike-recipient (alike-device-feature 0) (λ r. alike-interface-feature) (alike-endpoint-feature clearHalt near-clear)
+
+    alike-set-feature : Alike v T k (setFeature v d q) (setFeature v s q)
+    unfolding setFeature
+    alike-set-feature = alike-recipient (alike-device-feature 1) (λ r. alike-interface-feature) (alike-endpoint-feature setHalt near-set)
+
+    alike-set-address : Alike v T k (setAddress v d q) (setAddress v s q)
+    unfolding setAddress
+    alike-set-address = record { answer = refl; near = near-waiting (q .value) }
+
+    alike-part : (o : Option Entry) → Alike v T k (setPart d (q .length) o) (setPart s (q .length) o)
+    alike-part none = refuse 13
+    alike-part (some e) = give refl
+
+    alike-get-descriptor : Alike v T k (getDescriptor v d q) (getDescriptor v s q)
+    unfolding getDescriptor
+    alike-get-descriptor = test (eqb (q .value / 256) 3)
+        (λ p. test (leb 1 (q .value % 256) && eqb (q .value % 256) (v .serial))
+        (λ t. test (member (q .index) (v .languages)) (λ u. give refl) (λ u. refuse 13))
+        (λ t. alike-part (first (isEntry 3 (q .value % 256) (languageFor (q .value % 256) (q .index))) (v .entries))))
+        (λ p. test (eqb (q .value / 256) 1 || eqb (q .value / 256) 2)
+        (λ t. alike-part (first (isEntry (q .value / 256) (q .value % 256) 0) (v .entries))) (λ t. refuse 13))
+
+    alike-get-configuration : Alike v T k (getConfiguration v d q) (getConfiguration v s q)
+    unfolding getConfiguration
+    alike-get-configuration = give (ap (λ (x : Shared). OneByte (x .configuration)) (h .part .firm))
+
+    alike-set-configuration : Alike v T k (setConfiguration v d q) (setConfiguration v s q)
+    unfolding setConfiguration
+    alike-set-configuration = test (eqb (q .value) 0) (λ p. record { answer = refl; near = near-configuration inAddress 0 })
+        (λ p. test (any (λ c. eqb (c .value) (q .value)) (v .configurations))
+        (λ t. record { answer = refl; near = near-configuration inConfigured (q .value) }) (λ t. refuse 13))
+
+    alike-get-interface : recipient q ≡ 1 → Alike v T k (getInterface v d q) (getInterface v s q)
+    unfolding getInterface
+    alike-get-interface r = tests _ _ (interface-test (q .index))
+        (λ i. give (ap OneByte (rw (of-interface r i) (h .part .alternate)))) (λ i. refuse 13)
+
+    near-setting : q .index ≡ k → q .index < 16 → Near v T k (withSetting v d (q .index) (q .value)) (withSetting v s (q .index) (q .value))
+    near-setting p l = near-endpoints _ _ _ _ _ _
+        (rw (← p) (chosen d zd ∙ sym (chosen s zs)))
+        (λ e m. both-cleared (d .halts) (s .halts) e (h .part .halts e m))
+        (λ e m. both-cleared (d .toggles) (s .toggles) e (h .part .toggles e m))
+      where
+        chosen : (r : Device) → Sixteen r → getD (set (r .alternates) (q .index) (q .value)) (q .index) 0 ≡ q .value
+        chosen r z = getD-set-same (r .alternates) (q .index) (q .value) 0 (rw z l)
+
+        both-settings : Device → List Endpoint
+        both-settings r = only (ofEither (q .index) (getD (r .alternates) (q .index) 0) (q .value)) (selected v r .endpoints)
+
+        same-settings : both-settings d ≡ both-settings s
+        same-settings =
+            ap (λ c. only (ofEither (q .index) (getD (d .alternates) (q .index) 0) (q .value)) (c .endpoints)) same-selected
+            ∙ ap (λ x. only (ofEither (q .index) x (q .value)) (selected v s .endpoints)) (rw p (h .part .alternate))
+
+        both-cleared : (b c e : ℕ) → bit b e ≡ bit c e → bit (cleared (both-settings d) b) e ≡ bit (cleared (both-settings s) c) e
+        both-cleared b c e m = cleared-both (both-settings d) b c e m ∙ ap (λ l. bit (cleared l c) e) same-settings
+
+    alike-set-interface : recipient q ≡ 1 → Alike v T k (setInterface v d q) (setInterface v s q)
+    unfolding setInterface
+    alike-set-interface r = tests (hasSetting (selected v d) (q .index) (q .value)) (hasSetting (selected v s) (q .index) (q .value))
+        (ap (λ c. hasSetting c (q .index) (q .value)) same-selected)
+        (λ i.
+        let (e, l) = has-setting (selected v d) S (q .index) (q .value) i in
+        record { answer = refl; near = near-setting (of-interface r e) l })
+        (λ i. refuse 13)
+
+    alike-request : Alike v T k (request v d q) (request v s q)
+    unfolding request
+    alike-request =
+        test (eqb (q .code) 0x00) (λ n0. alike-get-status) (λ n0.
+        test (eqb (q .code) 0x01) (λ p. alike-clear-feature) (λ n1.
+        test (eqb (q .code) 0x03) (λ p. alike-set-feature) (λ n3.
+        test (eqb (q .code) 0x05) (λ p. alike-set-address) (λ n5.
+        test (eqb (q .code) 0x06) (λ p. alike-get-descriptor) (λ n6.
+        test (eqb (q .code) 0x08) (λ p. alike-get-configuration) (λ n8.
+        test (eqb (q .code) 0x09) (λ p. alike-set-configuration) (λ n9.
+        let r : recipient q ≡ 1 = F .other (rw (n5, n6, n8, n9)) (rw (n0, n1, n3)) in
+        test (eqb (q .code) 0x0A) (λ p. alike-get-interface r) (λ n. alike-set-interface r))))))))
+
+  alike-status-end : rest d ≡ rest s → Alike v T k (statusEnd d) (statusEnd s)
+  unfolding statusEnd home
+  alike-status-end w = tests (eqb (d .waiting) nothing) (eqb (s .waiting) nothing) (ap (λ (r : ℕ × ℕ). eqb (r .0) nothing) w)
+      (λ p. give refl)
+      (λ p. record {
+        answer = refl;
+        near = record {
+          part = record {
+            firm = λ i. record {
+              state = pick (eqb (w i .0) 0) inDefault inAddress;
+              address = w i .0;
+              configuration = h .part .firm i .configuration;
+              wakeup = h .part .firm i .wakeup;
+              power = h .part .firm i .power;
+              speed = h .part .firm i .speed;
+            };
+            alternate = h .part .alternate;
+            halts = h .part .halts;
+            toggles = h .part .toggles;
+          };
+          still = λ t. ap (λ (r : ℕ × ℕ). (nothing, r .1)) w;
+        };
+      })
+
+alike-setup : (v : View) (T : Type 0) (k : ℕ) (d s : Device) → Near v T k d s → SoundConfiguration (selected v d) → Sixteen d → Sixteen s
+    → (q : Setup) → ((j : ℕ) → setupConcerns (selected v d) q ≡ some j → j ≡ k) → Alike v T k (answerSetup v d q) (answerSetup v s q)
+unfolding answerSetup
+alike-setup v T k d s h S zd zs q w =
+    pick-alike (Alike v T k) (eqb (refusal (d .state) q) 0) (eqb (refusal (s .state) q) 0) (ap (λ n. eqb n 0) same-refusal)
+    (λ p. alike-request v T k (withWaiting nothing d) (withWaiting nothing s) dropped S zd zs q (table-fits (d .state) q (eqb-true _ _ p)) w)
+    (λ p. record { answer = ap Refused same-refusal; near = dropped })
+  where
+    same-refusal : refusal (d .state) q ≡ refusal (s .state) q
+    same-refusal = ap (λ (x : Shared). refusal (x .state) q) (h .part .firm)
+
+    dropped : Near v T k (withWaiting nothing d) (withWaiting nothing s)
+    dropped = near-waiting v T k d s h nothing
+
+-- every event that concerns k or nobody
+pub alike-event : (v : View) (T : Type 0) (k : ℕ) (d s : Device) (e : Event) → SoundConfiguration (selected v d) → Sixteen d → Sixteen s
+    → ((j : ℕ) → eventConcerns (selected v d) e ≡ some j → j ≡ k) → (e ≡ StatusEnd → T) → Near v T k d s → Alike v T k (respond v d e) (respond v s e)
+alike-event v T k d s (Request q) S zd zs w t h = alike-setup v T k d s h S zd zs q w
+alike-event v T k d s Malformed S zd zs w t h = refuse v T k d s h 9
+alike-event v T k d s StatusEnd S zd zs w t h = alike-status-end v T k d s h (h .still (t refl))
+alike-event v T k d s BusReset S zd zs w t h = record { answer = refl; near = record { part = self v k fresh; still = λ t. refl } }
+alike-event v T k d s (Halt a) S zd zs w t h = alike-halt v T k d s h S a (all-in (selected v d) S a k w)
+alike-event v T k d s (PacketPassed a) S zd zs w t h = alike-pass v T k d s h S a (all-in (selected v d) S a k w)

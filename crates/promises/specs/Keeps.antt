@@ -1,0 +1,94 @@
+-- A record keeps fitting: after opening, and after every event from a fitting record, for every accepted set and serial block.
+-- So 8 never follows from the library's own calls. Assumes nothing.
+use Prim.Native.Nat.{ℕ}
+use native.Mathlib.Omega.{arith}
+use mathlib.Core.Path.{_≡_, sym, _∙_}
+use mathlib.Core.List.{List}
+use mathlib.Core.Bool.{true, false, _||_, false≢true}
+use lib.ListN.{length}
+use lib.Dec.{eqb}
+use borrow.Author.Tests.{eq-eqb}
+use Rattle.octets.proofs.Sentences.{cases}
+use Rattle.sets.specs.Opening.{Board}
+use Rattle.sets.specs.View.{viewOf, accepted}
+use Rattle.records.specs.declared.Device.{Device}
+use Rattle.records.specs.Device.{fresh}
+use Rattle.records.specs.Image.{deviceOf, imageOf}
+use Rattle.records.specs.Fits.{fits}
+use Rattle.records.proofs.Image.{Sized, device-image, image-length}
+use Rattle.events.specs.declared.Event.{Event}
+use Rattle.events.specs.declared.Event.the-variants.{Request, Malformed, StatusEnd, BusReset, Halt, PacketPassed}
+use Rattle.events.specs.Answer.{numberOf}
+use Rattle.events.specs.Step.{respond, step, event, opened}
+use Rattle.sets.proofs.Sound.{Bytes}
+use Rattle.sets.proofs.Acceptance.{sound}
+use Rattle.promises.specs.Outcomes.{responded}
+use Rattle.promises.specs.Refusal.{refuses}
+use Rattle.promises.specs.Refusals.{stepNumber}
+use Rattle.promises.specs.Fitting.{fitting, fitted}
+use Rattle.promises.specs.Changes.{Fit, freshFits, respondedFits}
+
+-- ---- what the statements say
+-- an image of 32 bytes, of a record that fits
+pub record FitImage (b : Board) (image : List ℕ) : Type 0 where
+  pub long : length image ≡ 32
+  pub fit : fits (viewOf b) (deviceOf image) ≡ true
+  pub sized : Sized (deviceOf image)
+
+-- the images that the library's own calls leave, one after the other: opening's, of any 32 bytes, and every event's from such an image
+pub data Reached (b : Board) : List ℕ → Type 0 where
+  afterOpening : (image : List ℕ) → length image ≡ 32 → Reached b (opened b image .image)
+  afterEvent : {image : List ℕ} (e : Event) → Reached b image → Reached b (event b image e .image)
+
+module _ (b : Board) (bytes : Bytes (b .set)) (ok : accepted b ≡ true) where
+  -- ---- over the record
+  pub freshFit : (fits (viewOf b) fresh ≡ true) × Sized fresh
+  freshFit = let g = freshFits (b .set) (viewOf b) (sound b bytes ok) in (fitted (viewOf b) fresh (g .fitting), g .sized)
+
+  pub stepFits : (d : Device) (e : Event) → Sized d → fits (viewOf b) d ≡ true → (fits (viewOf b) (step b d e .device) ≡ true) × Sized (step b d e .device)
+  unfolding step
+  stepFits d e z p = rw (ok, p) (fitted (viewOf b) (respond (viewOf b) d e .device) (next .fitting), next .sized)
+    where
+      next : Fit (viewOf b) (respond (viewOf b) d e .device)
+      next = respondedFits (b .set) (viewOf b) (sound b bytes ok) d (record { fitting = fitting (viewOf b) d p; sized = z }) (responded (viewOf b) d e)
+
+  -- ---- over images
+  imageFits : (d : Device) → (fits (viewOf b) d ≡ true) × Sized d → FitImage b (imageOf d)
+  imageFits d (p, z) = record { long = image-length d (z .sixteen); fit = rw (device-image d z) p; sized = rw (device-image d z) z }
+
+  pub openedFits : (image : List ℕ) → length image ≡ 32 → FitImage b (opened b image .image)
+  unfolding opened
+  openedFits image l = rw (eq-eqb (length image) 32 l) (imageFits fresh freshFit)
+
+  pub eventFits : (image : List ℕ) (e : Event) → FitImage b image → FitImage b (event b image e .image)
+  unfolding event
+  eventFits image e f = rw (eq-eqb (length image) 32 (f .long)) (imageFits (step b (deviceOf image) e .device) (stepFits (deviceOf image) e (f .sized) (f .fit)))
+
+  pub reachedFits : {image : List ℕ} → Reached b image → FitImage b image
+  reachedFits (afterOpening image l) = openedFits image l
+  reachedFits (afterEvent {image} e r) = eventFits image e (reachedFits r)
+
+  -- an image that fits gets no 7 and no 8, only 0 and the event's own refusals
+  pub fitNumber : (image : List ℕ) (e : Event) → FitImage b image → (let n = numberOf (event b image e .answer) in (eqb n 0 || refuses e n) ≡ true)
+  unfolding event
+  fitNumber image e f = rw (eq-eqb (length image) 32 (f .long)) (rw (ok, f .fit) at (stepNumber b (deviceOf image) e))
+
+-- no event's own refusal is 8
+not-eight : (e : Event) → (eqb 8 0 || refuses e 8) ≡ true → ⊥
+not-eight (Request s) p = false≢true p
+not-eight Malformed p = false≢true p
+not-eight StatusEnd p = false≢true p
+not-eight BusReset p = false≢true p
+not-eight (Halt a) p = false≢true p
+not-eight (PacketPassed a) p = false≢true p
+
+-- on a board that is not accepted every event gets 7
+unaccepted : (b : Board) → accepted b ≡ false → (image : List ℕ) (e : Event) → numberOf (event b image e .answer) ≡ 7
+unfolding event step
+unaccepted b p image e = cases (eqb (length image) 32) (λ q. rw (q, p)) (λ q. rw (q, p))
+
+-- whatever the board, whatever 32 bytes were opened and whatever events came: no event is answered 8
+pub neverEight : (b : Board) → Bytes (b .set) → {image : List ℕ} → Reached b image → (e : Event) → numberOf (event b image e .answer) ≡ 8 → ⊥
+neverEight b bytes {image} r e p = cases (accepted b)
+    (λ ok. not-eight e (rw p at (fitNumber b bytes ok image e (reachedFits b bytes ok r))))
+    (λ no-board. let q : _≡_ {A = ℕ} 7 8 = sym (unaccepted b no-board image e) ∙ p in omega arith)

@@ -1,0 +1,175 @@
+-- Locality, for every event: one that concerns interface k takes its answer and k's next part from k's part and the shared fields, leaves
+-- every other interface's part, and changes the rest only by dropping what waits; one that concerns nobody answers alike, and leaves
+-- alike, records that k cannot tell apart and whose rest is the same. Assumes nothing.
+use Prim.Native.Nat.{ℕ, _≤_}
+use native.Mathlib.Omega.{arith}
+use mathlib.Core.Path.{_≡_, refl, sym, ap, _∙_}
+use mathlib.Core.Bool.{Bool, true, false, _&&_, false≢true}
+use mathlib.Core.List.{List, [], _∷_}
+use mathlib.Core.Option.{Option, some, none, Option·some-injective, Option·none-ne-some}
+use lib.Dec.{eqb, leb}
+use borrow.Author.Tests.{eqb-true, eqb-false, eq-eqb, ne-eqb, leb-true}
+use Rattle.octets.specs.Sentences.{pick, any, first, isSome}
+use Rattle.octets.proofs.Sentences.{cases, both, if-then, conjunct, none-first}
+use Rattle.sets.specs.View.{View, byValue, orNone, unconfigured}
+use Rattle.records.specs.declared.Device.{Device}
+use Rattle.records.specs.Device.{inConfigured, nothing, withWaiting}
+use Rattle.records.specs.Current.{selected}
+use Rattle.records.specs.Fits.{fits}
+use Rattle.requests.specs.Setup.{recipient}
+use Rattle.events.specs.declared.Event.{Event}
+use Rattle.events.specs.declared.Event.the-variants.{Request, Malformed, StatusEnd, BusReset, Halt, PacketPassed}
+use Rattle.events.specs.Step.{respond}
+use Rattle.events.specs.Concerns.{eventConcerns, concerns}
+use Rattle.order.specs.Parts.{calm₂-again, calm₂-commute}
+use Rattle.order.specs.Owners.{Owners}
+use Rattle.sets.proofs.Sound.{Sound}
+use Rattle.promises.specs.Fitting.{fitting}
+use Rattle.promises.specs.Keeping.{soundSelected}
+use Rattle.promises.specs.Parts.{Good, orNobody, Shared, shared, Same, rest, owned, who, isSetup, kind, settle, self, turn, join, whole}
+use Rattle.promises.specs.Alike.{Alike, alike-event}
+use Rattle.promises.specs.Touches.{Touches, settled, touch-event}
+
+-- ---- whom an event concerns
+-- it is seen by everybody
+pub concerns-by : (v : View) (r s : Device) (e : Event) → shared r ≡ shared s → concerns v r e ≡ concerns v s e
+unfolding concerns
+concerns-by v r s e p =
+    ap (λ (x : Shared). pick (eqb (x .state) inConfigured) (eventConcerns (byValue (record { 0 = x .configuration }) (v .configurations)) e) none) p
+
+nobody-concerned : (e : Event) → eventConcerns unconfigured e ≡ none
+unfolding any first
+nobody-concerned (Request q) = go (eqb (recipient q) 1) (eqb (recipient q) 2)
+  where
+    go : (a b : Bool) → _≡_ {A = Option ℕ} (pick a none (pick b none none)) none
+    go true b = refl
+    go false true = refl
+    go false false = refl
+nobody-concerned Malformed = refl
+nobody-concerned StatusEnd = refl
+nobody-concerned BusReset = refl
+nobody-concerned (Halt a) = refl
+nobody-concerned (PacketPassed a) = refl
+
+module _ (set : List ℕ) (v : View) (S : Sound set v) where
+  -- outside Configured a record that fits selects nothing, so no event concerns anybody
+  zero-selects : (value : ℕ) → value ≡ 0 → byValue (record { 0 = value }) (v .configurations) ≡ unconfigured
+  zero-selects value z = ap orNone (none-first (λ c. eqb (c .value) value) (v .configurations)
+      (λ c m. ne-eqb (c .value) value (λ p. let l : 1 ≤ c .value = S .values c m .0 in omega arith)))
+
+  unselected : (d : Device) → fits v d ≡ true → eqb (d .state) inConfigured ≡ false → d .configuration ≡ 0
+  unselected d g n = cases (eqb (d .state) 0)
+      (λ p. eqb-true _ _ (both (eqb (d .address) 0) (eqb (d .configuration) 0) (low p) .1))
+      (λ p. eqb-true _ _ (both (leb 1 (d .address) && leb (d .address) 127) (eqb (d .configuration) 0) (middle (one p)) .1))
+    where
+      low : eqb (d .state) 0 ≡ true → (eqb (d .address) 0 && eqb (d .configuration) 0) ≡ true
+      low = if-then _ _ (fitting v d g .default)
+
+      middle : eqb (d .state) 1 ≡ true → (leb 1 (d .address) && leb (d .address) 127 && eqb (d .configuration) 0) ≡ true
+      middle = if-then _ _ (fitting v d g .address)
+
+      one : eqb (d .state) 0 ≡ false → eqb (d .state) 1 ≡ true
+      one p =
+          let range = leb (d .state) 2 ∷ leb (d .wakeup) 1 ∷ eqb (d .power) 0 ∷ eqb (d .suspended) 0 ∷ eqb (d .speed) 0 ∷ [] in
+          let l : d .state ≤ 2 = leb-true _ _ (conjunct 0 range (fitting v d g .range)) in
+          let a : d .state ≡ 0 → ⊥ = eqb-false _ _ p in
+          let b : d .state ≡ 2 → ⊥ = eqb-false _ _ n in
+          eq-eqb (d .state) 1 (omega arith)
+
+  concerns-good : (d : Device) (e : Event) → fits v d ≡ true → concerns v d e ≡ eventConcerns (selected v d) e
+  unfolding concerns
+  concerns-good d e g = go (eqb (d .state) inConfigured) refl
+    where
+      go : (b : Bool) → eqb (d .state) inConfigured ≡ b → pick b (eventConcerns (selected v d) e) none ≡ eventConcerns (selected v d) e
+      go true p = refl
+      go false p = sym (ap (λ c. eventConcerns c e) (zero-selects (d .configuration) (unselected d g p)) ∙ nobody-concerned e)
+
+-- ---- the laws
+whose : (o : Option ℕ) → isSome o ≡ true → o ≡ some (orNobody o)
+whose none p = absurd (false≢true p)
+whose (some j) p = refl
+
+nobodys : (o : Option ℕ) → isSome o ≡ false → o ≡ none
+nobodys none p = refl
+nobodys (some j) p = absurd (false≢true (sym p))
+
+settled-same : (v : View) (k : ℕ) (d : Device) (e : Event) → Same v k (settled d e) d
+settled-same v k d e = go (isSetup e)
+  where
+    go : (b : Bool) → Same v k (pick b (withWaiting nothing d) d) d
+    go true = record { firm = refl; alternate = refl; halts = λ e p. refl; toggles = λ e p. refl }
+    go false = self v k d
+
+settled-rest : (d : Device) (e : Event) → rest (settled d e) ≡ settle (kind d e) (rest d)
+settled-rest d e = go (isSetup e)
+  where
+    go : (b : Bool) → rest (pick b (withWaiting nothing d) d) ≡ settle (b, false) (rest d)
+    go true = refl
+    go false = refl
+
+-- "in Configured, .. nothing waiting": today no event that concerns an interface has anything to drop
+configured : (v : View) (d : Device) (e : Event) → owned v d e ≡ true → eqb (d .state) inConfigured ≡ true
+unfolding concerns
+configured v d e o = go (eqb (d .state) inConfigured) o
+  where
+    go : (b : Bool) → isSome (pick b (eventConcerns (selected v d) e) none) ≡ true → b ≡ true
+    go true p = refl
+    go false p = p
+
+pub idle : (v : View) (d : Device) (e : Event) → fits v d ≡ true → owned v d e ≡ true → settle (kind d e) (rest d) ≡ rest d
+idle v d e f o = go (isSetup e)
+  where
+    rules : Bool
+    rules = leb 1 (d .address) && leb (d .address) 127 && any (λ c. eqb (c .value) (d .configuration)) (v .configurations)
+
+    waits : d .waiting ≡ nothing
+    waits = eqb-true _ _ (both rules (eqb (d .waiting) nothing) (if-then _ _ (fitting v d f .configured) (configured v d e o)) .1)
+
+    go : (b : Bool) → settle (b, false) (rest d) ≡ rest d
+    go true = ap (λ w. (w, d .suspended)) (sym waits)
+    go false = refl
+
+module _ (set : List ℕ) (v : View) (S : Sound set v) where
+  -- an event of k's
+  mine : (d : Device) (e : Event) → Good v d → owned v d e ≡ true → eventConcerns (selected v d) e ≡ some (who v d e)
+  mine d e g o = sym (concerns-good set v S d e (g .1)) ∙ whose (concerns v d e) o
+
+  alike-mine : (k : ℕ) (r s : Device) (e : Event) → Good v r → Good v s → owned v r e ≡ true → who v r e ≡ k → Same v k r s
+      → Alike v ⊥ k (respond v r e) (respond v s e)
+  alike-mine k r s e g d o w h =
+      let c : eventConcerns (selected v r) e ≡ some k = mine r e g o ∙ ap some w in
+      alike-event v ⊥ k r s e (soundSelected set v S r) (g .0 .sixteen) (d .0 .sixteen) (λ j p. Option·some-injective j k (sym p ∙ c))
+      (λ p. Option·none-ne-some k (sym (ap (eventConcerns (selected v r)) p) ∙ c)) (record { part = h; still = λ t. absurd t })
+
+  -- an event of nobody's
+  alike-free : (k : ℕ) (r s : Device) (e : Event) → Good v r → Good v s → owned v r e ≡ false → Same v k r s → rest r ≡ rest s
+      → Alike v (rest r ≡ rest s) k (respond v r e) (respond v s e)
+  alike-free k r s e g d o h w =
+      let c : eventConcerns (selected v r) e ≡ none = sym (concerns-good set v S r e (g .1)) ∙ nobodys (concerns v r e) o in
+      alike-event v (rest r ≡ rest s) k r s e (soundSelected set v S r) (g .0 .sixteen) (d .0 .sixteen)
+      (λ j p. absurd (Option·none-ne-some j (sym c ∙ p))) (λ p. w) (record { part = h; still = λ t. t })
+
+  touch-mine : (d : Device) (e : Event) → Good v d → owned v d e ≡ true → Touches v (who v d e) (settled d e) (respond v d e .device)
+  touch-mine d e g o = touch-event v (who v d e) d (soundSelected set v S d) e (mine d e g o)
+
+  pub locality : ((d : Device) (e : Event) → Good v d → Good v (respond v d e .device))
+      → Owners (λ d e. respond v d e .answer) (λ d e. respond v d e .device) (Good v) (owned v) (who v) (Same v) rest kind settle
+  locality keeps = record {
+    keeps = keeps;
+    self = self v;
+    turn = turn v;
+    join = join v;
+    owned-by = λ k r s e g d h. ap isSome (concerns-by v r s e (h .firm));
+    who-by = λ k r s e g d h. ap orNobody (concerns-by v r s e (h .firm));
+    reply = λ k r s e g d o w h. alike-mine k r s e g d o w h .answer;
+    kinds = λ k r s e g d o w h. refl;
+    local = λ k r s e g d o w h. alike-mine k r s e g d o w h .near .part;
+    apart = λ k r e g o n. join v k _ _ _ (touch-mine r e g o .others k n) (settled-same v k r e);
+    rests = λ r e g o. touch-mine r e g o .still ∙ settled-rest r e;
+    again = calm₂-again (λ w. nothing) (λ x. 0) (λ w. refl) (λ x. refl);
+    commute = calm₂-commute (λ w. nothing) (λ x. 0);
+    free-reply = λ k r s e g d o h w. alike-free k r s e g d o h w .answer;
+    free-local = λ k r s e g d o h w. alike-free k r s e g d o h w .near .part;
+    free-rest = λ k r s e g d o h w. alike-free k r s e g d o h w .near .still w;
+    whole = λ r s g d h w. whole v r s (g .0) (d .0) h w;
+  }

@@ -1,0 +1,215 @@
+-- Every outcome of an event on a record that fits, by kind, with what is known where it comes about: the one walk over the
+-- requests from which the promises about the step are proved. Assumes nothing.
+use Prim.Native.Nat.{ℕ, _≤_, min, _/_, _%_}
+use mathlib.Core.Path.{_≡_, refl, _∙_}
+use mathlib.Core.List.{[], _∷_, List·Memᴰ}
+use mathlib.Core.Bool.{Bool, true, false, _&&_, _||_, not}
+use mathlib.Core.Option.{Option, some, none}
+use lib.Dec.{eqb, leb, lit≤}
+use borrow.Author.Tests.{eq-eqb, eqb-true, eqb-false, leb-true}
+use native.Mathlib.Omega.{arith}
+use Rattle.octets.specs.Bit.{bit, flipBit}
+use Rattle.octets.specs.Sentences.{pick, _⇒_, any, every, first, member}
+use Rattle.octets.proofs.Sentences.{both, if-then, conjunct, every-member, first-some}
+use Rattle.descriptors.specs.declared.Endpoint.{Endpoint}
+use Rattle.descriptors.specs.Configuration.{hasInterface, hasSetting, canHalt, bitOf}
+use Rattle.sets.specs.declared.Entry.{Entry}
+use Rattle.sets.specs.View.{View, wakes}
+use Rattle.records.specs.declared.Device.{Device}
+use Rattle.records.specs.Device.{inDefault, inAddress, inConfigured, nothing, fresh, withWaiting, withWakeup, withAddress, withConfiguration, withEndpoints}
+use Rattle.records.specs.Current.{selected, currentEndpoints, endpointAt}
+use Rattle.requests.specs.declared.Setup.{Setup}
+use Rattle.requests.specs.declared.Row.{Row}
+use Rattle.requests.specs.Setup.{recipient}
+use Rattle.requests.specs.Table.{table, rowOf, inState, fieldsFit, refusalAt, refusal}
+use Rattle.events.specs.declared.Answer.{Answer}
+use Rattle.events.specs.declared.Answer.the-variants.{SetPart, SerialPart}
+use Rattle.events.specs.declared.Event.{Event}
+use Rattle.events.specs.declared.Event.the-variants.{Request, Malformed, StatusEnd, BusReset, Halt, PacketPassed}
+use Rattle.events.specs.declared.Outcome.{Outcome}
+use Rattle.events.specs.Answer.{numberOf, partOf, gives, done, refused}
+use Rattle.events.specs.Requests.{byRecipient, isEndpointZero, deviceFeature, interfaceFeature, endpointFeature, endpointStatus, haltFeature, clearHalt, setHalt, setPart, isEntry, languageFor, withSetting, getStatus, clearFeature, setFeature, setAddress, getDescriptor, getConfiguration, setConfiguration, getInterface, setInterface}
+use Rattle.events.specs.Step.{request, answerSetup, statusEnd, haltAt, halt, passAt, packetPassed, respond}
+use Rattle.promises.specs.Refusal.{emptyPart}
+
+-- a setup's outcome, on the record d with nothing waiting
+pub data Answered (v : View) (d : Device) : Outcome → Type 0 where
+  reads : (a : Answer) → numberOf a ≡ 0 → partOf a ≡ emptyPart → Answered v d (gives a d)
+  refusedWith : (n : ℕ) → 10 ≤ n → n ≤ 14 → Answered v d (refused n d)
+  fromSet : (e : Entry) (asked : ℕ) → List·Memᴰ e (v .entries) → Answered v d (gives (SetPart (e .offset) (min (e .length) asked)) d)
+  fromSerial : (asked : ℕ) → Answered v d (gives (SerialPart (min (v .block) asked)) d)
+  wakeup : (on : ℕ) → on ≤ 1 → wakes v ≡ true → Answered v d (done (withWakeup on d))
+  haltSet : (e : Endpoint) → List·Memᴰ e (currentEndpoints v d) → canHalt e ≡ true → Answered v d (done (setHalt d (bitOf (e .address))))
+  haltCleared : (e : Endpoint) → List·Memᴰ e (currentEndpoints v d) → canHalt e ≡ true → Answered v d (done (clearHalt d (bitOf (e .address))))
+  waits : (a : ℕ) → a ≤ 127 → d .state ≤ 1 → Answered v d (done (withWaiting a d))
+  unconfigures : 1 ≤ d .state → Answered v d (done (withConfiguration inAddress 0 d))
+  configures : (c : ℕ) → 1 ≤ d .state → any (λ k. eqb (k .value) c) (v .configurations) ≡ true → Answered v d (done (withConfiguration inConfigured c d))
+  sets : (j a : ℕ) → hasSetting (selected v d) j a ≡ true → Answered v d (done (withSetting v d j a))
+
+-- an event's outcome
+pub data Responded (v : View) (d : Device) : Event → Outcome → Type 0 where
+  answers : {s : Setup} {o : Outcome} → Answered v (withWaiting nothing d) o → Responded v d (Request s) o
+  malformed : Responded v d Malformed (refused 9 d)
+  nothingWaits : Responded v d StatusEnd (done d)
+  applies : (d .waiting ≡ nothing → ⊥) → Responded v d StatusEnd (done (withAddress (pick (eqb (d .waiting) 0) inDefault inAddress) (d .waiting) d))
+  resets : Responded v d BusReset (done fresh)
+  noHalt : {a : ℕ} → Responded v d (Halt a) (refused 16 d)
+  halts : {a : ℕ} (e : Endpoint) → List·Memᴰ e (currentEndpoints v d) → canHalt e ≡ true → Responded v d (Halt a) (done (setHalt d (bitOf (e .address))))
+  noPass : {a : ℕ} → Responded v d (PacketPassed a) (refused 16 d)
+  passes : {a : ℕ} (e : Endpoint) → List·Memᴰ e (currentEndpoints v d) → canHalt e ≡ true
+      → Responded v d (PacketPassed a) (done (withEndpoints (d .alternates) (d .halts) (flipBit (d .toggles) (bitOf (e .address))) d))
+
+-- by cases on the test of a choice
+chosen : (P : Outcome → Type 0) (b : Bool) {x y : Outcome} → (b ≡ true → P x) → (b ≡ false → P y) → P (pick b x y)
+chosen P true p q = p refl
+chosen P false p q = q refl
+
+-- ---- the table: what holds of a setup that it lets through
+-- a rule of the table's rows, of the row that let a setup through
+ruled : (f : Row → Bool) → every f table ≡ true → (state : ℕ) (s : Setup) → refusal state s ≡ 0
+    → (r : Row) × (f r ≡ true) × (r .code ≡ s .code) × (inState r state ≡ true) × (fieldsFit r s ≡ true)
+unfolding refusal
+ruled f p state s q = go (rowOf s) refl q
+  where
+    passed : (r : Row) → refusalAt (some r) state s ≡ 0 → (inState r state ≡ true) × (fieldsFit r s ≡ true)
+    passed r = within (inState r state) (fieldsFit r s)
+      where
+        within : (a b : Bool) → pick {A = ℕ} a (pick b 0 12) 11 ≡ 0 → (a ≡ true) × (b ≡ true)
+        within true true e = (refl, refl)
+        within true false e = absurd (omega arith)
+        within false b e = absurd (omega arith)
+    go : (o : Option Row) → rowOf s ≡ o → refusalAt o state s ≡ 0
+        → (r : Row) × (f r ≡ true) × (r .code ≡ s .code) × (inState r state ≡ true) × (fieldsFit r s ≡ true)
+    go none e z = absurd (omega arith)
+    go (some r) e z =
+        let (m, t) = first-some (λ r. eqb (r .kind) (s .kind) && eqb (r .code) (s .code)) table e in
+        let (k, c) = both (eqb (r .kind) (s .kind)) (eqb (r .code) (s .code)) t in
+        let (i, h) = passed r z in
+        (r, every-member f p m, eqb-true (r .code) (s .code) c, i, h)
+
+-- 05 is for Default and Address alone, with an address up to 127; 09 is not for Default
+addressAllowed : (state : ℕ) (s : Setup) → refusal state s ≡ 0 → s .code ≡ 5 → (s .value ≤ 127) × (state ≤ 1)
+unfolding every
+addressAllowed state s p c =
+    let (r, f, k, i, h) = ruled (λ r. eqb (r .code) 5 ⇒ leb (r .value) 127 && leb (r .highest) 1) refl state s p in
+    let f′ = if-then (eqb (r .code) 5) (leb (r .value) 127 && leb (r .highest) 1) f (eq-eqb (r .code) 5 (k ∙ c)) in
+    let (a, b) = both (leb (r .value) 127) (leb (r .highest) 1) f′ in
+    let t = leb-true (s .value) (r .value) (conjunct 0 (leb (s .value) (r .value) ∷ _ ∷ _ ∷ _ ∷ []) h) in
+    let u = leb-true state (r .highest) (both (leb (r .lowest) state) (leb state (r .highest)) i .1) in
+    (omega (arith, leb-true (r .value) 127 a), omega (arith, leb-true (r .highest) 1 b))
+
+configurationAllowed : (state : ℕ) (s : Setup) → refusal state s ≡ 0 → s .code ≡ 9 → 1 ≤ state
+unfolding every
+configurationAllowed state s p c =
+    let (r, f, k, i, h) = ruled (λ r. eqb (r .code) 9 ⇒ leb 1 (r .lowest)) refl state s p in
+    let f′ = if-then (eqb (r .code) 9) (leb 1 (r .lowest)) f (eq-eqb (r .code) 9 (k ∙ c)) in
+    let u = leb-true (r .lowest) state (both (leb (r .lowest) state) (leb state (r .highest)) i .0) in
+    omega (arith, leb-true 1 (r .lowest) f′)
+
+-- the refusals of the table are 10, 11 and 12
+tableRefuses : (state : ℕ) (s : Setup) → (refusal state s ≡ 0 → ⊥) → (10 ≤ refusal state s) × (refusal state s ≤ 14)
+unfolding refusal
+tableRefuses state s = go (rowOf s)
+  where
+    tests : (a b : Bool) → (pick {A = ℕ} a (pick b 0 12) 11 ≡ 0 → ⊥) → (10 ≤ pick {A = ℕ} a (pick b 0 12) 11) × (pick {A = ℕ} a (pick b 0 12) 11 ≤ 14)
+    tests true true n = absurd (n refl)
+    tests true false n = (lit≤ tt, lit≤ tt)
+    tests false b n = (lit≤ tt, lit≤ tt)
+    go : (o : Option Row) → (refusalAt o state s ≡ 0 → ⊥) → (10 ≤ refusalAt o state s) × (refusalAt o state s ≤ 14)
+    go none n = (lit≤ tt, lit≤ tt)
+    go (some r) n = tests (inState r state) (fieldsFit r s) n
+
+-- ---- the requests, a leaf at a time
+module _ (v : View) (d : Device) (s : Setup) where
+  missing : Answered v d (refused 13 d)
+  missing = refusedWith 13 (lit≤ tt) (lit≤ tt)
+
+  noFeature : Answered v d (refused 14 d)
+  noFeature = refusedWith 14 (lit≤ tt) (lit≤ tt)
+
+  recipients : {x y z : Outcome} → Answered v d x → Answered v d y → Answered v d z → Answered v d (pick (eqb (recipient s) 0) x (pick (eqb (recipient s) 1) y z))
+  recipients p q r = chosen (Answered v d) (eqb (recipient s) 0) (λ e. p) (λ e. chosen (Answered v d) (eqb (recipient s) 1) (λ e. q) (λ e. r))
+
+  status : Answered v d (getStatus v d s)
+  unfolding getStatus
+  status = recipients (reads _ refl refl)
+      (chosen (Answered v d) (hasInterface (selected v d) (s .index)) (λ e. reads _ refl refl) (λ e. missing))
+      (chosen (Answered v d) (isEndpointZero (s .index)) (λ e. reads _ refl refl) (λ e. at (endpointAt v d (s .index))))
+    where
+      at : (o : Option Endpoint) → Answered v d (endpointStatus d o)
+      at none = missing
+      at (some e) = reads _ refl refl
+
+  features : (change : Device → ℕ → Device) (on : ℕ) → on ≤ 1
+      → ((e : Endpoint) → List·Memᴰ e (currentEndpoints v d) → canHalt e ≡ true → Answered v d (done (change d (bitOf (e .address)))))
+      → Answered v d (byRecipient s (deviceFeature on v d s) (interfaceFeature v d s) (endpointFeature change v d s))
+  features change on l changed = recipients
+      (chosen (Answered v d) (eqb (s .value) 1 && wakes v) (λ e. wakeup on l (both (eqb (s .value) 1) (wakes v) e .1)) (λ e. noFeature))
+      (chosen (Answered v d) (hasInterface (selected v d) (s .index)) (λ e. noFeature) (λ e. missing))
+      (chosen (Answered v d) (isEndpointZero (s .index)) (λ e. noFeature) (λ e. at (endpointAt v d (s .index)) refl))
+    where
+      at : (o : Option Endpoint) → endpointAt v d (s .index) ≡ o → Answered v d (haltFeature change d s o)
+      at none e = missing
+      at (some x) e = chosen (Answered v d) (eqb (s .value) 0 && canHalt x)
+          (λ t. changed x (first-some (λ x. eqb (x .address) (s .index)) (currentEndpoints v d) e .0) (both (eqb (s .value) 0) (canHalt x) t .1)) (λ t. noFeature)
+
+  descriptors : Answered v d (getDescriptor v d s)
+  unfolding getDescriptor
+  descriptors = chosen (Answered v d) (eqb (s .value / 256) 3)
+      (λ e. chosen (Answered v d) (leb 1 (s .value % 256) && eqb (s .value % 256) (v .serial))
+          (λ e. chosen (Answered v d) (member (s .index) (v .languages)) (λ e. fromSerial (s .length)) (λ e. missing))
+          (λ e. at 3 (s .value % 256) (languageFor (s .value % 256) (s .index)) _ refl))
+      (λ e. chosen (Answered v d) (eqb (s .value / 256) 1 || eqb (s .value / 256) 2)
+          (λ e. at (s .value / 256) (s .value % 256) 0 _ refl)
+          (λ e. missing))
+    where
+      at : (kind index language : ℕ) (o : Option Entry) → first (isEntry kind index language) (v .entries) ≡ o → Answered v d (setPart d (s .length) o)
+      at kind index language none e = missing
+      at kind index language (some x) e = fromSet x (s .length) (first-some (isEntry kind index language) (v .entries) e .0)
+
+  configurations : 1 ≤ d .state → Answered v d (setConfiguration v d s)
+  unfolding setConfiguration
+  configurations l = chosen (Answered v d) (eqb (s .value) 0) (λ e. unconfigures l)
+      (λ e. chosen (Answered v d) (any (λ c. eqb (c .value) (s .value)) (v .configurations)) (λ e. configures (s .value) l e) (λ e. missing))
+
+  answered : refusal (d .state) s ≡ 0 → Answered v d (request v d s)
+  unfolding request clearFeature setFeature setAddress getConfiguration getInterface setInterface
+  answered p =
+      chosen (Answered v d) (eqb (s .code) 0x00) (λ e. status)
+      (λ e. chosen (Answered v d) (eqb (s .code) 0x01) (λ e. features clearHalt 0 (lit≤ tt) haltCleared)
+      (λ e. chosen (Answered v d) (eqb (s .code) 0x03) (λ e. features setHalt 1 (lit≤ tt) haltSet)
+      (λ e. chosen (Answered v d) (eqb (s .code) 0x05) (λ e. let (a, b) = addressAllowed (d .state) s p (eqb-true (s .code) 5 e) in waits (s .value) a b)
+      (λ e. chosen (Answered v d) (eqb (s .code) 0x06) (λ e. descriptors)
+      (λ e. chosen (Answered v d) (eqb (s .code) 0x08) (λ e. reads _ refl refl)
+      (λ e. chosen (Answered v d) (eqb (s .code) 0x09) (λ e. configurations (configurationAllowed (d .state) s p (eqb-true (s .code) 9 e)))
+      (λ e. chosen (Answered v d) (eqb (s .code) 0x0A) (λ e. chosen (Answered v d) (hasInterface (selected v d) (s .index)) (λ e. reads _ refl refl) (λ e. missing))
+      (λ e. chosen (Answered v d) (hasSetting (selected v d) (s .index) (s .value)) (λ e. sets (s .index) (s .value) e) (λ e. missing)))))))))
+
+-- ---- the events
+module _ (v : View) (d : Device) where
+  setup : (s : Setup) → Answered v (withWaiting nothing d) (answerSetup v d s)
+  unfolding answerSetup
+  setup s = chosen (Answered v (withWaiting nothing d)) (eqb (refusal (d .state) s) 0)
+      (λ e. answered v (withWaiting nothing d) s (eqb-true (refusal (d .state) s) 0 e))
+      (λ e. let (l, h) = tableRefuses (d .state) s (eqb-false (refusal (d .state) s) 0 e) in refusedWith (refusal (d .state) s) l h)
+
+  found : (a : ℕ) {e : Endpoint} → endpointAt v d a ≡ some e → List·Memᴰ e (currentEndpoints v d)
+  found a p = first-some (λ e. eqb (e .address) a) (currentEndpoints v d) p .0
+
+  pub responded : (e : Event) → Responded v d e (respond v d e)
+  unfolding statusEnd halt packetPassed
+  responded (Request s) = answers (setup s)
+  responded Malformed = malformed
+  responded StatusEnd = chosen (Responded v d StatusEnd) (eqb (d .waiting) nothing) (λ e. nothingWaits) (λ e. applies (eqb-false (d .waiting) nothing e))
+  responded BusReset = resets
+  responded (Halt a) = at (endpointAt v d a) refl
+    where
+      at : (o : Option Endpoint) → endpointAt v d a ≡ o → Responded v d (Halt a) (haltAt d o)
+      at none p = noHalt
+      at (some e) p = chosen (Responded v d (Halt a)) (canHalt e) (λ t. halts e (found a p) t) (λ t. noHalt)
+  responded (PacketPassed a) = at (endpointAt v d a) refl
+    where
+      at : (o : Option Endpoint) → endpointAt v d a ≡ o → Responded v d (PacketPassed a) (passAt d o)
+      at none p = noPass
+      at (some e) p = chosen (Responded v d (PacketPassed a)) (canHalt e && not (bit (d .halts) (bitOf (e .address))))
+          (λ t. passes e (found a p) (both (canHalt e) (not (bit (d .halts) (bitOf (e .address)))) t .0)) (λ t. noPass)

@@ -1,0 +1,54 @@
+-- The recipients of the table's requests: 05, 06, 08 and 09 are a device's, 00, 01 and 03 anybody's, 0A and 0B an interface's. Assumes nothing.
+use Prim.Native.Nat.{ℕ, _%_, _≤_}
+use native.Mathlib.Omega.{arith}
+use mathlib.Core.Path.{_≡_, refl}
+use mathlib.Core.Bool.{Bool, true, false, _&&_, _||_}
+use mathlib.Core.Option.{Option, some, none}
+use lib.Dec.{eqb, leb}
+use borrow.Author.Tests.{eqb-true, leb-true}
+use Rattle.octets.specs.Sentences.{_⇒_, every}
+use Rattle.octets.proofs.Sentences.{both, if-then, first-some, every-member}
+use Rattle.requests.specs.declared.Setup.{Setup}
+use Rattle.requests.specs.declared.Row.{Row}
+use Rattle.requests.specs.Setup.{recipient}
+use Rattle.requests.specs.Table.{table, rowOf, refusalAt, refusal}
+
+-- what holds of every row's type and code holds of a setup that the table does not refuse
+tabled : (P : ℕ → ℕ → Bool) → every (λ r. P (r .kind) (r .code)) table ≡ true
+    → (state : ℕ) (s : Setup) → refusal state s ≡ 0 → P (s .kind) (s .code) ≡ true
+unfolding refusal
+tabled P all state s p = go (rowOf s) refl p
+  where
+    go : (o : Option Row) → rowOf s ≡ o → refusalAt o state s ≡ 0 → P (s .kind) (s .code) ≡ true
+    go none q n = absurd (omega arith)
+    go (some r) q n =
+        let (m, e) = first-some (λ x. eqb (x .kind) (s .kind) && eqb (x .code) (s .code)) table q in
+        let (k, c) = both (eqb (r .kind) (s .kind)) (eqb (r .code) (s .code)) e in
+        rw (← (eqb-true (r .kind) (s .kind) k), ← (eqb-true (r .code) (s .code) c)) (every-member (λ x. P (x .kind) (x .code)) all m)
+
+-- the requests of a device alone; those of a device, an interface or an endpoint; the others are an interface's
+abbrev pub ofDevice : ℕ → Bool
+ofDevice code = eqb code 5 || eqb code 6 || eqb code 8 || eqb code 9
+
+abbrev pub ofAny : ℕ → Bool
+ofAny code = eqb code 0 || eqb code 1 || eqb code 3
+
+abbrev inTable : ℕ → ℕ → Bool
+inTable kind code = leb (kind % 32) 2 && (ofDevice code ⇒ eqb (kind % 32) 0) && (ofDevice code || ofAny code || eqb (kind % 32) 1)
+
+pub record Tabled (s : Setup) : Type 0 where
+  pub known : recipient s ≤ 2
+  pub alone : ofDevice (s .code) ≡ true → recipient s ≡ 0
+  pub other : ofDevice (s .code) ≡ false → ofAny (s .code) ≡ false → recipient s ≡ 1
+
+pub table-fits : (state : ℕ) (s : Setup) → refusal state s ≡ 0 → Tabled s
+unfolding every
+table-fits state s p =
+    let f = tabled inTable refl state s p in
+    let (g, c) = both (leb (recipient s) 2 && (ofDevice (s .code) ⇒ eqb (recipient s) 0)) _ f in
+    let (a, b) = both (leb (recipient s) 2) (ofDevice (s .code) ⇒ eqb (recipient s) 0) g in
+    record {
+      known = leb-true _ _ a;
+      alone = λ q. eqb-true _ _ (if-then (ofDevice (s .code)) (eqb (recipient s) 0) b q);
+      other = λ q r. eqb-true _ _ (rw (q, r) at c);
+    }

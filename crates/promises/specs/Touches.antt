@@ -1,0 +1,213 @@
+-- An event that concerns interface j changes j's part alone, and drops what waits if it is a setup. Assumes nothing.
+use Prim.Native.Nat.{ℕ}
+use native.Mathlib.Omega.{arith}
+use mathlib.Core.Path.{_≡_, refl, sym, ap, _∙_}
+use mathlib.Core.Bool.{Bool, true, false, _&&_, not}
+use mathlib.Core.List.{List, List·Memᴰ}
+use mathlib.Core.Logic.{_⊎_, inl, inr}
+use mathlib.Core.Option.{Option, some, none, Option·some-injective}
+use lib.ListN.{getD, set}
+use lib.Seq.{getD-set-other}
+use lib.Dec.{eqb}
+use borrow.Author.Tests.{eqb-true}
+use Rattle.octets.specs.Bit.{bit, flipBit}
+use Rattle.octets.specs.Sentences.{pick, only}
+use Rattle.octets.proofs.Sentences.{both, only-member}
+use Rattle.octets.proofs.Bits.{set-other, clear-other, flip-other}
+use Rattle.descriptors.specs.declared.Endpoint.{Endpoint}
+use Rattle.descriptors.specs.Configuration.{Configuration, hasInterface, hasSetting, canHalt, bitOf, ofEither}
+use Rattle.sets.specs.View.{View}
+use Rattle.records.specs.declared.Device.{Device}
+use Rattle.records.specs.Device.{nothing, withWaiting, withEndpoints}
+use Rattle.records.specs.Current.{selected, endpointAt}
+use Rattle.requests.specs.declared.Setup.{Setup}
+use Rattle.requests.specs.Setup.{recipient}
+use Rattle.requests.specs.Table.{refusal}
+use Rattle.events.specs.declared.Outcome.{Outcome}
+use Rattle.events.specs.declared.Event.{Event}
+use Rattle.events.specs.declared.Event.the-variants.{Request, Malformed, StatusEnd, BusReset, Halt, PacketPassed}
+use Rattle.events.specs.Requests.{getStatus, endpointStatus, isEndpointZero, interfaceFeature, haltFeature, endpointFeature, clearHalt, setHalt, clearFeature, setFeature, getInterface, withSetting, setInterface}
+use Rattle.events.specs.Step.{request, answerSetup, haltAt, halt, passAt, packetPassed, respond}
+use Rattle.events.specs.Concerns.{listedBy, setupConcerns, eventConcerns}
+use Rattle.sets.proofs.Sound.{SoundConfiguration}
+use Rattle.promises.specs.Parts.{home, homeIn, shared, Same, rest, isSetup, self}
+use Rattle.promises.specs.Homes.{AllIn, all-in, at-home, found-home, cleared-other}
+use Rattle.promises.specs.Recipients.{ofDevice, Tabled, table-fits}
+
+pick-one : {A : Type 0} (P : A → Type 0) (b : Bool) {x y : A} → (b ≡ true → P x) → (b ≡ false → P y) → P (pick b x y)
+pick-one P true f g = f refl
+pick-one P false f g = g refl
+
+-- x differs from d in j's part alone
+pub record Touches (v : View) (j : ℕ) (d x : Device) : Type 0 where
+  pub still : rest x ≡ rest d
+  pub others : (k : ℕ) → (j ≡ k → ⊥) → Same v k x d
+
+module _ (v : View) (j : ℕ) (d : Device) where
+  touch-none : (x : Device) → x ≡ d → Touches v j d x
+  touch-none x p = rw p (record { still = refl; others = λ k n. self v k d })
+
+  touch-endpoints : (l : List ℕ) (b t : ℕ) → ((k : ℕ) → (j ≡ k → ⊥) → getD l k 0 ≡ getD (d .alternates) k 0)
+      → ((e : ℕ) → (home v (shared d) e ≡ j → ⊥) → bit b e ≡ bit (d .halts) e)
+      → ((e : ℕ) → (home v (shared d) e ≡ j → ⊥) → bit t e ≡ bit (d .toggles) e) → Touches v j d (withEndpoints l b t d)
+  touch-endpoints l b t p q r = record {
+    still = refl;
+    others = λ k n. record { firm = refl; alternate = p k n; halts = λ e m. q e (λ o. n (sym o ∙ m)); toggles = λ e m. r e (λ o. n (sym o ∙ m)) };
+  }
+
+  module _ (e : ℕ) (p : home v (shared d) e ≡ j) where
+    other-bit : (f : ℕ) → (home v (shared d) f ≡ j → ⊥) → e ≡ f → ⊥
+    other-bit f n q = n (ap (home v (shared d)) (sym q) ∙ p)
+
+    touch-set : Touches v j d (setHalt d e)
+    touch-set = touch-endpoints _ _ _ (λ k n. refl) (λ f n. set-other _ e f (other-bit f n)) (λ f n. refl)
+
+    touch-clear : Touches v j d (clearHalt d e)
+    touch-clear = touch-endpoints _ _ _ (λ k n. refl) (λ f n. clear-other _ e f (other-bit f n)) (λ f n. clear-other _ e f (other-bit f n))
+
+    touch-flip : Touches v j d (withEndpoints (d .alternates) (d .halts) (flipBit (d .toggles) e) d)
+    touch-flip = touch-endpoints _ _ _ (λ k n. refl) (λ f n. refl) (λ f n. flip-other _ e f (other-bit f n))
+
+  abbrev After : Outcome → Type 0
+  After o = Touches v j d (o .device)
+
+  module _ (S : SoundConfiguration (selected v d)) where
+    -- at the current endpoint with an address that j lists
+    touch-at : (a : ℕ) → AllIn (selected v d) a j → (P : Option Endpoint → Type 0) → P none
+        → ((e : Endpoint) → home v (shared d) (bitOf (e .address)) ≡ j → P (some e)) → P (endpointAt v d a)
+    unfolding home
+    touch-at a w P x f = go (endpointAt v d a) refl
+      where
+        go : (o : Option Endpoint) → endpointAt v d a ≡ o → P o
+        go none p = x
+        go (some e) p = f e (found-home (selected v d) S (d .alternates) a j w e p)
+
+    touch-halt : (a : ℕ) → AllIn (selected v d) a j → Touches v j d (halt v d a .device)
+    unfolding halt
+    touch-halt a w = touch-at a w (λ o. Touches v j d (haltAt d o .device)) (touch-none d refl)
+        (λ e p. pick-one After (canHalt e) (λ t. touch-set (bitOf (e .address)) p) (λ t. touch-none d refl))
+
+    touch-pass : (a : ℕ) → AllIn (selected v d) a j → Touches v j d (packetPassed v d a .device)
+    unfolding packetPassed
+    touch-pass a w = touch-at a w (λ o. Touches v j d (passAt d o .device)) (touch-none d refl)
+        (λ e p. pick-one After (canHalt e && not (bit (d .halts) (bitOf (e .address))))
+        (λ t. touch-flip (bitOf (e .address)) p) (λ t. touch-none d refl))
+
+    touch-feature : (change : Device → ℕ → Device) → ((e : ℕ) → home v (shared d) e ≡ j → Touches v j d (change d e))
+        → (q : Setup) → AllIn (selected v d) (q .index) j → Touches v j d (endpointFeature change v d q .device)
+    touch-feature change f q w = pick-one After (isEndpointZero (q .index)) (λ z. touch-none d refl)
+        (λ z. touch-at (q .index) w (λ o. Touches v j d (haltFeature change d q o .device)) (touch-none d refl)
+        (λ e p. pick-one After (eqb (q .value) 0 && canHalt e) (λ t. f (bitOf (e .address)) p) (λ t. touch-none d refl)))
+
+    -- SET_INTERFACE: every endpoint of the old and the new setting stands in j
+    touch-setting : (a : ℕ) → Touches v j d (withSetting v d j a)
+    unfolding home
+    touch-setting a = touch-endpoints _ _ _ (λ k n. getD-set-other (d .alternates) j k a 0 (λ p. n (sym p)))
+        (λ e n. cleared-other _ (d .halts) e (away e n)) (λ e n. cleared-other _ (d .toggles) e (away e n))
+      where
+        away : (e : ℕ) → (homeIn (selected v d) e ≡ j → ⊥)
+            → (x : Endpoint) → List·Memᴰ x (only (ofEither j (getD (d .alternates) j 0) a) (selected v d .endpoints)) → bitOf (x .address) ≡ e → ⊥
+        away e n x m p =
+            let (l, t) = only-member (ofEither j (getD (d .alternates) j 0) a) (selected v d .endpoints) m in
+            n (ap (homeIn (selected v d)) (sym p) ∙ at-home (selected v d) S x l ∙ eqb-true _ _ (both (eqb (x .interface) j) _ t .0))
+
+    touch-set-interface : (q : Setup) → q .index ≡ j → Touches v j d (setInterface v d q .device)
+    unfolding setInterface
+    touch-set-interface q p =
+        rw p (pick-one After (hasSetting (selected v d) j (q .value)) (λ t. touch-setting (q .value)) (λ t. touch-none d refl))
+
+-- ---- the requests that change nothing
+module _ (v : View) (d : Device) (q : Setup) where
+  abbrev Left : Outcome → Type 0
+  Left o = o .device ≡ d
+
+  status-leaves : getStatus v d q .device ≡ d
+  unfolding getStatus
+  status-leaves = pick-one Left (eqb (recipient q) 0) (λ p. refl) (λ p. pick-one Left (eqb (recipient q) 1)
+      (λ p. pick-one Left (hasInterface (selected v d) (q .index)) (λ p. refl) (λ p. refl))
+      (λ p. pick-one Left (isEndpointZero (q .index)) (λ p. refl) (λ p. at (endpointAt v d (q .index)))))
+    where
+      at : (o : Option Endpoint) → endpointStatus d o .device ≡ d
+      at none = refl
+      at (some e) = refl
+
+  feature-leaves : interfaceFeature v d q .device ≡ d
+  feature-leaves = pick-one Left (hasInterface (selected v d) (q .index)) (λ p. refl) (λ p. refl)
+
+  interface-leaves : getInterface v d q .device ≡ d
+  unfolding getInterface
+  interface-leaves = pick-one Left (hasInterface (selected v d) (q .index)) (λ p. refl) (λ p. refl)
+
+-- ---- a setup that concerns j
+-- to interface j, or to an endpoint whose address j lists
+setup-of : (c : Configuration) → SoundConfiguration c → (q : Setup) (j : ℕ) → setupConcerns c q ≡ some j
+    → ((recipient q ≡ 1) × (q .index ≡ j)) ⊎ ((recipient q ≡ 2) × AllIn c (q .index) j)
+setup-of c S q j p = first-test (eqb (recipient q) 1) (eqb (recipient q) 2) refl refl p
+  where
+    exists : (b : Bool) → pick b (some (q .index)) none ≡ some j → q .index ≡ j
+    exists true p = cc
+    exists false p = absurd (let z : _≡_ {A = ℕ} 0 1 = cc in omega arith)
+
+    first-test : (a b : Bool) → eqb (recipient q) 1 ≡ a → eqb (recipient q) 2 ≡ b
+        → pick a (pick (hasInterface c (q .index)) (some (q .index)) none) (pick b (listedBy c (q .index)) none) ≡ some j
+        → ((recipient q ≡ 1) × (q .index ≡ j)) ⊎ ((recipient q ≡ 2) × AllIn c (q .index) j)
+    first-test true b p r o = inl (eqb-true _ _ p, exists (hasInterface c (q .index)) o)
+    first-test false true p r o = inr (eqb-true _ _ r, all-in c S (q .index) j (λ i m. Option·some-injective i j (sym m ∙ o)))
+    first-test false false p r o = absurd (let z : _≡_ {A = ℕ} 0 1 = cc in omega arith)
+
+module _ (v : View) (j : ℕ) (d : Device) (S : SoundConfiguration (selected v d)) (q : Setup) (F : Tabled q) where
+  -- a device's request concerns no interface
+  not-device : (recipient q ≡ 0 → ⊥) → (code : ℕ) → ofDevice code ≡ true → eqb (q .code) code ≡ true → ⊥
+  not-device n code t p = n (F .alone (ap ofDevice (eqb-true (q .code) code p) ∙ t))
+
+  -- by the code, given what the requests of any recipient and the interface's own do
+  touch-code : (recipient q ≡ 0 → ⊥) → Touches v j d (clearFeature v d q .device) → Touches v j d (setFeature v d q .device)
+      → (recipient q ≡ 1 → Touches v j d (setInterface v d q .device)) → Touches v j d (request v d q .device)
+  unfolding request
+  touch-code n clear set interface =
+      let P : Outcome → Type 0 = λ o. Touches v j d (o .device) in
+      pick-one P (eqb (q .code) 0x00) (λ p. touch-none v j d _ (status-leaves v d q)) (λ n0.
+      pick-one P (eqb (q .code) 0x01) (λ p. clear) (λ n1.
+      pick-one P (eqb (q .code) 0x03) (λ p. set) (λ n3.
+      pick-one P (eqb (q .code) 0x05) (λ p. absurd (not-device n 0x05 refl p)) (λ n5.
+      pick-one P (eqb (q .code) 0x06) (λ p. absurd (not-device n 0x06 refl p)) (λ n6.
+      pick-one P (eqb (q .code) 0x08) (λ p. absurd (not-device n 0x08 refl p)) (λ n8.
+      pick-one P (eqb (q .code) 0x09) (λ p. absurd (not-device n 0x09 refl p)) (λ n9.
+      pick-one P (eqb (q .code) 0x0A) (λ p. touch-none v j d _ (interface-leaves v d q)) (λ m.
+      interface (F .other (rw (n5, n6, n8, n9)) (rw (n0, n1, n3)))))))))))
+
+  touch-request : ((recipient q ≡ 1) × (q .index ≡ j)) ⊎ ((recipient q ≡ 2) × AllIn (selected v d) (q .index) j)
+      → Touches v j d (request v d q .device)
+  unfolding clearFeature setFeature
+  touch-request (inl p) =
+      let r : recipient q ≡ 1 = p .0 in
+      touch-code (λ z. omega arith)
+      (rw r (touch-none v j d _ (feature-leaves v d q)))
+      (rw r (touch-none v j d _ (feature-leaves v d q)))
+      (λ t. touch-set-interface v j d S q (p .1))
+  touch-request (inr p) =
+      let r : recipient q ≡ 2 = p .0 in
+      touch-code (λ z. omega arith)
+      (rw r (touch-feature v j d S clearHalt (touch-clear v j d) q (p .1)))
+      (rw r (touch-feature v j d S setHalt (touch-set v j d) q (p .1)))
+      (λ t. absurd (omega arith))
+
+-- the record once a setup has dropped what waits
+abbrev pub settled : Device → Event → Device
+settled d e = pick (isSetup e) (withWaiting nothing d) d
+
+touch-setup : (v : View) (j : ℕ) (d : Device) → SoundConfiguration (selected v d) → (q : Setup) → setupConcerns (selected v d) q ≡ some j
+    → Touches v j (withWaiting nothing d) (answerSetup v d q .device)
+unfolding answerSetup
+touch-setup v j d S q c = pick-one (λ (o : Outcome). Touches v j (withWaiting nothing d) (o .device)) (eqb (refusal (d .state) q) 0)
+    (λ p. touch-request v j (withWaiting nothing d) S q (table-fits (d .state) q (eqb-true _ _ p)) (setup-of (selected v d) S q j c))
+    (λ p. touch-none v j (withWaiting nothing d) _ refl)
+
+pub touch-event : (v : View) (j : ℕ) (d : Device) → SoundConfiguration (selected v d) → (e : Event) → eventConcerns (selected v d) e ≡ some j
+    → Touches v j (settled d e) (respond v d e .device)
+touch-event v j d S (Request q) c = touch-setup v j d S q c
+touch-event v j d S Malformed c = absurd (let z : _≡_ {A = ℕ} 0 1 = cc in omega arith)
+touch-event v j d S StatusEnd c = absurd (let z : _≡_ {A = ℕ} 0 1 = cc in omega arith)
+touch-event v j d S BusReset c = absurd (let z : _≡_ {A = ℕ} 0 1 = cc in omega arith)
+touch-event v j d S (Halt a) c = touch-halt v j d S a (all-in (selected v d) S a j (λ i m. Option·some-injective i j (sym m ∙ c)))
+touch-event v j d S (PacketPassed a) c = touch-pass v j d S a (all-in (selected v d) S a j (λ i m. Option·some-injective i j (sym m ∙ c)))
