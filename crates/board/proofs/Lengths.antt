@@ -1,0 +1,50 @@
+-- What opening and events do by the image's length, and an answer's two bytes. Assumes nothing.
+use Prim.Native.Nat.{ℕ}
+use mathlib.Core.Path.{_≡_, refl, sym, _∙_}
+use mathlib.Core.List.{List, [], _∷_}
+use lib.ListN.{length}
+use lib.Dec.{eqb}
+use borrow.Author.Tests.{eq-eqb, ne-eqb}
+use Rattle.descriptors.specs.Limits.{fullSpeed}
+use Rattle.sets.specs.Opening.{Board, opening}
+use Rattle.records.specs.Device.{fresh}
+use Rattle.octets.specs.Octets.{byte}
+use Rattle.records.specs.Image.{imageOf}
+use Rattle.records.specs.Image.{deviceOf}
+use Rattle.events.specs.declared.Answer.{Answer}
+use Rattle.events.specs.declared.Answer.the-variants.{Done, OneByte, TwoBytes, SetPart, SerialPart, Refused}
+use Rattle.events.specs.declared.Event.{Event}
+use Rattle.events.specs.Answer.{bytesOf}
+use Rattle.events.specs.Step.{opened, Reply, replyOf, step, event}
+use Rattle.board.specs.Statements.{Opens, padded}
+
+module _ (b : Board) (image : List ℕ) where
+  pub open-short : (length image ≡ 32 → ⊥) → Opens b image 8 image
+  unfolding opened
+  open-short n = record { number = rw (ne-eqb (length image) 32 n); leaves = rw (ne-eqb (length image) 32 n) }
+
+  pub open-whole : length image ≡ 32 → (n : ℕ) (left : List ℕ) → n ≡ opening fullSpeed b → left ≡ imageOf fresh → Opens b image n left
+  unfolding opened
+  open-whole l n left p q = record { number = rw (eq-eqb (length image) 32 l) p; leaves = rw (eq-eqb (length image) 32 l) q }
+
+  module _ (e : Event) where
+    pub event-short : (length image ≡ 32 → ⊥) → (n : ℕ) → n ≡ opening fullSpeed b → n ≡ 0 → event b image e ≡ record { answer = Refused 8; image = image }
+    unfolding event
+    event-short s n p q = rw (ne-eqb (length image) 32 s, eq-eqb (opening fullSpeed b) 0 (sym p ∙ q))
+
+    pub event-refused : (length image ≡ 32 → ⊥) → (n : ℕ) → n ≡ opening fullSpeed b → (n ≡ 0 → ⊥) → event b image e ≡ record { answer = Refused 7; image = image }
+    unfolding event
+    event-refused s n p q = rw (ne-eqb (length image) 32 s, ne-eqb (opening fullSpeed b) 0 (λ z. q (p ∙ z)))
+
+    pub event-whole : length image ≡ 32 → event b image e ≡ replyOf (step b (deviceOf image) e)
+    unfolding event
+    event-whole l = rw (eq-eqb (length image) 32 l)
+
+-- the two bytes of an answer, those not handed back 0
+pub two-bytes : (a : Answer) → byte (bytesOf a) 0 ∷ byte (bytesOf a) 1 ∷ [] ≡ padded (bytesOf a)
+two-bytes Done = refl
+two-bytes (OneByte x) = refl
+two-bytes (TwoBytes x y) = refl
+two-bytes (SetPart offset size) = refl
+two-bytes (SerialPart size) = refl
+two-bytes (Refused n) = refl

@@ -1,0 +1,56 @@
+-- `board::event` meets its contract, by the image's length. Assumes nothing.
+use mathlib.Core.Path.{_≡_, sym, ap, _∙_}
+use Rattle.records.specs.declared.Device.{Device}
+use Rattle.records.specs.Image.{imageOf}
+use Rattle.events.specs.declared.Outcome.{Outcome}
+use Rattle.events.specs.Step.{Reply, step, event}
+use Rattle.board.specs.Statements.{lent}
+use Rattle.board.proofs.Lengths.{event-short, event-refused, event-whole}
+use borrow.Author.Needs.{needs}
+use Rattle.board.proofs.event.Statement.{statement}
+use Rattle.board.proofs.event.Tie as tie
+
+returns : tie.Need-returns
+returns c = 
+    let q = event-short _ _ _ (c .before .if1 .taken) _ (c .before .before .before .before .before .pre) (c .if2 .taken) in
+    (ap (λ (r : Reply). r .answer) (sym q), ap (λ (r : Reply). r .image) (sym q))
+
+returns-2 : tie.Need-returns-2
+returns-2 c = 
+    let q = event-refused _ _ _ (c .before .if1 .taken) _ (c .before .before .before .before .before .pre) (c .if2 .left) in
+    (ap (λ (r : Reply). r .answer) (sym q), ap (λ (r : Reply). r .image) (sym q))
+
+load-requires : tie.Need-load-requires
+load-requires c κs = search needs
+
+step-opened-requires : tie.Need-step-opened-requires
+step-opened-requires c κs = search needs
+
+store-requires : tie.Need-store-requires
+store-requires c κs = search needs
+
+same-length : tie.Need-same-length
+same-length c = search needs
+
+returns-3 : tie.Need-returns-3
+returns-3 c = 
+    let start = c .before .before .before .before .before .before .before .before in
+    let a = start .before .before .before .before .args in
+    let b = lent (a .set .now) (a .serial .now) in
+    let s = c .before .before .before .before .before .step-opened .ensures ∙ ap (λ (d : Device). step b d (a .what)) (c .before .before .before .before .before .before .load .ensures) in
+    let q = event-whole b (a .image .now) (a .what) (start .if1 .left) in (
+      ap (λ (o : Outcome). o .answer) s ∙ ap (λ (r : Reply). r .answer) (sym q),
+      c .before .before .store .ensures ∙ ap (λ (o : Outcome). imageOf (o .device)) s ∙ ap (λ (r : Reply). r .image) (sym q),
+    )
+
+pub event-spec : {M : Type 1} → statement M
+event-spec =
+    tie.close
+    (tie.spec
+    returns
+    returns-2
+    load-requires
+    step-opened-requires
+    store-requires
+    same-length
+    returns-3)

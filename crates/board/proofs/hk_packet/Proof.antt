@@ -1,0 +1,24 @@
+-- `board::hk_packet` meets its contract: the cutter's number and part. Assumes nothing.
+use mathlib.Core.Path.{ap}
+use Rattle.packets.specs.declared.Packet.{Packet}
+use borrow.Author.Needs.{needs}
+use Rattle.board.proofs.hk_packet.Statement.{statement}
+use Rattle.board.proofs.hk_packet.Tie as tie
+
+cut-requires : tie.Need-cut-requires
+cut-requires c κs = search needs
+
+packet-of-requires : tie.Need-packet-of-requires
+packet-of-requires c κs = search needs
+
+returns : tie.Need-returns
+returns c =
+    let p = c .before .cut .ensures in
+    record {
+      number = ap (λ (x : Packet). x .number) (c .packet-of .ensures);
+      shows = p .0;
+      lies = rw (p .1 .0, p .1 .1);
+    }
+
+pub hk-packet-spec : {M : Type 1} → statement M
+hk-packet-spec = tie.close (tie.spec cut-requires packet-of-requires returns)

@@ -1,0 +1,40 @@
+-- The statements decide: any two results that meet an export's statement are equal in all that it gives and leaves. Assumes nothing.
+use Prim.Native.Nat.{ℕ}
+use mathlib.Core.Path.{_≡_, sym, _∙_}
+use mathlib.Core.List.{List}
+use Rattle.sets.specs.Opening.{Board}
+use Rattle.events.specs.declared.Answer.{Answer}
+use Rattle.events.specs.declared.Event.{Event}
+use Rattle.records.specs.declared.Device.{Device}
+use Rattle.board.specs.Statements.{Opens, Happens, Spot, Hands, Replies, Cuts}
+use Rattle.board.specs.Lent.{Answers}
+
+-- two things that are one third thing are equal
+same : {A : Type 0} {x y z : A} → x ≡ z → y ≡ z → x ≡ y
+same p q = p ∙ sym q
+
+pub opens : {b : Board} {image : List ℕ} {n m : ℕ} {left other : List ℕ} → Opens b image n left → Opens b image m other → (n ≡ m) × (left ≡ other)
+opens p q = (same (p .number) (q .number), same (p .leaves) (q .leaves))
+
+pub happens : {b : Board} {image : List ℕ} {e : Event} {n m : ℕ} {left other : List ℕ}
+    → Happens b image e n left → Happens b image e m other → (n ≡ m) × (left ≡ other)
+happens p q = (same (p .number) (q .number), same (p .leaves) (q .leaves))
+
+pub hands : {b : Board} {set serial : Spot} {a : Answer} {n m : ℕ} {bytes others : List ℕ} {count also : ℕ} {part piece : List ℕ} {spot place : Spot}
+    → Hands b set serial a n bytes count part spot → Hands b set serial a m others also piece place
+    → (n ≡ m) × (bytes ≡ others) × (count ≡ also) × (part ≡ piece) × (spot ≡ place)
+hands p q = (same (p .number) (q .number), same (p .hands) (q .hands), same (p .counts) (q .counts), same (p .shows) (q .shows), same (p .lies) (q .lies))
+
+pub replies : {b : Board} {set serial : Spot} {image setup : List ℕ} {n m : ℕ} {left other bytes others : List ℕ} {count also : ℕ} {part piece : List ℕ} {spot place : Spot}
+    → Replies b set serial image setup n left bytes count part spot → Replies b set serial image setup m other others also piece place
+    → (left ≡ other) × ((n ≡ m) × (bytes ≡ others) × (count ≡ also) × (part ≡ piece) × (spot ≡ place))
+replies p q = (same (p .leaves) (q .leaves), hands (p .answers) (q .answers))
+
+pub answers : {b : Board} {set serial : Spot} {device : Device} {e : Event} {n m : ℕ} {left other : Device} {bytes others : List ℕ} {count also : ℕ} {part piece : List ℕ} {spot place : Spot}
+    → Answers b set serial device e n left bytes count part spot → Answers b set serial device e m other others also piece place
+    → (left ≡ other) × ((n ≡ m) × (bytes ≡ others) × (count ≡ also) × (part ≡ piece) × (spot ≡ place))
+answers p q = (same (p .leaves) (q .leaves), hands (p .answers) (q .answers))
+
+pub cuts : {reply : List ℕ} {at : Spot} {asked size k n m : ℕ} {part piece : List ℕ} {spot place : Spot}
+    → Cuts reply at asked size k n part spot → Cuts reply at asked size k m piece place → (n ≡ m) × (part ≡ piece) × (spot ≡ place)
+cuts p q = (same (p .number) (q .number), same (p .shows) (q .shows), same (p .lies) (q .lies))

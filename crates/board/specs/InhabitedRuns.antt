@@ -1,0 +1,79 @@
+-- The premises of the theorems over runs hold of something: the titrator T, opened, addressed and configured, and two orders of its two
+-- interfaces' calls.
+use Prim.Native.Nat.{ℕ, zero, suc}
+use native.Mathlib.Omega.{arith}
+use mathlib.Core.Path.{_≡_, refl}
+use mathlib.Core.List.{List, [], _∷_, _++_}
+use lib.ListN.{replicate}
+use borrow.Author.Tests.{ne-eqb}
+use Rattle.octets.specs.Sentences.{only}
+use Rattle.promises.specs.Examples.{bytes, computed, T}
+use Rattle.promises.specs.Inhabited.{bytesT}
+use Rattle.promises.specs.InhabitedOrder.{configuredImage, imageBytes}
+use Rattle.board.specs.Statements.{Opens, Spot}
+use Rattle.board.specs.Runs.{Call, setup, statusEnd, halt, packetPassed, Given, number, handed, Runs, runs, decided, Refuses, refusals, NotEight, Throughout, freshImage, neverEightAfter}
+use Rattle.board.specs.Order.{concernsThis, Reordered, orderAfterOpening}
+
+-- ---- any 32 bytes, opened; then SET_ADDRESS 5, its status end, SET_CONFIGURATION 1
+abbrev pub start : List ℕ
+start = replicate 32 170
+
+pub opens : Opens T start 0 freshImage
+unfolding computed
+opens = record { number = refl; leaves = refl }
+
+abbrev pub configuring : List Call
+configuring = setup (bytes 8 0x0005050000000000) ∷ statusEnd ∷ setup (bytes 8 0x0009010000000000) ∷ []
+
+-- where the set and the serial block lie
+abbrev pub setSpot : Spot
+setSpot = record { block = 1; offset = 0 }
+
+abbrev pub serialSpot : Spot
+serialSpot = record { block = 2; offset = 0 }
+
+abbrev pub doneAlone : Given
+doneAlone = handed 0 (0 ∷ 0 ∷ []) 0 [] setSpot
+
+pub configures : Runs T setSpot serialSpot freshImage configuring (doneAlone ∷ number 0 ∷ doneAlone ∷ []) configuredImage
+unfolding computed
+configures = runs T setSpot serialSpot freshImage configuring
+
+pub configuresDecided : {gs : List Given} {last : List ℕ} → Runs T setSpot serialSpot freshImage configuring gs last → last ≡ configuredImage
+configuresDecided r = decided T setSpot serialSpot r configures .1
+
+pub configuresRefuses : Throughout (Refuses T setSpot serialSpot) configures
+configuresRefuses = refusals T setSpot serialSpot configures
+
+pub configuresNotEight : Throughout NotEight configures
+configuresNotEight = neverEightAfter T setSpot serialSpot bytesT refl opens configures
+
+-- ---- interface 0's packet at 81 and interface 1's SET_INTERFACE 1, then its halt at 85
+abbrev pub oneOrder : List Call
+oneOrder = packetPassed 0x81 ∷ setup (bytes 8 0x010B010001000000) ∷ halt 0x85 ∷ []
+
+abbrev pub otherOrder : List Call
+otherOrder = setup (bytes 8 0x010B010001000000) ∷ halt 0x85 ∷ packetPassed 0x81 ∷ []
+
+-- interface 1 in setting 1, 85 halted, 81's toggle up
+abbrev pub lastImage : List ℕ
+lastImage = 2 ∷ 5 ∷ 255 ∷ 1 ∷ 0 ∷ 0 ∷ 0 ∷ 0 ∷ 0 ∷ 1 ∷ replicate 14 0 ++ 0 ∷ 0 ∷ 32 ∷ 0 ∷ 0 ∷ 0 ∷ 2 ∷ 0 ∷ []
+
+same : (k : ℕ) → only (concernsThis T configuredImage k) oneOrder ≡ only (concernsThis T configuredImage k) otherOrder
+unfolding computed
+same zero = refl
+same (suc zero) = refl
+same (suc (suc k)) = rw (ne-eqb 0 (suc (suc k)) (λ p. omega arith), ne-eqb 1 (suc (suc k)) (λ p. omega arith)) refl
+
+pub reordered : Reordered T configuredImage oneOrder otherOrder
+unfolding computed
+reordered = record { one = refl; other = refl; same = same }
+
+pub oneEnds : Runs T setSpot serialSpot configuredImage oneOrder (number 0 ∷ doneAlone ∷ number 0 ∷ []) lastImage
+unfolding computed
+oneEnds = runs T setSpot serialSpot configuredImage oneOrder
+
+-- whatever the other run gives and leaves, it leaves that
+pub otherEnds : {gs : List Given} {last : List ℕ} → Runs T setSpot serialSpot configuredImage otherOrder gs last → lastImage ≡ last
+unfolding computed
+otherEnds r = orderAfterOpening T setSpot serialSpot bytesT refl opens configures imageBytes oneEnds r reordered .0

@@ -1,0 +1,137 @@
+// The C interface: every function of include/heideklonk.h, and nothing else.
+use events::Answer;
+use events::Event;
+use records::Device;
+ghost use mathlib.Core.Path.{_≡_};
+ghost use Rattle.descriptors.specs.Limits.{fullSpeed};
+ghost use Rattle.sets.specs.Opening.{opening};
+ghost use Rattle.events.specs.Step.{event};
+ghost use Rattle.events.specs.declared.Event.the-variants.{StatusEnd, BusReset, Halt, PacketPassed};
+ghost use Rattle.board.specs.Lent.{numbered, Answers};
+ghost use Rattle.board.specs.Statements.{lent, Opens, Happens, Replies, Cuts, spotOf};
+
+mod numbers;
+
+// Opens a set with its serial block: the image becomes the fresh record, whether they are accepted or not.
+#[no_mangle]
+pub extern "C" fn hk_open(set: &[u8], serial: &[u8], image: &mut [u8]) -> u8
+    ensures { λ r. ⌜ Opens (lent (now (set .entry)) (now (serial .entry))) (now (image .entry)) r (now (image .exit)) ⌝ }
+{
+    if image.len() != 32 {
+        return 8;
+    }
+    records::store(records::fresh(), image);
+    events::opening(set, serial)
+}
+
+// An event, on an image of any length. `number` is what opening gives: it is asked before this frame stands, to spare the stack.
+fn event(number: u8, set: &[u8], serial: &[u8], image: &mut [u8], what: Event) -> Answer
+    requires { ⌜ number ≡ opening fullSpeed (lent (now set) (now serial)) ⌝ }
+    ensures answer { λ r. ⌜ r ≡ event (lent (now (set .entry)) (now (serial .entry))) (now (image .entry)) what .answer ⌝ }
+    ensures image { λ _. ⌜ now (image .exit) ≡ event (lent (now (set .entry)) (now (serial .entry))) (now (image .entry)) what .image ⌝ }
+{
+    if image.len() != 32 {
+        if number == 0 {
+            return Answer::Refused(8);
+        }
+        return Answer::Refused(7);
+    }
+    let was = records::load(image);
+    let outcome = events::step_opened(number, set, serial, was, what);
+    let next = outcome.device;
+    records::store(next, image);
+    outcome.answer
+}
+
+// Answers a setup: its number; the bytes handed back and how many count; the part of the set or the serial block.
+#[no_mangle]
+pub extern "C" fn hk_setup<'a>(
+    set: &'a [u8],
+    serial: &'a [u8],
+    image: &mut [u8],
+    setup: &[u8],
+    bytes: &mut [u8; 2],
+    count: &mut u8,
+    part: &mut &'a [u8],
+) -> u8
+    ensures { λ r. ⌜ Replies (lent (now (set .entry)) (now (serial .entry))) (spotOf ((set .entry) .ptr)) (spotOf ((serial .entry) .ptr)) (now (image .entry)) (now (setup .entry))
+        r (now (image .exit)) (now (bytes .exit)) (now (count .exit)) (now (now (part .exit))) (spotOf ((now (part .exit)) .ptr)) ⌝ }
+{
+    let number = events::opening(set, serial);
+    let answer = event(number, set, serial, image, events::setup_event(setup));
+    numbers::hand_out(set, serial, answer, bytes, count, part)
+}
+
+// The status stage has ended: a waiting address is taken.
+#[no_mangle]
+pub extern "C" fn hk_status_end(set: &[u8], serial: &[u8], image: &mut [u8]) -> u8
+    ensures { λ r. ⌜ Happens (lent (now (set .entry)) (now (serial .entry))) (now (image .entry)) StatusEnd r (now (image .exit)) ⌝ }
+{
+    let number = events::opening(set, serial);
+    events::reply::number(event(number, set, serial, image, Event::StatusEnd))
+}
+
+// The bus was reset: the fresh record.
+#[no_mangle]
+pub extern "C" fn hk_bus_reset(set: &[u8], serial: &[u8], image: &mut [u8]) -> u8
+    ensures { λ r. ⌜ Happens (lent (now (set .entry)) (now (serial .entry))) (now (image .entry)) BusReset r (now (image .exit)) ⌝ }
+{
+    let number = events::opening(set, serial);
+    events::reply::number(event(number, set, serial, image, Event::BusReset))
+}
+
+// The function halts an endpoint.
+#[no_mangle]
+pub extern "C" fn hk_halt(set: &[u8], serial: &[u8], image: &mut [u8], endpoint: u8) -> u8
+    ensures { λ r. ⌜ Happens (lent (now (set .entry)) (now (serial .entry))) (now (image .entry)) (Halt endpoint) r (now (image .exit)) ⌝ }
+{
+    let number = events::opening(set, serial);
+    events::reply::number(event(number, set, serial, image, Event::Halt(endpoint)))
+}
+
+// A packet has passed at an endpoint.
+#[no_mangle]
+pub extern "C" fn hk_packet_passed(set: &[u8], serial: &[u8], image: &mut [u8], endpoint: u8) -> u8
+    ensures { λ r. ⌜ Happens (lent (now (set .entry)) (now (serial .entry))) (now (image .entry)) (PacketPassed endpoint) r (now (image .exit)) ⌝ }
+{
+    let number = events::opening(set, serial);
+    events::reply::number(event(number, set, serial, image, Event::PacketPassed(endpoint)))
+}
+
+// Packet `number` of a reply to a request that asked for `asked` bytes, with packets of `size` bytes: a part of the reply, and no copy.
+#[no_mangle]
+pub extern "C" fn hk_packet<'a>(
+    reply: &'a [u8],
+    asked: u16,
+    size: u32,
+    number: u32,
+    cut: &mut &'a [u8],
+) -> u8
+    ensures { λ r. ⌜ Cuts (now (reply .entry)) (spotOf ((reply .entry) .ptr)) asked size number r (now (now (cut .exit))) (spotOf ((now (cut .exit)) .ptr)) ⌝ }
+{
+    *cut = packets::cut(reply, asked, size, number);
+    let here = packets::packet_of(reply.len(), asked, size, number);
+    here.number
+}
+
+// Any event, by its number, on a record that is lent and changed where it stands: for a board that keeps its record aligned.
+#[no_mangle]
+pub extern "C" fn hk_record_event<'a>(
+    set: &'a [u8],
+    serial: &'a [u8],
+    device: &mut Device,
+    kind: u8,
+    endpoint: u8,
+    setup: &[u8],
+    bytes: &mut [u8; 2],
+    count: &mut u8,
+    part: &mut &'a [u8],
+) -> u8
+    ensures { λ r. ⌜ Answers (lent (now (set .entry)) (now (serial .entry))) (spotOf ((set .entry) .ptr)) (spotOf ((serial .entry) .ptr)) (now (device .entry)) (numbered kind endpoint (now (setup .entry)))
+        r (now (device .exit)) (now (bytes .exit)) (now (count .exit)) (now (now (part .exit))) (spotOf ((now (part .exit)) .ptr)) ⌝ }
+{
+    let number = events::opening(set, serial);
+    let event = numbers::event_of(kind, endpoint, setup);
+    let answer = events::step_lent(number, device, set, serial, event);
+    numbers::hand_out(set, serial, answer, bytes, count, part)
+}
