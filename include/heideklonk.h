@@ -1,0 +1,166 @@
+/* Heideklonk: a USB 2.0 chapter 9 device library ("control pipe") for full speed, called from C or C++.
+ *
+ * The firmware keeps three blocks of bytes and lends them to each call:
+ *
+ *   set     the descriptor set, at most 16,384 bytes: contents first, then bodies. Only read.
+ *   serial  the serial block: this unit's serial number as a string descriptor, or empty. Only read.
+ *   image   the device record, HK_IMAGE_LENGTH bytes. Changed where it stands, by these calls alone.
+ *
+ * The library keeps nothing between calls and allocates nothing. Every call checks the set, the serial block and the
+ * image anew, whatever their lengths, and answers with a number: HK_DONE, or why it refused. The set and the serial block
+ * are meant to stay as they are: an image fits one set, and after a change of the set only hk_open makes it fit again.
+ *
+ * What the caller owes, for every call:
+ *   - A pointer and its length name memory that stays readable for the whole call (writable for image, bytes, count,
+ *     part and packet).
+ *   - What is written (image, bytes, count, part, packet) overlaps nothing else that is passed. Set, serial and setup,
+ *     which are only read, may overlap each other.
+ *   - A pointer whose length is 0 may be NULL. This is tested and not proved.
+ *   - A hk_part holds a valid value at the call: HK_NO_PART, or what an earlier call left there.
+ *   - A part points into the set, the serial block or the reply that was lent. It is no copy: it lasts as long as they do.
+ *   - One image is lent to one call at a time.
+ */
+#ifndef HEIDEKLONK_H
+#define HEIDEKLONK_H
+
+#include <stddef.h>
+#include <stdint.h>
+
+#ifdef __cplusplus
+extern "C" {
+#endif
+
+#define HK_IMAGE_LENGTH 32
+#define HK_SETUP_LENGTH 8
+
+/* The numbers given back. */
+#define HK_DONE 0                     /* done: with 0, 1 or 2 bytes, or a part */
+#define HK_FRAME_BROKEN 1             /* opening: the set's first 4 bytes, or its length */
+#define HK_CONTENTS_BROKEN 2          /* opening: an entry of the contents */
+#define HK_DEVICE_BROKEN 3            /* opening: the device descriptor */
+#define HK_CONFIGURATION_BROKEN 4     /* opening: a configuration body */
+#define HK_STRING_BROKEN 5            /* opening: a string, a language or a reference */
+#define HK_SERIAL_BROKEN 6            /* opening: the serial block */
+#define HK_SET_NOT_ACCEPTABLE 7       /* event: hk_open would refuse the set or the serial block */
+#define HK_RECORD_DOES_NOT_FIT 8      /* the image is not 32 bytes, or (events) does not fit the set */
+#define HK_SETUP_LENGTH_WRONG 9       /* the setup is not 8 bytes */
+#define HK_REQUEST_UNKNOWN 10         /* STALL: request type and code are not in the request table */
+#define HK_NOT_IN_THIS_STATE 11       /* STALL: not allowed in this state */
+#define HK_FIELD_WRONG 12             /* STALL: wrong wValue, wIndex or wLength */
+#define HK_DOES_NOT_EXIST 13          /* STALL: no such descriptor, configuration, interface, setting or endpoint */
+#define HK_NO_SUCH_FEATURE 14         /* STALL: feature not there for this recipient */
+#define HK_NO_SUCH_PACKET 15          /* packet: size, lengths or packet number */
+#define HK_ENDPOINT_UNFIT 16          /* function event on an unfit endpoint */
+
+/* Bytes in memory that the caller lent. Test length, not start: an empty part has a start too. */
+typedef struct hk_part {
+    const uint8_t *start;
+    size_t length;
+} hk_part;
+
+/* Initialises a hk_part: hk_part part = HK_NO_PART; */
+#define HK_NO_PART { (const uint8_t *)"", 0 }
+
+/* Power-on: checks the set and the serial block, and makes the image the fresh record (state Default, address 0).
+ *
+ * HK_DONE: acceptable. HK_FRAME_BROKEN to HK_SERIAL_BROKEN: the first group of rules that is broken. In all these cases
+ * the image is fresh afterwards, whatever it held. HK_RECORD_DOES_NOT_FIT: image_length is not HK_IMAGE_LENGTH; nothing
+ * was looked at or changed.
+ *
+ * This is the only call that mends an image that does not fit. */
+uint8_t hk_open(const uint8_t *set, size_t set_length, const uint8_t *serial, size_t serial_length,
+                uint8_t *image, size_t image_length);
+
+/* A SETUP packet has arrived: its 8 bytes, as they stood on the bus.
+ *
+ * HK_DONE: answer it. Either *count is 1 or 2, and so many of bytes[0] and bytes[1] are the data stage; or part->length
+ * is not 0, and the part is the data stage. Cut it with hk_packet, which is told the setup's wLength too. With neither,
+ * no data goes out and the status stage follows.
+ * HK_REQUEST_UNKNOWN to HK_NO_SUCH_FEATURE: answer with STALL; only a waiting address was dropped.
+ * HK_SET_NOT_ACCEPTABLE, HK_RECORD_DOES_NOT_FIT, HK_SETUP_LENGTH_WRONG: nothing was changed.
+ *
+ * bytes, *count and *part are always written. What is not handed back is 0: a refusal leaves count 0 and bytes 0, 0, and
+ * one byte leaves bytes[1] 0. A part that is not handed back is the set's first 0 bytes.
+ *
+ * A new address only waits here: hk_status_end takes it, so that the status stage still goes out under the old one. */
+uint8_t hk_setup(const uint8_t *set, size_t set_length, const uint8_t *serial, size_t serial_length,
+                 uint8_t *image, size_t image_length, const uint8_t *setup, size_t setup_length,
+                 uint8_t bytes[2], uint8_t *count, hk_part *part);
+
+/* The status stage of a control transfer has ended: takes the waiting address, if one waits. image[1] is then the
+ * address to answer to.
+ *
+ * HK_DONE, HK_SET_NOT_ACCEPTABLE or HK_RECORD_DOES_NOT_FIT; the last two change nothing. */
+uint8_t hk_status_end(const uint8_t *set, size_t set_length, const uint8_t *serial, size_t serial_length,
+                      uint8_t *image, size_t image_length);
+
+/* The bus was reset: makes the image the fresh record.
+ *
+ * HK_DONE, HK_SET_NOT_ACCEPTABLE or HK_RECORD_DOES_NOT_FIT; the last two change nothing. On an image that does not fit,
+ * this is HK_RECORD_DOES_NOT_FIT and mends nothing: call hk_open. */
+uint8_t hk_bus_reset(const uint8_t *set, size_t set_length, const uint8_t *serial, size_t serial_length,
+                     uint8_t *image, size_t image_length);
+
+/* The function halts an endpoint: a bulk or interrupt endpoint of a current setting, by its address (bit 7 is the
+ * direction). Its data toggle stays.
+ *
+ * HK_DONE; HK_ENDPOINT_UNFIT for any other address; HK_SET_NOT_ACCEPTABLE or HK_RECORD_DOES_NOT_FIT. All but HK_DONE
+ * change nothing. */
+uint8_t hk_halt(const uint8_t *set, size_t set_length, const uint8_t *serial, size_t serial_length,
+                uint8_t *image, size_t image_length, uint8_t endpoint);
+
+/* A data packet has passed on an endpoint: flips its data toggle. A bulk or interrupt endpoint of a current setting that
+ * is not halted, by its address (bit 7 is the direction).
+ *
+ * HK_DONE; HK_ENDPOINT_UNFIT for any other address; HK_SET_NOT_ACCEPTABLE or HK_RECORD_DOES_NOT_FIT. All but HK_DONE
+ * change nothing. */
+uint8_t hk_packet_passed(const uint8_t *set, size_t set_length, const uint8_t *serial, size_t serial_length,
+                         uint8_t *image, size_t image_length, uint8_t endpoint);
+
+/* The device record as a struct, in the order of its image. On a little-endian machine its 32 bytes are the image, so
+ * hk_open opens a record too: hk_open(set, set_length, serial, serial_length, (uint8_t *)&record, sizeof record). */
+typedef struct hk_record {
+    uint8_t state;          /* 0 Default, 1 Address, 2 Configured */
+    uint8_t address;        /* the address to answer to */
+    uint8_t waiting;        /* the address that hk_status_end takes, 255 for none */
+    uint8_t configuration;  /* the selected bConfigurationValue, 0 for none */
+    uint8_t wakeup;         /* 1: the host has allowed remote wakeup */
+    uint8_t power, suspended, speed; /* 0 */
+    uint8_t alternates[16]; /* the current setting of each interface */
+    uint32_t halts;         /* bit e: OUT endpoint e is halted; bit 16 + e: IN endpoint e */
+    uint32_t toggles;       /* the data toggles, in the same order */
+} hk_record;
+
+/* The events of hk_record_event. */
+#define HK_EVENT_SETUP 0         /* as hk_setup: reads setup */
+#define HK_EVENT_STATUS_END 1    /* as hk_status_end */
+#define HK_EVENT_BUS_RESET 2     /* as hk_bus_reset */
+#define HK_EVENT_HALT 3          /* as hk_halt: reads endpoint */
+#define HK_EVENT_PACKET_PASSED 4 /* as hk_packet_passed: reads endpoint */
+
+/* Any event, on a record that stands aligned in memory: what the call for that event does to an image, done to the
+ * record where it stands, without a copy to an image and back. Its numbers are that call's too.
+ *
+ * endpoint is read by HK_EVENT_HALT and HK_EVENT_PACKET_PASSED alone (else 0), setup by HK_EVENT_SETUP alone (else NULL
+ * and 0). bytes, *count and *part are always written, as hk_setup writes them: only a setup hands something back. Any
+ * other event number is answered as a setup that is not 8 bytes, HK_SETUP_LENGTH_WRONG, and changes nothing.
+ *
+ * The record is aligned as a uint32_t is, and overlaps nothing else that is passed. */
+uint8_t hk_record_event(const uint8_t *set, size_t set_length, const uint8_t *serial, size_t serial_length,
+                        hk_record *record, uint8_t event, uint8_t endpoint, const uint8_t *setup, size_t setup_length,
+                        uint8_t bytes[2], uint8_t *count, hk_part *part);
+
+/* Cuts packet `number` (from 0) out of a reply: asked is the setup's wLength, size is bMaxPacketSize0.
+ *
+ * HK_DONE: *packet is the part of the reply from number x size on, at most size long. Where the reply is shorter than
+ * asked, the last packet is short or empty, which ends the data stage. HK_NO_SUCH_PACKET: size is not 8, 16, 32 or 64,
+ * the reply is longer than asked, or there is no such packet; *packet is the reply's first 0 bytes. So the packets go
+ * out by counting number up until HK_NO_SUCH_PACKET. A reply of 0 bytes where 0 are asked has no packet. */
+uint8_t hk_packet(const uint8_t *reply, size_t reply_length, uint16_t asked, uint32_t size, uint32_t number,
+                  hk_part *packet);
+
+#ifdef __cplusplus
+}
+#endif
+
+#endif

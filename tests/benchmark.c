@@ -1,0 +1,77 @@
+/* benchmark open|SETUP ROUNDS SET SERIAL CONFIGURATION: one call of the library, over and over, for tests/benchmark.
+ *
+ * SETUP is 8 bytes in hexadecimal; the record is Configured with that configuration, all else fresh. Prints the
+ * nanoseconds of a call, its number and the two bytes. tests/benchmark.rs does the same. */
+#define _POSIX_C_SOURCE 199309L
+
+#include <stdio.h>
+#include <stdlib.h>
+#include <string.h>
+#include <time.h>
+
+#include "heideklonk.h"
+
+static uint8_t set[20000], serial[20000], image[HK_IMAGE_LENGTH], opened[HK_IMAGE_LENGTH];
+static uint8_t setup[HK_SETUP_LENGTH], bytes[2], count;
+static size_t set_length, serial_length;
+static hk_part part = HK_NO_PART;
+
+static uint8_t call(int opening) {
+    if (opening)
+        return hk_open(set, set_length, serial, serial_length, opened, sizeof opened);
+    return hk_setup(set, set_length, serial, serial_length, image, sizeof image, setup, sizeof setup, bytes, &count, &part);
+}
+
+/* What the instruction counter looks at. */
+__attribute__((noinline)) uint8_t measured(int opening);
+__attribute__((noinline)) uint8_t measured(int opening) {
+    return call(opening);
+}
+
+static size_t read_file(const char *path, uint8_t *to, size_t room) {
+    FILE *file = fopen(path, "rb");
+    size_t length;
+    if (file == NULL) {
+        perror(path);
+        exit(2);
+    }
+    length = fread(to, 1, room, file);
+    fclose(file);
+    return length;
+}
+
+static void read_setup(const char *digits) {
+    for (size_t at = 0; at < sizeof setup && strlen(digits) == 2 * sizeof setup; at++) {
+        const char pair[] = {digits[2 * at], digits[2 * at + 1], 0};
+        setup[at] = (uint8_t)strtol(pair, NULL, 16);
+    }
+}
+
+static double nanoseconds_between(const struct timespec *start, const struct timespec *end) {
+    return (double)(end->tv_sec - start->tv_sec) * 1e9 + (double)(end->tv_nsec - start->tv_nsec);
+}
+
+int main(int argument_count, char **arguments) {
+    struct timespec start, end;
+    long rounds;
+    int opening;
+    uint8_t number;
+    if (argument_count != 6)
+        return 2;
+    opening = strcmp(arguments[1], "open") == 0;
+    read_setup(arguments[1]);
+    rounds = strtol(arguments[2], NULL, 10);
+    set_length = read_file(arguments[3], set, sizeof set);
+    serial_length = read_file(arguments[4], serial, sizeof serial);
+    image[0] = 2;
+    image[1] = 5;
+    image[2] = 255;
+    image[3] = (uint8_t)strtol(arguments[5], NULL, 10);
+    number = call(opening); /* the first call may run the linker too */
+    clock_gettime(CLOCK_MONOTONIC, &start);
+    for (long round = 0; round < rounds; round++)
+        number = measured(opening);
+    clock_gettime(CLOCK_MONOTONIC, &end);
+    printf("%.0f %d %d %d\n", nanoseconds_between(&start, &end) / (double)rounds, number, bytes[0], bytes[1]);
+    return 0;
+}

@@ -1,0 +1,310 @@
+/* Calls the library as a board would, by commands on standard input; tests/reference/src/protocol.rs describes them.
+ *
+ * Each block that is lent stands in a room of its own, between pages that may not be touched: at the room's end or front,
+ * up to 3 bytes off the edge, with guard bytes on both sides. So a byte read or written beyond stops the program or shows. */
+#define _DEFAULT_SOURCE
+
+#include <signal.h>
+#include <stdint.h>
+#include <stdlib.h>
+#include <string.h>
+#include <sys/mman.h>
+#include <unistd.h>
+
+#include "heideklonk.h"
+
+/* flags of a command */
+#define NULL_FOR_EMPTY 1
+#define AT_FRONT 2
+#define DISTANCE(flags) ((size_t)((flags) >> 2 & 3))
+
+/* errors of a response */
+#define BYTES_CHANGED 1
+#define PART_ASTRAY 2
+#define MEMORY_TOUCHED 3
+#define CALL_STOPPED 4
+#define COMMAND_WRONG 5
+
+#define ROOM ((size_t)131072)
+#define FORBIDDEN ((size_t)65536)
+#define GUARD ((size_t)32)
+#define GUARD_BYTE 0xC5
+#define UNWRITTEN 0xA6
+
+/* A block that is lent: its room, and a twin that the call does not know of. */
+typedef struct block {
+    uint8_t *room, *twin;
+    size_t start, length;
+} block;
+
+static block set, serial, image, setup, bytes, count, part, reply;
+
+/* What a hk_part points to before the call, so that it shows whether the call wrote it. */
+static const uint8_t decoy[1];
+
+static uint8_t input[1 << 16], output[1 << 16];
+static size_t input_at, input_end, output_end;
+
+static void stop(int status) {
+    _exit(status);
+}
+
+static void flush(void) {
+    size_t at = 0;
+    while (at < output_end) {
+        ssize_t written = write(1, output + at, output_end - at);
+        if (written <= 0)
+            stop(3);
+        at += (size_t)written;
+    }
+    output_end = 0;
+}
+
+static void put(const uint8_t *from, size_t length) {
+    while (length > 0) {
+        if (output_end == sizeof output)
+            flush();
+        size_t room = sizeof output - output_end, chunk = room < length ? room : length;
+        memcpy(output + output_end, from, chunk);
+        output_end += chunk;
+        from += chunk;
+        length -= chunk;
+    }
+}
+
+static void put_number(size_t number) {
+    uint8_t little_endian[4];
+    for (int at = 0; at < 4; at++)
+        little_endian[at] = (uint8_t)(number >> 8 * at);
+    put(little_endian, sizeof little_endian);
+}
+
+/* Ends the program where the input ends; the other side may wait for answers before it sends more. */
+static void take(uint8_t *to, size_t length) {
+    while (length > 0) {
+        if (input_at == input_end) {
+            flush();
+            ssize_t got = read(0, input, sizeof input);
+            if (got <= 0)
+                stop(0);
+            input_at = 0;
+            input_end = (size_t)got;
+        }
+        size_t ready = input_end - input_at, chunk = ready < length ? ready : length;
+        memcpy(to, input + input_at, chunk);
+        input_at += chunk;
+        to += chunk;
+        length -= chunk;
+    }
+}
+
+static uint8_t take_byte(void) {
+    uint8_t byte;
+    take(&byte, 1);
+    return byte;
+}
+
+static uint32_t take_number(size_t length) {
+    uint32_t number = 0;
+    for (size_t at = 0; at < length; at++)
+        number |= (uint32_t)take_byte() << 8 * at;
+    return number;
+}
+
+static void respond_with_error(uint8_t error) {
+    uint8_t nothing[13] = {0};
+    put(&error, 1);
+    put(nothing, sizeof nothing);
+    put_number(0);
+    flush();
+    stop(3);
+}
+
+static void on_signal(int signal_number) {
+    respond_with_error(signal_number == SIGSEGV || signal_number == SIGBUS ? MEMORY_TOUCHED : CALL_STOPPED);
+}
+
+static void make_room(block *block) {
+    uint8_t *pages = mmap(NULL, FORBIDDEN + ROOM + FORBIDDEN, PROT_NONE, MAP_PRIVATE | MAP_ANONYMOUS, -1, 0);
+    if (pages == MAP_FAILED || mprotect(pages + FORBIDDEN, ROOM, PROT_READ | PROT_WRITE) != 0)
+        stop(4);
+    block->room = pages + FORBIDDEN;
+    block->twin = malloc(ROOM);
+    if (block->twin == NULL)
+        stop(4);
+    memset(block->room, GUARD_BYTE, ROOM);
+    memset(block->twin, GUARD_BYTE, ROOM);
+}
+
+/* The bytes that are watched: the block, and the guards beside it as far as the room goes. */
+static size_t watch_from(const block *block) {
+    return block->start > GUARD ? block->start - GUARD : 0;
+}
+
+static size_t watch_to(const block *block) {
+    size_t end = block->start + block->length + GUARD;
+    return end < ROOM ? end : ROOM;
+}
+
+static void place(block *block, size_t length, uint8_t flags, size_t alignment) {
+    size_t distance = DISTANCE(flags) * alignment;
+    if (length + distance > ROOM)
+        respond_with_error(COMMAND_WRONG);
+    block->length = length;
+    block->start = flags & AT_FRONT ? distance : ROOM - distance - length;
+    memset(block->room + watch_from(block), GUARD_BYTE, watch_to(block) - watch_from(block));
+    memset(block->twin + watch_from(block), GUARD_BYTE, watch_to(block) - watch_from(block));
+}
+
+/* Places what comes next in the input. */
+static void take_block(block *block, uint8_t flags) {
+    uint32_t length = take_number(4);
+    place(block, length, flags, 1);
+    take(block->room + block->start, length);
+    memcpy(block->twin + block->start, block->room + block->start, length);
+}
+
+/* Places what the call is to write. */
+static void place_unwritten(block *block, size_t length, uint8_t flags, size_t alignment) {
+    place(block, length, flags, alignment);
+    memset(block->room + block->start, UNWRITTEN, length);
+}
+
+static uint8_t *lent(const block *block, uint8_t flags) {
+    return block->length == 0 && flags & NULL_FOR_EMPTY ? NULL : block->room + block->start;
+}
+
+static int same(const block *block, size_t from, size_t to) {
+    return memcmp(block->room + from, block->twin + from, to - from) == 0;
+}
+
+static int unchanged(const block *block) {
+    return same(block, watch_from(block), watch_to(block));
+}
+
+static int guards_unchanged(const block *block) {
+    size_t end = block->start + block->length;
+    return same(block, watch_from(block), block->start) && same(block, end, watch_to(block));
+}
+
+/* Offset of a part in a block, or SIZE_MAX: pointers are compared as numbers, since they may point anywhere. */
+static size_t offset_in(const block *block, hk_part found, uint8_t flags) {
+    uintptr_t start = (uintptr_t)lent(block, flags), at = (uintptr_t)found.start;
+    if (at < start || at - start > block->length || found.length > block->length - (at - start))
+        return SIZE_MAX;
+    return at - start;
+}
+
+static hk_part *unwritten_part(uint8_t flags) {
+    hk_part before = {decoy, sizeof decoy};
+    place(&part, sizeof before, flags, sizeof(void *));
+    memcpy(part.room + part.start, &before, sizeof before);
+    return (hk_part *)(void *)(part.room + part.start);
+}
+
+/* The answer to a call: block_number is 0 for the set, 1 for the serial block, 2 for the reply. */
+static void respond(uint8_t error, uint8_t number, const uint8_t *answer, uint8_t answer_count, uint8_t block_number,
+                    size_t offset, size_t length) {
+    uint8_t head[6] = {error, number, answer_count, answer[0], answer[1], block_number};
+    put(head, sizeof head);
+    put_number(offset);
+    put_number(length);
+}
+
+static void respond_with_image(void) {
+    put_number(image.length);
+    put(image.room + image.start, image.length);
+}
+
+static int lent_blocks_kept(void) {
+    return unchanged(&set) && unchanged(&serial) && guards_unchanged(&image);
+}
+
+static void call_setup(uint8_t flags) {
+    take_block(&image, flags);
+    take_block(&setup, flags);
+    place_unwritten(&bytes, 2, flags, 1);
+    place_unwritten(&count, 1, flags, 1);
+    hk_part *found = unwritten_part(flags);
+    uint8_t number = hk_setup(lent(&set, flags), set.length, lent(&serial, flags), serial.length, lent(&image, flags),
+                              image.length, lent(&setup, flags), setup.length, bytes.room + bytes.start,
+                              count.room + count.start, found);
+    int kept = lent_blocks_kept() && unchanged(&setup) && guards_unchanged(&bytes) && guards_unchanged(&count) &&
+               guards_unchanged(&part);
+    size_t in_set = offset_in(&set, *found, flags), in_serial = offset_in(&serial, *found, flags);
+    int astray = in_set == SIZE_MAX && in_serial == SIZE_MAX;
+    respond(!kept ? BYTES_CHANGED : astray ? PART_ASTRAY : 0, number, bytes.room + bytes.start, count.room[count.start],
+            in_set == SIZE_MAX, in_set == SIZE_MAX ? in_serial : in_set, found->length);
+    respond_with_image();
+}
+
+/* The calls that only lend set, serial block and image, and those that name an endpoint too. */
+static void call_event(uint8_t operation, uint8_t flags) {
+    static const uint8_t no_answer[2];
+    uint8_t endpoint = operation == 'h' || operation == 'p' ? take_byte() : 0;
+    take_block(&image, flags);
+    const uint8_t *set_lent = lent(&set, flags), *serial_lent = lent(&serial, flags);
+    uint8_t *image_lent = lent(&image, flags), number;
+    switch (operation) {
+    case 'o':
+        number = hk_open(set_lent, set.length, serial_lent, serial.length, image_lent, image.length);
+        break;
+    case 'e':
+        number = hk_status_end(set_lent, set.length, serial_lent, serial.length, image_lent, image.length);
+        break;
+    case 'r':
+        number = hk_bus_reset(set_lent, set.length, serial_lent, serial.length, image_lent, image.length);
+        break;
+    case 'h':
+        number = hk_halt(set_lent, set.length, serial_lent, serial.length, image_lent, image.length, endpoint);
+        break;
+    default:
+        number = hk_packet_passed(set_lent, set.length, serial_lent, serial.length, image_lent, image.length, endpoint);
+    }
+    respond(lent_blocks_kept() ? 0 : BYTES_CHANGED, number, no_answer, 0, 0, 0, 0);
+    respond_with_image();
+}
+
+static void call_packet(uint8_t flags) {
+    static const uint8_t no_answer[2];
+    place(&reply, take_number(4), flags, 1);
+    uint16_t asked = (uint16_t)take_number(2);
+    uint32_t size = take_number(4), number = take_number(4);
+    hk_part *found = unwritten_part(flags);
+    uint8_t result = hk_packet(lent(&reply, flags), reply.length, asked, size, number, found);
+    size_t offset = offset_in(&reply, *found, flags);
+    int kept = unchanged(&reply) && guards_unchanged(&part);
+    respond(!kept ? BYTES_CHANGED : offset == SIZE_MAX ? PART_ASTRAY : 0, result, no_answer, 0, 2, offset, found->length);
+    put_number(0);
+}
+
+int main(void) {
+    block *blocks[] = {&set, &serial, &image, &setup, &bytes, &count, &part, &reply};
+    int stopping[] = {SIGSEGV, SIGBUS, SIGILL, SIGTRAP, SIGFPE, SIGABRT};
+    for (size_t at = 0; at < sizeof blocks / sizeof *blocks; at++)
+        make_room(blocks[at]);
+    for (size_t at = 0; at < sizeof stopping / sizeof *stopping; at++)
+        signal(stopping[at], on_signal);
+    for (;;) {
+        uint8_t operation = take_byte(), flags = take_byte();
+        switch (operation) {
+        case 'S':
+            take_block(&set, flags);
+            break;
+        case 'U':
+            take_block(&serial, flags);
+            break;
+        case 's':
+            call_setup(flags);
+            break;
+        case 'k':
+            call_packet(flags);
+            break;
+        case 'o': case 'e': case 'r': case 'h': case 'p':
+            call_event(operation, flags);
+            break;
+        default:
+            respond_with_error(COMMAND_WRONG);
+        }
+    }
+}

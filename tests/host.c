@@ -1,0 +1,370 @@
+/* host bench | titrator | SET [SERIAL]: a bench host enumerates the device loop of firmware/ and tells what passes.
+ * host --write bench | titrator SET SERIAL: writes the built-in flash to two files.
+ *
+ * Ends with 0; with 1 where the set was refused or the device did not do what a host expects. */
+#include <stdio.h>
+#include <string.h>
+
+#include "../firmware/sets.h"
+#include "drivers.h"
+#include "transfers.h"
+#include "words.h"
+
+#define ADDRESS 5
+#define INTERRUPTED_ADDRESS 9
+#define MOST_CONFIGURATIONS 8
+#define MOST_BODY 16384
+#define MOST_FILE 65536
+
+/* What the host has learnt of the device. */
+struct learnt {
+    unsigned configurations;
+    struct body {
+        uint8_t bytes[MOST_BODY];
+        size_t length;
+    } bodies[MOST_CONFIGURATIONS];
+    uint8_t refers[256]; /* string indices that some descriptor names */
+    unsigned languages[127], language_count;
+    int wakeup;
+};
+
+static void heading(const char *text) {
+    printf("\n# %s\n", text);
+}
+
+static void get_descriptor(struct host *host, unsigned type, unsigned index, unsigned language, unsigned length,
+                           uint8_t expected) {
+    ask(host, 0x80, GET_DESCRIPTOR, type << 8 | index, language, length, expected);
+}
+
+static void learn_packet_size(struct host *host) {
+    heading("The bus is reset; 8 bytes of the device descriptor tell bMaxPacketSize0");
+    reset_bus(host);
+    host->packet_size = 64;
+    get_descriptor(host, TYPE_DEVICE, 0, 0, 8, HK_DONE);
+    host->packet_size = host->bytes[7];
+    reset_bus(host);
+    get_descriptor(host, TYPE_DEVICE, 0, 0, 64, HK_DONE);
+    get_descriptor(host, TYPE_DEVICE, 0, 0, 0, HK_DONE);
+}
+
+static void err_in_default(struct host *host) {
+    heading("What the state Default refuses");
+    ask(host, 0x80, GET_CONFIGURATION, 0, 0, 1, HK_NOT_IN_THIS_STATE);
+    ask(host, 0x00, SET_ADDRESS, 128, 0, 0, HK_FIELD_WRONG);
+    ask(host, 0xC0, 1, 0, 0, 4, HK_REQUEST_UNKNOWN);
+}
+
+static void leave_set_address_open(struct host *host) {
+    uint8_t setup[HK_SETUP_LENGTH];
+    fill_setup(setup, 0x00, SET_ADDRESS, INTERRUPTED_ADDRESS, 0, 0);
+    print_setup(setup);
+    printf(", no status stage\n");
+    if (begin_transfer(host, setup) != HK_DONE)
+        fail(host, "the address was refused");
+    show_record(host, "");
+}
+
+static void interrupt_set_address(struct host *host) {
+    heading("A request between SET_ADDRESS and its status stage, or a bus reset: the address is dropped");
+    leave_set_address_open(host);
+    get_descriptor(host, TYPE_DEVICE, 0, 0, 18, HK_DONE);
+    leave_set_address_open(host);
+    get_descriptor(host, TYPE_DEVICE_QUALIFIER, 0, 0, 10, HK_DOES_NOT_EXIST);
+    leave_set_address_open(host);
+    reset_bus(host);
+}
+
+static void set_address(struct host *host) {
+    heading("The address, taken when the status stage has ended");
+    ask(host, 0x00, SET_ADDRESS, ADDRESS, 0, 0, HK_DONE);
+    host->address = ADDRESS;
+    get_descriptor(host, TYPE_DEVICE, 0, 0, 18, HK_DONE);
+}
+
+static void read_device(struct host *host, struct learnt *learnt) {
+    learnt->configurations = host->bytes[17];
+    for (int at = 14; at < 17; at++)
+        learnt->refers[host->bytes[at]] = 1;
+    heading("Only full speed: there is no device_qualifier");
+    get_descriptor(host, TYPE_DEVICE_QUALIFIER, 0, 0, 10, HK_DOES_NOT_EXIST);
+}
+
+static void read_configuration(struct host *host, struct learnt *learnt, unsigned index) {
+    struct body *body = &learnt->bodies[index];
+    get_descriptor(host, TYPE_CONFIGURATION, index, 0, 9, HK_DONE);
+    get_descriptor(host, TYPE_CONFIGURATION, index, 0, two_bytes(host->bytes + 2), HK_DONE);
+    body->length = host->length < MOST_BODY ? host->length : MOST_BODY;
+    memcpy(body->bytes, host->bytes, body->length);
+    learnt->refers[body->bytes[6]] = 1;
+    learnt->wakeup |= body->bytes[7] >> 5 & 1;
+    for (size_t at = 0; at < body->length; at = next_descriptor(body->bytes, body->length, at))
+        if (body->bytes[at + 1] == TYPE_INTERFACE)
+            learnt->refers[body->bytes[at + 8]] = 1;
+}
+
+static void read_configurations(struct host *host, struct learnt *learnt) {
+    heading("Configurations: 9 bytes tell wTotalLength; asked for more, a device gives what there is");
+    for (unsigned index = 0; index < learnt->configurations; index++)
+        read_configuration(host, learnt, index);
+    get_descriptor(host, TYPE_CONFIGURATION, 0, 0, 512, HK_DONE);
+    get_descriptor(host, TYPE_CONFIGURATION, learnt->configurations, 0, 9, HK_DOES_NOT_EXIST);
+}
+
+/* A host that has seen enough goes on to the status stage. */
+static void end_data_stage_early(struct host *host, const struct body *body) {
+    heading("The host ends the data stage after one packet");
+    uint8_t setup[HK_SETUP_LENGTH];
+    hk_part packet = HK_NO_PART;
+    fill_setup(setup, 0x80, GET_DESCRIPTOR, TYPE_CONFIGURATION << 8, 0, (unsigned)body->length);
+    print_setup(setup);
+    wire_send_setup(host->address, setup);
+    if (wire_take_packet(host->address, &packet) != WIRE_DONE)
+        fail(host, "no packet came");
+    printf("\n  -> a packet of %u\n", (unsigned)packet.length);
+    end_transfer_with_status(host, setup, HK_DONE);
+}
+
+static int is_listed(const struct learnt *learnt, unsigned language) {
+    for (unsigned at = 0; at < learnt->language_count; at++)
+        if (learnt->languages[at] == language)
+            return 1;
+    return 0;
+}
+
+static void read_languages(struct host *host, struct learnt *learnt) {
+    uint8_t setup[HK_SETUP_LENGTH];
+    fill_setup(setup, 0x80, GET_DESCRIPTOR, TYPE_STRING << 8, 0, 255);
+    uint8_t number = request(host, setup);
+    if (number != HK_DONE && number != HK_DOES_NOT_EXIST)
+        fail(host, "string 0 is neither given nor missing");
+    for (size_t at = 2; at + 1 < host->length; at += 2)
+        learnt->languages[learnt->language_count++] = two_bytes(host->bytes + at);
+}
+
+static void read_strings(struct host *host, struct learnt *learnt) {
+    heading("Strings: string 0 lists the languages, then each string in each of them");
+    read_languages(host, learnt);
+    unsigned unlisted = 0x0409;
+    while (is_listed(learnt, unlisted))
+        unlisted++;
+    for (unsigned index = 1; index < 256; index++) {
+        if (!learnt->refers[index])
+            continue;
+        for (unsigned at = 0; at < learnt->language_count; at++)
+            get_descriptor(host, TYPE_STRING, index, learnt->languages[at], 255, HK_DONE);
+        get_descriptor(host, TYPE_STRING, index, unlisted, 255, HK_DOES_NOT_EXIST);
+    }
+}
+
+static void change_wakeup(struct host *host, const struct learnt *learnt, enum request request) {
+    uint8_t expected = learnt->wakeup ? HK_DONE : HK_NO_SUCH_FEATURE;
+    ask(host, 0x00, (uint8_t)request, DEVICE_REMOTE_WAKEUP, 0, 0, expected);
+}
+
+static void use_wakeup(struct host *host, const struct learnt *learnt) {
+    heading(learnt->wakeup ? "Remote wakeup, on and off" : "No configuration has remote wakeup");
+    change_wakeup(host, learnt, SET_FEATURE);
+    ask(host, 0x80, GET_STATUS, 0, 0, 2, HK_DONE);
+    change_wakeup(host, learnt, CLEAR_FEATURE);
+}
+
+/* SET_CONFIGURATION takes a value, not an index: some value is never there, since there are at most 8. */
+static void configure(struct host *host, const struct learnt *learnt, const struct body *body) {
+    uint8_t values[256] = {0};
+    unsigned missing = 1;
+    for (unsigned index = 0; index < learnt->configurations; index++)
+        values[learnt->bodies[index].bytes[5]] = 1;
+    while (values[missing])
+        missing++;
+    heading("A configuration is selected by its value");
+    ask(host, 0x00, SET_CONFIGURATION, missing, 0, 0, HK_DOES_NOT_EXIST);
+    ask(host, 0x00, SET_CONFIGURATION, body->bytes[5], 0, 0, HK_DONE);
+    ask(host, 0x80, GET_CONFIGURATION, 0, 0, 1, HK_DONE);
+    ask(host, 0x80, GET_STATUS, 0, 0, 2, HK_DONE);
+}
+
+static void halt_from_inside(struct host *host, uint8_t endpoint) {
+    printf("the application halts endpoint %02X\n", endpoint);
+    if (device_halt(&host->device, endpoint) != HK_DONE)
+        fail(host, "it was refused");
+    show_record(host, "");
+}
+
+static int has_endpoint(const struct body *body, uint8_t endpoint) {
+    for (size_t at = 0; at < body->length; at = next_descriptor(body->bytes, body->length, at))
+        if (body->bytes[at + 1] == TYPE_ENDPOINT && body->bytes[at + 2] == endpoint)
+            return 1;
+    return 0;
+}
+
+/* An isochronous endpoint has neither halt nor toggle. */
+static void use_isochronous(struct host *host, uint8_t endpoint) {
+    ask(host, 0x02, SET_FEATURE, ENDPOINT_HALT, endpoint, 0, HK_NO_SUCH_FEATURE);
+    ask(host, 0x82, GET_STATUS, 0, endpoint, 2, HK_DONE);
+}
+
+/* A halt from each side, and what passes before and after. */
+static void use_halt(struct host *host, uint8_t endpoint) {
+    pass_packet(host, endpoint);
+    /* clears the toggle, though nothing is halted */
+    ask(host, 0x02, CLEAR_FEATURE, ENDPOINT_HALT, endpoint, 0, HK_DONE);
+    pass_packet(host, endpoint);
+    ask(host, 0x02, SET_FEATURE, ENDPOINT_HALT, endpoint, 0, HK_DONE);
+    ask(host, 0x82, GET_STATUS, 0, endpoint, 2, HK_DONE);
+    if (pass_packet(host, endpoint))
+        fail(host, "a packet passed on a halted endpoint");
+    ask(host, 0x02, CLEAR_FEATURE, ENDPOINT_HALT, endpoint, 0, HK_DONE);
+    pass_packet(host, endpoint);
+    halt_from_inside(host, endpoint);
+}
+
+static void use_endpoint(struct host *host, const struct body *body, const uint8_t *descriptor) {
+    uint8_t endpoint = descriptor[2], opposite = endpoint ^ 0x80;
+    if ((descriptor[3] & 3) == 1)
+        use_isochronous(host, endpoint);
+    else
+        use_halt(host, endpoint);
+    if (!has_endpoint(body, opposite))
+        ask(host, 0x02, SET_FEATURE, ENDPOINT_HALT, opposite, 0, HK_DOES_NOT_EXIST);
+}
+
+static void take_setting(struct host *host, unsigned interface, unsigned alternate) {
+    printf("\n# Interface %u takes alternate %u, and its endpoints are used\n", interface, alternate);
+    ask(host, 0x01, SET_INTERFACE, alternate, interface, 0, HK_DONE);
+    ask(host, 0x81, GET_INTERFACE, 0, interface, 1, HK_DONE);
+    ask(host, 0x81, GET_STATUS, 0, interface, 2, HK_DONE);
+}
+
+static void take_settings(struct host *host, const struct body *body) {
+    for (size_t at = 0; at < body->length; at = next_descriptor(body->bytes, body->length, at)) {
+        const uint8_t *descriptor = body->bytes + at;
+        if (descriptor[1] == TYPE_INTERFACE)
+            take_setting(host, descriptor[2], descriptor[3]);
+        if (descriptor[1] == TYPE_ENDPOINT)
+            use_endpoint(host, body, descriptor);
+    }
+}
+
+/* Each interface is at its last alternate now, and its endpoints are halted. */
+static void take_same_settings(struct host *host, const struct body *body) {
+    heading("The same settings again: halts and toggles become 0");
+    for (unsigned interface = 0; interface < body->bytes[4]; interface++)
+        ask(host, 0x01, SET_INTERFACE, host->device.record[8 + interface], interface, 0, HK_DONE);
+    ask(host, 0x81, GET_INTERFACE, 0, body->bytes[4], 1, HK_DOES_NOT_EXIST);
+}
+
+static void use_configuration(struct host *host, const struct learnt *learnt, const struct body *body) {
+    configure(host, learnt, body);
+    take_settings(host, body);
+    take_same_settings(host, body);
+    if (body->bytes[4] < 2)
+        return;
+    heading("Two drivers, interfaces 0 and 1: their events in two orders");
+    exchange_drivers(host, body->bytes, body->length);
+}
+
+static void leave(struct host *host, const struct learnt *learnt) {
+    heading("Configuration 0 leads back to Address, a bus reset to Default; only the reset ends remote wakeup");
+    change_wakeup(host, learnt, SET_FEATURE);
+    ask(host, 0x00, SET_CONFIGURATION, 0, 0, 0, HK_DONE);
+    reset_bus(host);
+}
+
+static void lose_last_byte_of_set(struct host *host) {
+    const struct device_flash *flash = host->device.flash;
+    struct device_flash worn = *flash;
+    worn.set_length--;
+    printf("the set has lost its last byte\n");
+    host->device.flash = &worn;
+    get_descriptor(host, TYPE_DEVICE, 0, 0, 18, HK_SET_NOT_ACCEPTABLE);
+    host->device.flash = flash;
+}
+
+static void disturb_record(struct host *host) {
+    printf("byte 1 of the record becomes 200, until a bus reset mends it\n");
+    host->device.record[1] = 200;
+    show_record(host, "");
+    get_descriptor(host, TYPE_DEVICE, 0, 0, 18, HK_RECORD_DOES_NOT_FIT);
+    reset_bus(host);
+}
+
+static void disturb_board(struct host *host) {
+    heading("Faults of the board: STALL, and its application hears the number");
+    printf("the peripheral hands over 7 bytes of a SETUP\n");
+    wire_hand_over(7);
+    get_descriptor(host, TYPE_DEVICE, 0, 0, 18, HK_SETUP_LENGTH_WRONG);
+    wire_hand_over(HK_SETUP_LENGTH);
+    pass_packet(host, 0x81); /* in Default there is no such endpoint */
+    lose_last_byte_of_set(host);
+    disturb_record(host);
+    get_descriptor(host, TYPE_DEVICE, 0, 0, 18, HK_DONE);
+}
+
+static int enumerate(const struct device_flash *flash) {
+    static struct host host;
+    static struct learnt learnt;
+    wire_attach(&host.device);
+    uint8_t number = device_start(&host.device, flash);
+    if (number != HK_DONE) {
+        print_refusal(number);
+        return 1;
+    }
+    printf("power on, the set is accepted\n");
+    show_record(&host, "");
+    learn_packet_size(&host);
+    err_in_default(&host);
+    interrupt_set_address(&host);
+    set_address(&host);
+    read_device(&host, &learnt);
+    read_configurations(&host, &learnt);
+    end_data_stage_early(&host, &learnt.bodies[0]);
+    read_strings(&host, &learnt);
+    use_wakeup(&host, &learnt);
+    for (unsigned index = 0; index < learnt.configurations; index++)
+        use_configuration(&host, &learnt, &learnt.bodies[index]);
+    leave(&host, &learnt);
+    disturb_board(&host);
+    printf("\nend of the transcript: %d failed\n", host.failures);
+    return host.failures != 0;
+}
+
+/* A file that cannot be opened counts as empty, as the lister has it; what is too long stays too long. */
+static size_t read_file(const char *name, uint8_t *bytes) {
+    FILE *file = fopen(name, "rb");
+    if (file == NULL)
+        return 0;
+    size_t length = fread(bytes, 1, MOST_FILE, file);
+    fclose(file);
+    return length;
+}
+
+static int write_file(const char *name, const uint8_t *bytes, size_t length) {
+    FILE *file = fopen(name, "wb");
+    if (file == NULL)
+        return 0;
+    size_t written = length == 0 ? 0 : fwrite(bytes, 1, length, file);
+    return fclose(file) == 0 && written == length;
+}
+
+static const struct device_flash *built_in(const char *name) {
+    return strcmp(name, "bench") == 0 ? &bench_flash : strcmp(name, "titrator") == 0 ? &titrator_flash : NULL;
+}
+
+int main(int count, char **arguments) {
+    static uint8_t set[MOST_FILE], serial[MOST_FILE];
+    if (count == 5 && strcmp(arguments[1], "--write") == 0 && built_in(arguments[2]) != NULL) {
+        const struct device_flash *flash = built_in(arguments[2]);
+        return !(write_file(arguments[3], flash->set, flash->set_length) &&
+                 write_file(arguments[4], flash->serial, flash->serial_length));
+    }
+    if (count == 2 && built_in(arguments[1]) != NULL)
+        return enumerate(built_in(arguments[1]));
+    if (count != 2 && count != 3) {
+        fprintf(stderr, "usage: host bench | titrator | SET [SERIAL]\n");
+        return 2;
+    }
+    struct device_flash flash = {set, read_file(arguments[1], set), serial, 0};
+    flash.serial_length = count == 3 ? read_file(arguments[2], serial) : 0;
+    return enumerate(&flash);
+}

@@ -1,0 +1,257 @@
+//! The commands, and what they print.
+
+use std::io;
+use std::path::Path;
+use std::process::ExitCode;
+use std::sync::Arc;
+
+use crate::compare::{Comparison, Findings};
+use crate::events::Lent;
+use crate::fault::{self, Fault};
+use crate::files;
+use crate::octets::kebab;
+use crate::runs;
+use crate::serve::serve;
+use crate::vectors;
+
+const DEFAULT_SETS: usize = 100_000;
+const DEFAULT_CALLS: usize = 200_000;
+
+/// So many differences are enough to choose the smallest from.
+const PATIENCE: usize = 1_000;
+
+pub const USAGE: &str = "\
+reference vectors FILE..                        answers every question of the files and compares
+reference run-vectors --program CMD FILE..      the same, and through a harness
+reference compare --program CMD [--sets N] [--calls N] [--seed S] [--fault NAME]
+                                                sets through opening, calls over the whole boundary; or both
+reference faults --program CMD [--seed S]       every planted fault must be noticed
+reference serve [--fault NAME]                  the reference in a harness's place
+reference list SET SERIAL [--fault NAME]        the lister's text for two files
+reference generate DIR N [--seed S]             N sets as files set-XXXX.bin and unit-XXXX.bin
+reference samples DIR [--seed S]                the bench set and sets of 16,384 bytes as files, for the stack test
+reference lister --program CMD --directory DIR [--sets N] [--seed S]
+                                                runs a lister on set.bin and unit.bin in DIR, with and without faults";
+
+/// Words without a name, and values of `--name value`.
+pub struct Arguments {
+    words: Vec<String>,
+    options: Vec<(String, String)>,
+}
+
+impl Arguments {
+    pub fn read(arguments: impl Iterator<Item = String>) -> Option<Arguments> {
+        let mut read = Arguments { words: Vec::new(), options: Vec::new() };
+        let mut arguments = arguments;
+        while let Some(argument) = arguments.next() {
+            match argument.strip_prefix("--") {
+                Some(name) => read.options.push((name.to_string(), arguments.next()?)),
+                None => read.words.push(argument),
+            }
+        }
+        Some(read)
+    }
+
+    fn option(&self, name: &str) -> Option<&str> {
+        self.options.iter().find(|(given, _)| given == name).map(|(_, value)| value.as_str())
+    }
+
+    fn number(&self, name: &str) -> Result<Option<usize>, String> {
+        let read = |text: &str| text.parse().map_err(|_| format!("--{name} takes a number"));
+        self.option(name).map(read).transpose()
+    }
+
+    fn seed(&self) -> Result<u64, String> {
+        Ok(self.number("seed")?.unwrap_or(1) as u64)
+    }
+
+    fn program(&self) -> Result<&str, String> {
+        self.option("program").ok_or("--program is missing".to_string())
+    }
+
+    fn fault(&self) -> Result<Fault, String> {
+        let name = self.option("fault").unwrap_or("none");
+        Fault::named(name).ok_or(format!("no fault is named {name}"))
+    }
+}
+
+/// Success, or a failure that has been told already.
+type Verdict = Result<bool, String>;
+
+pub fn run(arguments: &Arguments) -> ExitCode {
+    let words: Vec<&str> = arguments.words.iter().map(String::as_str).collect();
+    let verdict = match words.as_slice() {
+        ["vectors", files @ ..] => run_vectors(files, None),
+        ["run-vectors", files @ ..] => arguments.program().and_then(|program| run_vectors(files, Some(program))),
+        ["compare"] => compare(arguments),
+        ["faults"] => faults(arguments),
+        ["serve"] => arguments.fault().and_then(answer_commands),
+        ["list", set, serial] => list(arguments, set, serial),
+        ["generate", directory, count] => generate(arguments, directory, count),
+        ["samples", directory] => samples(arguments, directory),
+        ["lister"] => lister(arguments),
+        _ => Err(format!("usage:\n{USAGE}")),
+    };
+    match verdict {
+        Ok(true) => ExitCode::SUCCESS,
+        Ok(false) => ExitCode::FAILURE,
+        Err(message) => {
+            eprintln!("reference: {message}");
+            ExitCode::from(2)
+        }
+    }
+}
+
+fn told(error: io::Error) -> String {
+    error.to_string()
+}
+
+fn answer_commands(fault: Fault) -> Verdict {
+    match serve(fault) {
+        // the other side has seen enough
+        Err(error) if error.kind() != io::ErrorKind::BrokenPipe => Err(told(error)),
+        _ => Ok(true),
+    }
+}
+
+fn run_vectors(files: &[&str], program: Option<&str>) -> Verdict {
+    let mut right = true;
+    for file in files {
+        let text = std::fs::read_to_string(file).map_err(|error| format!("{file}: {error}"))?;
+        let mut comparison = program.map(|program| Comparison::start(program, PATIENCE)).transpose().map_err(told)?;
+        let tally = vectors::run(&text, &mut |lent: &Lent, call| {
+            if let Some(comparison) = &mut comparison {
+                comparison.ask(&Arc::new(lent.clone()), call.clone());
+            }
+        });
+        for disagreement in &tally.disagreements {
+            println!("{disagreement}");
+        }
+        println!("{file}: {} questions, {} disagree", tally.questions, tally.disagreements.len());
+        right &= tally.disagreements.is_empty();
+        if let Some(comparison) = comparison {
+            let calls = comparison.calls;
+            right &= agrees(&format!("{file}: {calls} calls"), &comparison.finish().map_err(told)?);
+        }
+    }
+    Ok(right)
+}
+
+/// Prints a line, and the smallest difference if there is one.
+fn agrees(what: &str, findings: &Findings) -> bool {
+    println!("{what}, {} differ", findings.differences);
+    print!("{}", findings.reproduction());
+    findings.differences == 0
+}
+
+fn compare(arguments: &Arguments) -> Verdict {
+    let (sets, calls) = (arguments.number("sets")?, arguments.number("calls")?);
+    let both = sets.is_none() && calls.is_none();
+    let mut right = true;
+    if sets.is_some() || both {
+        right &= compare_opening(arguments, sets.unwrap_or(DEFAULT_SETS))?;
+    }
+    if calls.is_some() || both {
+        right &= compare_whole(arguments, calls.unwrap_or(DEFAULT_CALLS))?;
+    }
+    Ok(right)
+}
+
+fn compare_opening(arguments: &Arguments, sets: usize) -> Verdict {
+    let mut comparison = Comparison::start(arguments.program()?, PATIENCE).map_err(told)?;
+    let rules = runs::opening(&mut comparison, sets, arguments.seed()?, arguments.fault()?);
+    let numbers = comparison.numbers;
+    let same = ended(comparison, "opening", "sets")?;
+    let by_name =
+        rules.iter().map(|(rule, count)| (format!("{} {}", rule.group(), kebab(&format!("{rule:?}"))), *count));
+    Ok(same & none_zero(&numbered(&numbers[..=6])) & none_zero(&by_name.collect::<Vec<_>>()))
+}
+
+fn compare_whole(arguments: &Arguments, calls: usize) -> Verdict {
+    let mut comparison = Comparison::start(arguments.program()?, PATIENCE).map_err(told)?;
+    let unlike = runs::whole(&mut comparison, calls, arguments.seed()?, arguments.fault()?);
+    let numbers = comparison.numbers;
+    let same = ended(comparison, "whole boundary", "calls")?;
+    if let Some(unlike) = &unlike {
+        println!("{unlike}");
+    }
+    Ok(same & unlike.is_none() & none_zero(&numbered(&numbers)))
+}
+
+/// Tells how a comparison went and how long it took.
+fn ended(comparison: Comparison, part: &str, unit: &str) -> Verdict {
+    let (start, calls) = (comparison.start, comparison.calls);
+    let findings = comparison.finish().map_err(told)?;
+    Ok(agrees(&format!("{part}: {calls} {unit} in {:.1} s", start.elapsed().as_secs_f64()), &findings))
+}
+
+fn numbered(counts: &[usize]) -> Vec<(String, usize)> {
+    counts.iter().enumerate().map(|(number, &count)| (format!("number {number}"), count)).collect()
+}
+
+/// Prints how often each was reached, and whether all were.
+fn none_zero(counts: &[(String, usize)]) -> bool {
+    for (name, count) in counts {
+        println!("  {count:>8}  {name}{}", if *count == 0 { "  NOT REACHED" } else { "" });
+    }
+    counts.iter().all(|(_, count)| *count > 0)
+}
+
+/// One comparison for each planted fault, to the first difference.
+fn faults(arguments: &Arguments) -> Verdict {
+    let (program, seed) = (arguments.program()?, arguments.seed()?);
+    let mut unnoticed = 0;
+    for fault in Fault::at_boundary() {
+        let mut comparison = Comparison::start(program, 1).map_err(told)?;
+        if fault::OPENING.contains(&fault) {
+            runs::opening(&mut comparison, DEFAULT_SETS, seed, fault);
+        } else {
+            runs::whole(&mut comparison, DEFAULT_CALLS, seed, fault);
+        }
+        let findings = comparison.finish().map_err(told)?;
+        unnoticed += usize::from(findings.first.is_none());
+        print_fault(fault, findings.first, "calls");
+    }
+    println!("faults: {} planted, {unnoticed} not noticed", Fault::at_boundary().count());
+    Ok(unnoticed == 0)
+}
+
+fn print_fault(fault: Fault, first: Option<usize>, unit: &str) {
+    let noticed = first.map_or("NOT NOTICED".to_string(), |first| format!("noticed after {first} {unit}"));
+    println!("  {:<45} {noticed}", fault.name());
+}
+
+fn list(arguments: &Arguments, set: &str, serial: &str) -> Verdict {
+    print!("{}", files::list_files(set, serial, arguments.fault()?));
+    Ok(true)
+}
+
+fn generate(arguments: &Arguments, directory: &str, count: &str) -> Verdict {
+    let count = count.parse().map_err(|_| "generate takes a directory and a number".to_string())?;
+    files::generate(Path::new(directory), count, arguments.seed()?).map_err(told)?;
+    Ok(true)
+}
+
+fn samples(arguments: &Arguments, directory: &str) -> Verdict {
+    files::write_samples(Path::new(directory), arguments.seed()?).map_err(told)?;
+    Ok(true)
+}
+
+fn lister(arguments: &Arguments) -> Verdict {
+    let directory = Path::new(arguments.option("directory").ok_or("--directory is missing")?);
+    let (program, seed) = (arguments.program()?, arguments.seed()?);
+    let sets = arguments.number("sets")?.unwrap_or(500);
+    let run = |fault| files::compare_lister(program, directory, sets, seed, fault).map_err(told);
+    let difference = run(Fault::None)?;
+    match difference {
+        None => println!("lister: {sets} sets, 0 differ"),
+        Some(at) => println!("lister: set {at} differs; it stands in {}", directory.display()),
+    }
+    let mut right = difference.is_none();
+    for &fault in fault::LISTER.iter().take_while(|_| difference.is_none()) {
+        let first = run(fault)?;
+        right &= first.is_some();
+        print_fault(fault, first, "sets");
+    }
+    Ok(right)
+}

@@ -1,0 +1,463 @@
+//! Opening and every event, as the C boundary shows them: the number, the bytes, the part and the image left.
+
+use crate::descriptors::Endpoint;
+use crate::fault::Fault;
+use crate::opening::{Board, CONFIGURATION, DEVICE, STRING};
+use crate::record::{bit, Record, ADDRESS, CONFIGURED, DEFAULT, IMAGE_LENGTH, NOTHING_WAITS};
+use crate::requests::{self, Setup, SETUP_LENGTH};
+use crate::rule::Rule;
+
+#[derive(Clone, PartialEq, Eq, Debug)]
+pub enum Event {
+    Setup(Vec<u8>),
+    StatusEnd,
+    BusReset,
+    Halt(u8),
+    PacketPassed(u8),
+}
+
+#[derive(Clone, Copy, PartialEq, Eq, Debug)]
+pub enum Block {
+    Set,
+    Serial,
+    Reply,
+}
+
+#[derive(Clone, Copy, PartialEq, Eq, Debug)]
+pub struct Part {
+    pub block: Block,
+    pub offset: usize,
+    pub length: usize,
+}
+
+/// What a call gives back and leaves.
+#[derive(Clone, PartialEq, Eq, Debug)]
+pub struct Outcome {
+    pub number: u8,
+    pub bytes: Vec<u8>,
+    pub part: Option<Part>,
+    pub image: Vec<u8>,
+}
+
+#[derive(PartialEq, Eq, Debug)]
+enum Reply {
+    Nothing,
+    Bytes(Vec<u8>),
+    Part(Part),
+}
+
+/// A reply, or the number of the refusal.
+type Answer = Result<Reply, u8>;
+
+/// A set and a serial block as they are lent, opened once.
+#[derive(Clone, Debug)]
+pub struct Lent {
+    pub set: Vec<u8>,
+    pub serial: Vec<u8>,
+    pub opened: Result<Board, Rule>,
+    pub fault: Fault,
+}
+
+impl Outcome {
+    fn new(number: u8, image: Vec<u8>) -> Outcome {
+        Outcome { number, bytes: Vec::new(), part: None, image }
+    }
+}
+
+impl Lent {
+    pub fn new(set: Vec<u8>, serial: Vec<u8>, fault: Fault) -> Lent {
+        let opened = Board::open(&set, &serial, fault);
+        Lent { set, serial, opened, fault }
+    }
+
+    /// "An image not 32 bytes gives 8 before group 1; else it becomes the fresh record, accepted or not."
+    pub fn open(&self, image: &[u8]) -> Outcome {
+        let number = self.opened.as_ref().map_or_else(|rule| rule.group(), |_| 0);
+        if image.len() != IMAGE_LENGTH {
+            let late = self.fault == Fault::ImageLengthJudgedAfterGroups && number > 0;
+            return Outcome::new(if late { number } else { 8 }, image.to_vec());
+        }
+        if number > 0 && self.fault == Fault::RefusedOpeningKeepsImage {
+            return Outcome::new(number, image.to_vec());
+        }
+        Outcome::new(number, Record::fresh().image())
+    }
+
+    /// "Order: 7, 8, then for a setup 9 to 14, for a function event 16."
+    pub fn event(&self, image: &[u8], event: &Event) -> Outcome {
+        let unchanged = |number: u8| Outcome::new(number, image.to_vec());
+        if self.fault == Fault::RecordBeforeSet && image.len() != IMAGE_LENGTH {
+            return unchanged(8);
+        }
+        let Ok(board) = &self.opened else { return unchanged(7) };
+        let setup_length_wrong = matches!(event, Event::Setup(bytes) if bytes.len() != SETUP_LENGTH);
+        if self.fault == Fault::SetupLengthBeforeRecord && setup_length_wrong {
+            return unchanged(9);
+        }
+        let image = match self.fault {
+            Fault::LongerImagePasses if image.len() > IMAGE_LENGTH => &image[..IMAGE_LENGTH],
+            _ => image,
+        };
+        let mends = self.fault == Fault::BusResetMendsRecord && *event == Event::BusReset;
+        match Record::read(image) {
+            Some(record) if record.fits(board) || mends => Step { board, record }.take(event),
+            _ => unchanged(8),
+        }
+    }
+}
+
+/// A record that fits its board, while an event changes it.
+struct Step<'a> {
+    board: &'a Board,
+    record: Record,
+}
+
+/// The endpoint that a request names.
+enum Named<'a> {
+    Zero,
+    Other(&'a Endpoint),
+}
+
+impl Step<'_> {
+    fn take(mut self, event: &Event) -> Outcome {
+        let answer = match event {
+            Event::Setup(bytes) => self.setup(bytes),
+            Event::StatusEnd => self.status_end(),
+            Event::BusReset => self.bus_reset(),
+            Event::Halt(address) => self.halt(*address),
+            Event::PacketPassed(address) => self.packet_passed(*address),
+        };
+        let mut outcome = Outcome::new(0, self.record.image());
+        match answer {
+            Ok(Reply::Nothing) => {}
+            Ok(Reply::Bytes(bytes)) => outcome.bytes = bytes,
+            Ok(Reply::Part(part)) => outcome.part = Some(part),
+            Err(number) => outcome.number = number,
+        }
+        outcome
+    }
+
+    fn has_fault(&self, fault: Fault) -> bool {
+        self.board.fault == fault
+    }
+
+    /// A setup of 8 bytes drops a waiting address, whatever comes of it.
+    fn setup(&mut self, bytes: &[u8]) -> Answer {
+        let bytes = match self.board.fault {
+            Fault::LongerSetupPasses if bytes.len() > SETUP_LENGTH => &bytes[..SETUP_LENGTH],
+            _ => bytes,
+        };
+        let Some(setup) = Setup::read(bytes) else {
+            if self.has_fault(Fault::WrongSetupLengthDropsWaitingAddress) {
+                self.record.waiting = NOTHING_WAITS;
+            }
+            return Err(9);
+        };
+        let waited = self.record.waiting;
+        self.record.waiting = NOTHING_WAITS;
+        let checked = requests::check(&setup, self.record.state, self.board.fault);
+        let answer = checked.and_then(|()| self.perform(&setup));
+        let keeps_waiting = match &answer {
+            Ok(_) => self.has_fault(Fault::AcceptedRequestKeepsWaitingAddress) && setup.code != requests::SET_ADDRESS,
+            Err(10) => self.has_fault(Fault::UnknownRequestKeepsWaitingAddress),
+            Err(11) => self.has_fault(Fault::RefusedStateKeepsWaitingAddress),
+            Err(12) => self.has_fault(Fault::WrongFieldKeepsWaitingAddress),
+            Err(_) => false,
+        };
+        if keeps_waiting {
+            self.record.waiting = waited;
+        }
+        answer
+    }
+
+    fn perform(&mut self, setup: &Setup) -> Answer {
+        match (setup.request_type, setup.code) {
+            (0x80, requests::GET_STATUS) => self.get_status_device(),
+            (0x81, requests::GET_STATUS) => self.interface(setup.index).map(|_| Reply::Bytes(vec![0, 0])),
+            (0x82, requests::GET_STATUS) => self.get_status_endpoint(setup),
+            (0x00, requests::CLEAR_FEATURE) => self.feature_device(setup, 0),
+            (0x00, requests::SET_FEATURE) => self.feature_device(setup, 1),
+            (0x01, requests::CLEAR_FEATURE | requests::SET_FEATURE) => self.interface(setup.index).and(Err(14)),
+            (0x02, requests::CLEAR_FEATURE) => self.clear_feature_endpoint(setup),
+            (0x02, requests::SET_FEATURE) => self.set_feature_endpoint(setup),
+            (_, requests::SET_ADDRESS) => self.set_address(setup.value),
+            (_, requests::GET_DESCRIPTOR) => self.get_descriptor(setup),
+            (_, requests::GET_CONFIGURATION) => Ok(Reply::Bytes(vec![self.record.configuration])),
+            (_, requests::SET_CONFIGURATION) => self.set_configuration(setup.value),
+            (_, requests::GET_INTERFACE) => self.get_interface(setup.index),
+            _ => self.set_interface(setup),
+        }
+    }
+
+    /// D0 is bit 6 of the selected configuration, of index 0 in Address; D1 is wakeup.
+    fn get_status_device(&self) -> Answer {
+        let selected = match self.record.selected(self.board) {
+            Some(selected) if !self.has_fault(Fault::SelfPoweredFromFirstConfiguration) => selected,
+            _ => &self.board.configurations[0],
+        };
+        let self_powered = selected.attributes >> 6 & 1;
+        let wakeup = if self.has_fault(Fault::WakeupNotReported) { 0 } else { self.record.wakeup };
+        Ok(Reply::Bytes(vec![self_powered | wakeup << 1, 0]))
+    }
+
+    fn get_status_endpoint(&self, setup: &Setup) -> Answer {
+        let halted = match self.endpoint(setup.index)? {
+            Named::Zero => false,
+            Named::Other(endpoint) => endpoint.has_halt() && self.is_halted(endpoint.address),
+        };
+        Ok(Reply::Bytes(vec![u8::from(halted), 0]))
+    }
+
+    fn is_halted(&self, address: u8) -> bool {
+        self.record.halts & bit(address) != 0
+    }
+
+    /// An interface by its whole wIndex, in Configured alone.
+    fn interface(&self, index: u16) -> Result<u8, u8> {
+        let index = if self.has_fault(Fault::InterfaceByLowByte) { index & 0xff } else { index };
+        let selected = self.record.selected(self.board).ok_or(13)?;
+        let interface = u8::try_from(index).map_err(|_| 13)?;
+        if interface < selected.interface_count {
+            Ok(interface)
+        } else {
+            Err(13)
+        }
+    }
+
+    /// Endpoint zero, or one in a current setting; wIndex counts whole.
+    fn endpoint(&self, index: u16) -> Result<Named<'_>, u8> {
+        let index = if self.has_fault(Fault::EndpointByLowByte) { index & 0xff } else { index };
+        if index == 0 || index == 0x80 && !self.has_fault(Fault::EndpointZeroOnlyOut) {
+            return Ok(Named::Zero);
+        }
+        let address = u8::try_from(index).map_err(|_| 13)?;
+        self.record.endpoint(self.board, address).map(Named::Other).ok_or(13)
+    }
+
+    fn feature_device(&mut self, setup: &Setup, wakeup: u8) -> Answer {
+        let supported = match self.record.selected(self.board) {
+            Some(selected) if self.has_fault(Fault::WakeupOfSelectedConfigurationOnly) => {
+                selected.attributes & 0x20 != 0
+            }
+            _ => self.board.supports_wakeup(),
+        };
+        if self.selector(setup) != 1 || !supported {
+            return Err(14);
+        }
+        self.record.wakeup = wakeup;
+        Ok(Reply::Nothing)
+    }
+
+    fn selector(&self, setup: &Setup) -> u16 {
+        if self.has_fault(Fault::FeatureByLowByte) {
+            setup.value & 0xff
+        } else {
+            setup.value
+        }
+    }
+
+    /// The endpoint whose halt a request sets or clears: 13 comes before 14.
+    fn endpoint_to_halt(&self, setup: &Setup) -> Result<u8, u8> {
+        let selected = self.selector(setup) == 0;
+        if self.has_fault(Fault::FeatureBeforeExistence) && !selected {
+            return Err(14);
+        }
+        match self.endpoint(setup.index)? {
+            Named::Other(endpoint)
+                if selected && (endpoint.has_halt() || self.has_fault(Fault::IsochronousMayHalt)) =>
+            {
+                Ok(endpoint.address)
+            }
+            Named::Zero if selected && self.has_fault(Fault::EndpointZeroMayHalt) => Ok(0),
+            _ => Err(14),
+        }
+    }
+
+    /// "Clearing a halt sets the toggle to 0, halted or not."
+    fn clear_feature_endpoint(&mut self, setup: &Setup) -> Answer {
+        let address = self.endpoint_to_halt(setup)?;
+        if self.is_halted(address) || !self.has_fault(Fault::ToggleClearedOnlyIfHalted) {
+            self.record.toggles &= !bit(address);
+        }
+        self.record.halts &= !bit(address);
+        Ok(Reply::Nothing)
+    }
+
+    /// "Setting one keeps the toggle."
+    fn set_feature_endpoint(&mut self, setup: &Setup) -> Answer {
+        let address = self.endpoint_to_halt(setup)?;
+        self.record.halts |= bit(address);
+        if self.has_fault(Fault::HaltFeatureClearsToggle) {
+            self.record.toggles &= !bit(address);
+        }
+        Ok(Reply::Nothing)
+    }
+
+    /// The address waits for the status end.
+    fn set_address(&mut self, value: u16) -> Answer {
+        let none = value == 0 && self.has_fault(Fault::AddressZeroWaitsAsNone);
+        self.record.waiting = if none { NOTHING_WAITS } else { value as u8 };
+        if self.has_fault(Fault::AddressTakenAtOnce) {
+            return self.status_end();
+        }
+        Ok(Reply::Nothing)
+    }
+
+    fn status_end(&mut self) -> Answer {
+        let waited = self.record.waiting;
+        if waited == NOTHING_WAITS {
+            return Ok(Reply::Nothing);
+        }
+        self.record.address = waited;
+        let leads_to_default = waited == 0 && !self.has_fault(Fault::AddressZeroLeadsToAddress);
+        self.record.state = if leads_to_default { DEFAULT } else { ADDRESS };
+        if !self.has_fault(Fault::StatusEndKeepsWaitingAddress) {
+            self.record.waiting = NOTHING_WAITS;
+        }
+        if self.has_fault(Fault::StatusEndClearsWakeup) {
+            self.record.wakeup = 0;
+        }
+        Ok(Reply::Nothing)
+    }
+
+    /// Never more than wLength bytes, from the start of the body.
+    fn get_descriptor(&self, setup: &Setup) -> Answer {
+        let [index, descriptor_type] = setup.value.to_le_bytes();
+        let body = match descriptor_type {
+            DEVICE if self.has_fault(Fault::DeviceIndexIgnored) => self.body_in_set(DEVICE, 0, 0)?,
+            DEVICE | CONFIGURATION => self.body_in_set(descriptor_type, index, 0)?,
+            STRING => self.string(index, setup.index)?,
+            _ => return Err(13),
+        };
+        let longest = if self.has_fault(Fault::DescriptorLongerThanAsked) { u16::MAX } else { setup.length };
+        let length = body.length.min(usize::from(longest));
+        let at_set = length == 0 && self.has_fault(Fault::EmptyPartStartsAtSet);
+        let offset = if at_set { 0 } else { body.offset };
+        Ok(Reply::Part(Part { offset, length, ..body }))
+    }
+
+    fn body_in_set(&self, descriptor_type: u8, index: u8, language: u16) -> Result<Part, u8> {
+        let entry = self.board.entry(descriptor_type, index, language).ok_or(13)?;
+        Ok(Part { block: Block::Set, offset: entry.offset, length: entry.length })
+    }
+
+    /// String 0 for any wIndex; others need a listed language; the serial index is answered from the serial block.
+    fn string(&self, index: u8, language: u16) -> Result<Part, u8> {
+        let listed = self.board.languages.contains(&language);
+        if index == 0 && (listed || !self.has_fault(Fault::StringZeroNeedsListedLanguage)) {
+            return self.body_in_set(STRING, 0, 0);
+        }
+        let is_serial = index != 0 && index == self.board.serial_index;
+        if is_serial && (listed || self.has_fault(Fault::SerialInAnyLanguage)) {
+            return Ok(Part { block: Block::Serial, offset: 0, length: self.board.serial_length });
+        }
+        if !listed {
+            return Err(13);
+        }
+        self.body_in_set(STRING, index, language)
+    }
+
+    /// "0 leads to Address. Either way alternates, halts and toggles become 0, also for the same value again."
+    fn set_configuration(&mut self, value: u16) -> Answer {
+        let value = u8::try_from(value).map_err(|_| 13)?;
+        let exists = match self.board.fault {
+            Fault::ConfigurationSelectedByIndex => usize::from(value) <= self.board.configurations.len(),
+            _ => self.board.configuration(value).is_some(),
+        };
+        if value != 0 && !exists {
+            return Err(13);
+        }
+        let same = self.record.state == CONFIGURED && self.record.configuration == value;
+        if same && self.has_fault(Fault::SameConfigurationKeepsSettings) {
+            return Ok(Reply::Nothing);
+        }
+        self.record.state = if value == 0 { ADDRESS } else { CONFIGURED };
+        self.record.configuration = value;
+        self.record.alternates = [0; 16];
+        self.record.halts = 0;
+        if value != 0 || !self.has_fault(Fault::ConfigurationZeroKeepsToggles) {
+            self.record.toggles = 0;
+        }
+        if self.has_fault(Fault::ConfigurationClearsWakeup) {
+            self.record.wakeup = 0;
+        }
+        Ok(Reply::Nothing)
+    }
+
+    fn get_interface(&self, index: u16) -> Answer {
+        let interface = self.interface(index)?;
+        Ok(Reply::Bytes(vec![self.record.alternates[usize::from(interface)]]))
+    }
+
+    fn set_interface(&mut self, setup: &Setup) -> Answer {
+        let interface = self.interface(setup.index)?;
+        let value = if self.has_fault(Fault::AlternateByLowByte) { setup.value & 0xff } else { setup.value };
+        let alternate = u8::try_from(value).map_err(|_| 13)?;
+        let selected = self.record.selected(self.board).ok_or(13)?;
+        selected.setting(interface, alternate).ok_or(13)?;
+        let before = std::mem::replace(&mut self.record.alternates[usize::from(interface)], alternate);
+        if before == alternate && self.has_fault(Fault::HaltsClearedOnlyWhenSettingDiffers) {
+            return Ok(Reply::Nothing);
+        }
+        let cleared = self.bits_cleared(interface, before, alternate);
+        self.record.halts &= !cleared;
+        if !self.has_fault(Fault::InterfaceClearsHaltsOnly) {
+            self.record.toggles &= !cleared;
+        }
+        Ok(Reply::Nothing)
+    }
+
+    /// "All endpoints of that interface, old and new setting, same setting included."
+    fn bits_cleared(&self, interface: u8, before: u8, after: u8) -> u32 {
+        if self.has_fault(Fault::InterfaceClearsEveryInterface) {
+            return u32::MAX;
+        }
+        let selected = self.record.selected(self.board).into_iter();
+        let settings = selected.flat_map(|selected| selected.settings_of(interface)).filter(|setting| {
+            let old = setting.alternate == before && !self.has_fault(Fault::InterfaceClearsNewSettingOnly);
+            old || setting.alternate == after
+        });
+        settings.flat_map(|setting| &setting.endpoints).fold(0, |bits, endpoint| bits | bit(endpoint.address))
+    }
+
+    fn bus_reset(&mut self) -> Answer {
+        let wakeup = if self.has_fault(Fault::BusResetKeepsWakeup) { self.record.wakeup } else { 0 };
+        self.record = Record { wakeup, ..Record::fresh() };
+        Ok(Reply::Nothing)
+    }
+
+    /// Bulk or interrupt in a current setting; keeps the toggle.
+    fn halt(&mut self, address: u8) -> Answer {
+        match self.record.endpoint(self.board, address) {
+            Some(endpoint) if endpoint.has_halt() => {
+                self.record.halts |= bit(endpoint.address);
+                if self.has_fault(Fault::HaltEventClearsToggle) {
+                    self.record.toggles &= !bit(endpoint.address);
+                }
+                Ok(Reply::Nothing)
+            }
+            _ => self.unfit_endpoint(),
+        }
+    }
+
+    /// Flips the toggle; bulk or interrupt, current, not halted.
+    fn packet_passed(&mut self, address: u8) -> Answer {
+        match self.record.endpoint(self.board, address) {
+            Some(endpoint)
+                if (endpoint.has_halt() || self.has_fault(Fault::IsochronousPassesPackets))
+                    && (!self.is_halted(endpoint.address) || self.has_fault(Fault::HaltedEndpointPassesPackets)) =>
+            {
+                self.record.toggles ^= bit(endpoint.address);
+                Ok(Reply::Nothing)
+            }
+            _ => self.unfit_endpoint(),
+        }
+    }
+
+    fn unfit_endpoint(&mut self) -> Answer {
+        if self.has_fault(Fault::UnfitEndpointDropsWaitingAddress) {
+            self.record.waiting = NOTHING_WAITS;
+        }
+        Err(16)
+    }
+}

@@ -1,0 +1,37 @@
+//! An implementation of document 01 that shares no line with the proved library, and the tests that it makes possible.
+
+mod call;
+mod commands;
+mod compare;
+mod concerns;
+mod damage;
+mod descriptors;
+mod draft;
+mod events;
+mod fault;
+mod files;
+mod lister;
+mod octets;
+mod opening;
+mod packets;
+mod protocol;
+mod questions;
+mod random;
+mod record;
+mod requests;
+mod rule;
+mod runs;
+mod serve;
+mod vectors;
+
+use std::process::ExitCode;
+
+fn main() -> ExitCode {
+    match commands::Arguments::read(std::env::args().skip(1)) {
+        Some(arguments) => commands::run(&arguments),
+        None => {
+            eprintln!("usage:\n{}", commands::USAGE);
+            ExitCode::from(2)
+        }
+    }
+}

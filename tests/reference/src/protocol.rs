@@ -1,0 +1,215 @@
+//! The bytes that go through the pipes between this program and the harness; tests/harness.c speaks the same.
+//!
+//! A command is an operation, a byte of placement flags, and what the operation takes; numbers are little-endian, a block
+//! is four bytes of length and its bytes:
+//!
+//!     S block                lends a set from now on       U block        lends a serial block from now on
+//!     o image                hk_open                       s image setup  hk_setup
+//!     e image                hk_status_end                 r image        hk_bus_reset
+//!     h endpoint(1) image    hk_halt                       p endpoint(1) image   hk_packet_passed
+//!     k reply_length(4) asked(2) size(4) number(4)         hk_packet
+//!
+//! Each call is answered with error(1) number(1) count(1) bytes(2) block(1) offset(4) length(4) and the image as a block.
+
+use std::io::{self, Read, Write};
+
+use crate::call::Call;
+use crate::events::{Block, Event, Outcome};
+use crate::octets::{hex, number, wide_number};
+
+/// How a call's blocks stand: NULL where empty, at the front edge of their room, and up to 3 bytes off the edge.
+pub const FLAGS: u8 = 0x0f;
+
+/// The largest block that either side takes.
+const LONGEST_BLOCK: usize = 100_000;
+
+pub enum Command {
+    Set(Vec<u8>),
+    Serial(Vec<u8>),
+    Call(Call),
+}
+
+#[derive(Clone, PartialEq, Eq, Debug)]
+pub struct Response {
+    error: u8,
+    number: u8,
+    count: u8,
+    bytes: [u8; 2],
+    block: u8,
+    offset: u32,
+    length: u32,
+    image: Vec<u8>,
+}
+
+impl Response {
+    /// An outcome as C sees it: bytes not handed back are 0, a part not handed back is the block's first 0 bytes.
+    pub fn of(call: &Call, outcome: &Outcome) -> Response {
+        let mut bytes = [0; 2];
+        bytes[..outcome.bytes.len()].copy_from_slice(&outcome.bytes);
+        let no_part = if matches!(call, Call::Packet { .. }) { Block::Reply } else { Block::Set };
+        let (block, offset, length) =
+            outcome.part.map_or((no_part, 0, 0), |part| (part.block, part.offset, part.length));
+        Response {
+            error: 0,
+            number: outcome.number,
+            count: outcome.bytes.len() as u8,
+            bytes,
+            block: block as u8,
+            offset: offset as u32,
+            length: length as u32,
+            image: outcome.image.clone(),
+        }
+    }
+
+    pub fn write(&self, stream: &mut impl Write) -> io::Result<()> {
+        stream.write_all(&[self.error, self.number, self.count, self.bytes[0], self.bytes[1], self.block])?;
+        stream.write_all(&self.offset.to_le_bytes())?;
+        stream.write_all(&self.length.to_le_bytes())?;
+        write_block(stream, &self.image)
+    }
+
+    pub fn read(stream: &mut impl Read) -> io::Result<Response> {
+        let head: [u8; 14] = read_array(stream)?;
+        Ok(Response {
+            error: head[0],
+            number: head[1],
+            count: head[2],
+            bytes: [head[3], head[4]],
+            block: head[5],
+            offset: wide_number(&head, 6),
+            length: wide_number(&head, 10),
+            image: read_block(stream)?,
+        })
+    }
+
+    /// What was got, and what was wrong besides.
+    pub fn describe(&self) -> String {
+        let error = match self.error {
+            0 => "",
+            1 => "; a byte outside the blocks, or in one that is only read, was changed",
+            2 => "; the part lies in no block that was lent, or was not written",
+            3 => "; memory outside the blocks was touched",
+            4 => "; the call stopped the program",
+            _ => "; the command was not understood",
+        };
+        let block = ["set", "serial", "reply"].get(usize::from(self.block)).unwrap_or(&"nowhere");
+        format!(
+            "{}, count {}, bytes {}, part {block}:{}:{}, image {}{error}",
+            self.number,
+            self.count,
+            hex(&self.bytes),
+            self.offset,
+            self.length,
+            hex(&self.image)
+        )
+    }
+}
+
+impl Command {
+    pub fn write(&self, flags: u8, stream: &mut impl Write) -> io::Result<()> {
+        let operation = match self {
+            Command::Set(_) => b'S',
+            Command::Serial(_) => b'U',
+            Command::Call(Call::Open { .. }) => b'o',
+            Command::Call(Call::Packet { .. }) => b'k',
+            Command::Call(Call::Event { event, .. }) => match event {
+                Event::Setup(_) => b's',
+                Event::StatusEnd => b'e',
+                Event::BusReset => b'r',
+                Event::Halt(_) => b'h',
+                Event::PacketPassed(_) => b'p',
+            },
+        };
+        stream.write_all(&[operation, flags])?;
+        match self {
+            Command::Set(block) | Command::Serial(block) => write_block(stream, block),
+            Command::Call(call) => write_call(call, stream),
+        }
+    }
+
+    /// None at the end of the stream.
+    pub fn read(stream: &mut impl Read) -> io::Result<Option<Command>> {
+        let mut operation = [0];
+        if stream.read(&mut operation)? == 0 {
+            return Ok(None);
+        }
+        let _flags: [u8; 1] = read_array(stream)?;
+        let command = match operation[0] {
+            b'S' => Command::Set(read_block(stream)?),
+            b'U' => Command::Serial(read_block(stream)?),
+            operation => Command::Call(read_call(operation, stream)?),
+        };
+        Ok(Some(command))
+    }
+}
+
+fn write_call(call: &Call, stream: &mut impl Write) -> io::Result<()> {
+    match call {
+        Call::Open { image } => write_block(stream, image),
+        Call::Event { image, event } => match event {
+            Event::Setup(setup) => {
+                write_block(stream, image)?;
+                write_block(stream, setup)
+            }
+            Event::StatusEnd | Event::BusReset => write_block(stream, image),
+            Event::Halt(address) | Event::PacketPassed(address) => {
+                stream.write_all(&[*address])?;
+                write_block(stream, image)
+            }
+        },
+        Call::Packet { reply_length, asked, size, packet } => {
+            stream.write_all(&(*reply_length as u32).to_le_bytes())?;
+            stream.write_all(&asked.to_le_bytes())?;
+            stream.write_all(&size.to_le_bytes())?;
+            stream.write_all(&packet.to_le_bytes())
+        }
+    }
+}
+
+fn read_call(operation: u8, stream: &mut impl Read) -> io::Result<Call> {
+    let event = match operation {
+        b'o' => return Ok(Call::Open { image: read_block(stream)? }),
+        b'k' => return read_packet(stream),
+        b's' => {
+            let image = read_block(stream)?;
+            return Ok(Call::Event { image, event: Event::Setup(read_block(stream)?) });
+        }
+        b'e' => Event::StatusEnd,
+        b'r' => Event::BusReset,
+        b'h' => Event::Halt(read_array::<1>(stream)?[0]),
+        b'p' => Event::PacketPassed(read_array::<1>(stream)?[0]),
+        _ => return Err(io::ErrorKind::InvalidData.into()),
+    };
+    Ok(Call::Event { image: read_block(stream)?, event })
+}
+
+fn read_packet(stream: &mut impl Read) -> io::Result<Call> {
+    let bytes: [u8; 14] = read_array(stream)?;
+    Ok(Call::Packet {
+        reply_length: wide_number(&bytes, 0) as usize,
+        asked: number(&bytes, 4),
+        size: wide_number(&bytes, 6),
+        packet: wide_number(&bytes, 10),
+    })
+}
+
+fn read_array<const LENGTH: usize>(stream: &mut impl Read) -> io::Result<[u8; LENGTH]> {
+    let mut bytes = [0; LENGTH];
+    stream.read_exact(&mut bytes)?;
+    Ok(bytes)
+}
+
+fn write_block(stream: &mut impl Write, block: &[u8]) -> io::Result<()> {
+    stream.write_all(&(block.len() as u32).to_le_bytes())?;
+    stream.write_all(block)
+}
+
+fn read_block(stream: &mut impl Read) -> io::Result<Vec<u8>> {
+    let length = u32::from_le_bytes(read_array(stream)?) as usize;
+    if length > LONGEST_BLOCK {
+        return Err(io::ErrorKind::InvalidData.into());
+    }
+    let mut block = vec![0; length];
+    stream.read_exact(&mut block)?;
+    Ok(block)
+}

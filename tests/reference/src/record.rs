@@ -1,0 +1,149 @@
+//! The device record, its 32-byte image, and whether it fits a board.
+
+use crate::descriptors::{Configuration, Endpoint, Setting};
+use crate::fault::Fault;
+use crate::octets::wide_number;
+use crate::opening::Board;
+
+pub const IMAGE_LENGTH: usize = 32;
+pub const NOTHING_WAITS: u8 = 255;
+
+pub const DEFAULT: u8 = 0;
+pub const ADDRESS: u8 = 1;
+pub const CONFIGURED: u8 = 2;
+
+#[derive(Clone, PartialEq, Eq, Debug)]
+pub struct Record {
+    pub state: u8,
+    pub address: u8,
+    pub waiting: u8,
+    pub configuration: u8,
+    pub wakeup: u8,
+    pub zeros: [u8; 3],
+    pub alternates: [u8; 16],
+    pub halts: u32,
+    pub toggles: u32,
+}
+
+/// The bit of an endpoint address: e for OUT number e, 16 + e for IN.
+pub fn bit(address: u8) -> u32 {
+    let direction = if address & 0x80 != 0 { 16 } else { 0 };
+    1 << (direction + u32::from(address & 15))
+}
+
+impl Record {
+    pub fn fresh() -> Record {
+        Record {
+            state: DEFAULT,
+            address: 0,
+            waiting: NOTHING_WAITS,
+            configuration: 0,
+            wakeup: 0,
+            zeros: [0; 3],
+            alternates: [0; 16],
+            halts: 0,
+            toggles: 0,
+        }
+    }
+
+    /// Any 32 bytes are the image of one record.
+    pub fn read(image: &[u8]) -> Option<Record> {
+        let image: &[u8; IMAGE_LENGTH] = image.try_into().ok()?;
+        let mut alternates = [0; 16];
+        alternates.copy_from_slice(&image[8..24]);
+        Some(Record {
+            state: image[0],
+            address: image[1],
+            waiting: image[2],
+            configuration: image[3],
+            wakeup: image[4],
+            zeros: [image[5], image[6], image[7]],
+            alternates,
+            halts: wide_number(image, 24),
+            toggles: wide_number(image, 28),
+        })
+    }
+
+    pub fn image(&self) -> Vec<u8> {
+        let mut image = vec![self.state, self.address, self.waiting, self.configuration, self.wakeup];
+        image.extend(self.zeros);
+        image.extend(self.alternates);
+        image.extend(self.halts.to_le_bytes());
+        image.extend(self.toggles.to_le_bytes());
+        image
+    }
+
+    pub fn fits(&self, board: &Board) -> bool {
+        self.state_fits(board)
+            && self.waiting_fits(board.fault)
+            && (self.wakeup == 0 || self.wakeup == 1 && wakeup_fits(board))
+            && (self.zeros == [0; 3] || board.fault == Fault::ZeroBytesIgnored)
+            && (0..16).all(|interface| self.alternate_fits(board, interface))
+            && self.halts & !self.bits_that_may_stand(board, Fault::HaltOfOtherSettingFits) == 0
+            && self.toggles & !self.bits_that_may_stand(board, Fault::IsochronousToggleFits) == 0
+    }
+
+    fn state_fits(&self, board: &Board) -> bool {
+        let has_address = (1..=127).contains(&self.address);
+        match self.state {
+            DEFAULT => (self.address == 0 || board.fault == Fault::AddressInDefaultFits) && self.configuration == 0,
+            ADDRESS => has_address && self.configuration == 0,
+            CONFIGURED => has_address && board.configuration(self.configuration).is_some(),
+            _ => false,
+        }
+    }
+
+    fn waiting_fits(&self, fault: Fault) -> bool {
+        let highest = if fault == Fault::Waiting128Fits { 128 } else { 127 };
+        let may_wait = self.state != CONFIGURED || fault == Fault::WaitingInConfiguredFits;
+        self.waiting == NOTHING_WAITS || may_wait && self.waiting <= highest
+    }
+
+    fn alternate_fits(&self, board: &Board, interface: u8) -> bool {
+        let alternate = self.alternates[usize::from(interface)];
+        let exists = self.selected(board).is_some_and(|selected| interface < selected.interface_count);
+        match self.selected(board) {
+            Some(selected) if exists => selected.setting(interface, alternate).is_some(),
+            _ => alternate == 0 || board.fault == Fault::AbsentInterfaceAlternateFits,
+        }
+    }
+
+    /// The bits of the bulk and interrupt endpoints of the current settings; two faults let more stand.
+    fn bits_that_may_stand(&self, board: &Board, lenient: Fault) -> u32 {
+        let every_setting = lenient == Fault::HaltOfOtherSettingFits && board.fault == lenient;
+        let every_type = lenient == Fault::IsochronousToggleFits && board.fault == lenient;
+        let Some(selected) = self.selected(board) else { return 0 };
+        let settings = selected.settings.iter().filter(|setting| every_setting || self.is_current(setting));
+        let endpoints = settings.flat_map(|setting| &setting.endpoints);
+        endpoints
+            .filter(|endpoint| every_type || endpoint.has_halt())
+            .fold(0, |bits, endpoint| bits | bit(endpoint.address))
+    }
+
+    /// The selected configuration: only Configured has one.
+    pub fn selected<'a>(&self, board: &'a Board) -> Option<&'a Configuration> {
+        if self.state == CONFIGURED {
+            board.configuration(self.configuration)
+        } else {
+            None
+        }
+    }
+
+    pub fn is_current(&self, setting: &Setting) -> bool {
+        self.alternates[usize::from(setting.interface)] == setting.alternate
+    }
+
+    /// The endpoint that a current setting lists under this address.
+    pub fn endpoint<'a>(&self, board: &'a Board, address: u8) -> Option<&'a Endpoint> {
+        let selected = self.selected(board)?;
+        let any_setting = board.fault == Fault::EndpointOfAnySetting;
+        let mut current = selected.settings.iter().filter(|setting| any_setting || self.is_current(setting));
+        let direction = if board.fault == Fault::EndpointWithoutDirection { 0x80 } else { 0 };
+        let named = |endpoint: &&Endpoint| endpoint.address | direction == address | direction;
+        current.find_map(|setting| setting.endpoints.iter().find(named))
+    }
+}
+
+fn wakeup_fits(board: &Board) -> bool {
+    board.supports_wakeup() || board.fault == Fault::WakeupWithoutSupportFits
+}

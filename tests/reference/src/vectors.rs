@@ -1,0 +1,148 @@
+//! A file of questions with answers: each is answered here, and by a program where one is given.
+
+use crate::call::Call;
+use crate::concerns::concerned;
+use crate::events::{Event, Lent};
+use crate::fault::Fault;
+use crate::lister::list;
+use crate::octets::{from_hex, hex};
+use crate::packets;
+use crate::record::Record;
+
+/// What is lent from now on, and the record for the next question.
+struct Script {
+    lent: Lent,
+    record: Vec<u8>,
+}
+
+/// An answer in the file's words, with the calls that the C boundary must answer alike.
+struct Told {
+    text: String,
+    calls: Vec<Call>,
+}
+
+/// How a file went.
+pub struct Tally {
+    pub questions: usize,
+    pub disagreements: Vec<String>,
+}
+
+/// Answers every question; `ask` is handed the calls that a program must answer alike.
+pub fn run(text: &str, ask: &mut dyn FnMut(&Lent, &Call)) -> Tally {
+    let mut script = Script { lent: Lent::new(Vec::new(), Vec::new(), Fault::None), record: Vec::new() };
+    let mut tally = Tally { questions: 0, disagreements: Vec::new() };
+    for (at, line) in text.lines().enumerate() {
+        let Some((question, expected)) = line.split_once(" -> ") else {
+            if script.lend(line).is_none() {
+                tally.disagreements.push(format!("line {}: not understood", at + 1));
+            }
+            continue;
+        };
+        tally.questions += 1;
+        match script.tell(question) {
+            None => tally.disagreements.push(format!("line {}: not understood", at + 1)),
+            Some(told) if told.text != expected => {
+                tally.disagreements.push(format!(
+                    "line {}: {question}: expected {expected}, answered {}",
+                    at + 1,
+                    told.text
+                ));
+            }
+            Some(told) => told.calls.iter().for_each(|call| ask(&script.lent, call)),
+        }
+    }
+    tally
+}
+
+impl Script {
+    /// A line that lends: set, serial or record.
+    fn lend(&mut self, line: &str) -> Option<()> {
+        let (what, bytes) = line.split_once(' ')?;
+        let bytes = from_hex(bytes)?;
+        match what {
+            "set" => self.lent = Lent::new(bytes, self.lent.serial.clone(), Fault::None),
+            "serial" => self.lent = Lent::new(self.lent.set.clone(), bytes, Fault::None),
+            "record" => self.record = bytes,
+            _ => return None,
+        }
+        Some(())
+    }
+
+    fn tell(&mut self, question: &str) -> Option<Told> {
+        let words: Vec<&str> = question.split(' ').collect();
+        let told = |text: String| Some(Told { text, calls: Vec::new() });
+        match words[0] {
+            "open" => Some(self.tell_call(Call::Open { image: self.record.clone() })),
+            "event" => {
+                let event = event(&words[1..])?;
+                Some(self.tell_call(Call::Event { image: self.record.clone(), event }))
+            }
+            "packet" => {
+                let numbers = numbers(&words[1..])?;
+                Some(self.tell_call(packet_call(numbers.get(..3)?, *numbers.get(3)?)?))
+            }
+            "count" => tell_count(&numbers(&words[1..])?),
+            "list" => told(hex(list(&self.lent.set, &self.lent.serial, Fault::None).as_bytes())),
+            "fits" => told(u8::from(self.fits()).to_string()),
+            "concerns" => told(self.concerned(&event(&words[1..])?)),
+            _ => None,
+        }
+    }
+
+    /// What the call leaves is lent to the next question.
+    fn tell_call(&mut self, call: Call) -> Told {
+        let outcome = call.answer(&self.lent);
+        let text = call.answer_words(&outcome);
+        if !matches!(call, Call::Packet { .. }) {
+            self.record = outcome.image;
+        }
+        Told { text, calls: vec![call] }
+    }
+
+    fn fits(&self) -> bool {
+        match (&self.lent.opened, Record::read(&self.record)) {
+            (Ok(board), Some(record)) => record.fits(board),
+            _ => false,
+        }
+    }
+
+    fn concerned(&self, event: &Event) -> String {
+        let interface = match (&self.lent.opened, Record::read(&self.record)) {
+            (Ok(board), Some(record)) if record.fits(board) => concerned(board, &record, event),
+            _ => None,
+        };
+        interface.map_or("-".to_string(), |interface| interface.to_string())
+    }
+}
+
+fn event(words: &[&str]) -> Option<Event> {
+    let address = || u8::from_str_radix(words.get(1)?, 16).ok();
+    match *words.first()? {
+        "setup" => Some(Event::Setup(from_hex(words.get(1)?)?)),
+        "status" => Some(Event::StatusEnd),
+        "reset" => Some(Event::BusReset),
+        "halt" => Some(Event::Halt(address()?)),
+        "passed" => Some(Event::PacketPassed(address()?)),
+        _ => None,
+    }
+}
+
+fn numbers(words: &[&str]) -> Option<Vec<u32>> {
+    words.iter().map(|word| word.parse().ok()).collect()
+}
+
+fn packet_call(numbers: &[u32], packet: u32) -> Option<Call> {
+    let &[reply_length, asked, size] = numbers else { return None };
+    Some(Call::Packet { reply_length: reply_length as usize, asked: u16::try_from(asked).ok()?, size, packet })
+}
+
+/// The C boundary has no count: packet count − 1 is there and packet count is not.
+fn tell_count(numbers: &[u32]) -> Option<Told> {
+    let &[reply_length, asked, size] = numbers else { return None };
+    let count = packets::count(reply_length as usize, u16::try_from(asked).ok()?, size, Fault::None);
+    let text = count.map_or("15 0".to_string(), |count| format!("0 {count}"));
+    let end = count.unwrap_or(0) as u32;
+    let around = [end.saturating_sub(1), end];
+    let calls = around.into_iter().map(|packet| packet_call(numbers, packet)).collect::<Option<Vec<Call>>>()?;
+    Some(Told { text, calls })
+}

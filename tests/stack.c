@@ -1,0 +1,202 @@
+/* stack SET SERIAL [SET SERIAL].. : how many bytes of stack each function of the library takes, on the sets in these files.
+ *
+ * Each call runs on a stack of its own that was painted before; the deepest byte that lost its paint tells, less what an
+ * empty call takes. More than 1,024 bytes fail: the smallest board has 2 KiB in all. */
+#define _XOPEN_SOURCE 700
+
+#include <stdint.h>
+#include <stdio.h>
+#include <stdlib.h>
+#include <string.h>
+#include <ucontext.h>
+
+#include "heideklonk.h"
+
+#define MOST 1024
+#define STACK_LENGTH 65536
+#define PAINT 0x5A
+
+enum function { EMPTY, OPEN, SETUP, STATUS_END, BUS_RESET, HALT, PACKET_PASSED, RECORD_EVENT, PACKET, FUNCTIONS };
+
+static const char *const names[FUNCTIONS] = {
+    "an empty call", "hk_open", "hk_setup", "hk_status_end", "hk_bus_reset", "hk_halt", "hk_packet_passed",
+    "hk_record_event", "hk_packet",
+};
+
+/* What the next call takes; static, so that nothing of it lies on the painted stack. */
+static enum function function;
+static uint8_t set[20000], serial[20000], image[HK_IMAGE_LENGTH], setup[HK_SETUP_LENGTH], bytes[2], count;
+static hk_record record;
+static uint8_t event, endpoint, number;
+static size_t set_length, serial_length;
+static hk_part part = HK_NO_PART;
+
+static uint8_t stack[STACK_LENGTH];
+static ucontext_t caller, painted;
+static size_t untouched, deepest[FUNCTIONS];
+
+/* Counts the bytes that kept their paint before it returns, since the way back takes stack too. */
+static void call(void) {
+    switch (function) {
+    case OPEN:
+        number = hk_open(set, set_length, serial, serial_length, image, sizeof image);
+        break;
+    case SETUP:
+        hk_setup(set, set_length, serial, serial_length, image, sizeof image, setup, sizeof setup, bytes, &count,
+                 &part);
+        break;
+    case STATUS_END:
+        hk_status_end(set, set_length, serial, serial_length, image, sizeof image);
+        break;
+    case BUS_RESET:
+        hk_bus_reset(set, set_length, serial, serial_length, image, sizeof image);
+        break;
+    case HALT:
+        hk_halt(set, set_length, serial, serial_length, image, sizeof image, endpoint);
+        break;
+    case PACKET_PASSED:
+        hk_packet_passed(set, set_length, serial, serial_length, image, sizeof image, endpoint);
+        break;
+    case RECORD_EVENT:
+        hk_record_event(set, set_length, serial, serial_length, &record, event, endpoint, setup, sizeof setup, bytes,
+                        &count, &part);
+        break;
+    case PACKET:
+        hk_packet(set, set_length, UINT16_MAX, 8, endpoint, &part);
+        break;
+    default:
+        break;
+    }
+    for (untouched = 0; untouched < sizeof stack && stack[untouched] == PAINT; untouched++)
+        continue;
+}
+
+static size_t depth_of_call(void) {
+    memset(stack, PAINT, sizeof stack);
+    if (getcontext(&painted) != 0)
+        exit(2);
+    painted.uc_stack.ss_sp = stack;
+    painted.uc_stack.ss_size = sizeof stack;
+    painted.uc_link = &caller;
+    makecontext(&painted, call, 0);
+    if (swapcontext(&caller, &painted) != 0)
+        exit(2);
+    return sizeof stack - untouched;
+}
+
+/* The second of two equal calls counts: the first may run the linker too. The record is that of the image. */
+static void measure(enum function measured) {
+    uint8_t before[HK_IMAGE_LENGTH];
+    size_t depth;
+    function = measured;
+    memcpy(before, image, sizeof image);
+    memcpy(&record, before, sizeof record);
+    depth_of_call();
+    memcpy(image, before, sizeof image);
+    memcpy(&record, before, sizeof record);
+    depth = depth_of_call();
+    if (depth > deepest[measured])
+        deepest[measured] = depth;
+}
+
+static void measure_record(uint8_t measured) {
+    event = measured;
+    measure(RECORD_EVENT);
+}
+
+static void ask(uint8_t request_type, uint8_t code, uint16_t value, uint16_t index, uint16_t length) {
+    const uint8_t asked[HK_SETUP_LENGTH] = {
+        request_type, code, (uint8_t)value, (uint8_t)(value >> 8),
+        (uint8_t)index, (uint8_t)(index >> 8), (uint8_t)length, (uint8_t)(length >> 8),
+    };
+    memcpy(setup, asked, sizeof setup);
+    measure_record(HK_EVENT_SETUP);
+    measure(SETUP);
+}
+
+/* Every request and every endpoint, in the state that the image is in. Each call starts from this image. */
+static void measure_state(void) {
+    static const uint8_t requests[15][3] = {
+        {0x80, 0, 2}, {0x81, 0, 2}, {0x82, 0, 2}, {0x00, 1, 0}, {0x01, 1, 0}, {0x02, 1, 0}, {0x00, 3, 0}, {0x01, 3, 0},
+        {0x02, 3, 0}, {0x00, 5, 0}, {0x80, 6, 255}, {0x80, 8, 1}, {0x00, 9, 0}, {0x81, 10, 1}, {0x01, 11, 0},
+    };
+    static const uint16_t values[] = {0, 1, 0x0100, 0x0200, 0x0201, 0x0300, 0x0301};
+    static const uint16_t indices[] = {0, 1, 0x0f, 0x81, 0x0409};
+    uint8_t state[HK_IMAGE_LENGTH];
+    memcpy(state, image, sizeof state);
+    for (size_t request = 0; request < sizeof requests / sizeof *requests; request++)
+        for (size_t value = 0; value < sizeof values / sizeof *values; value++)
+            for (size_t index = 0; index < sizeof indices / sizeof *indices; index++) {
+                memcpy(image, state, sizeof state);
+                ask(requests[request][0], requests[request][1], values[value], indices[index], requests[request][2]);
+            }
+    for (int address = 0; address < 32; address++) {
+        endpoint = (uint8_t)(address % 16 | (address < 16 ? 0 : 0x80));
+        measure_record(HK_EVENT_HALT);
+        measure_record(HK_EVENT_PACKET_PASSED);
+        memcpy(image, state, sizeof state);
+        measure(HALT);
+        memcpy(image, state, sizeof state);
+        measure(PACKET_PASSED);
+    }
+    memcpy(image, state, sizeof state);
+}
+
+/* From power-on through every state, with every configuration. */
+static void measure_set(void) {
+    static const uint8_t numbers[] = {0, 1, 255};
+    measure(OPEN);
+    if (number != HK_DONE) {
+        fprintf(stderr, "stack: a set was refused with %d\n", number);
+        exit(2);
+    }
+    measure_state();
+    ask(0x00, 5, 5, 0, 0);
+    measure_record(HK_EVENT_STATUS_END);
+    measure(STATUS_END);
+    measure_state();
+    for (uint16_t value = 1; value < 256; value++) {
+        ask(0x00, 9, value, 0, 0);
+        if (image[3] == value)
+            measure_state();
+    }
+    measure_record(HK_EVENT_BUS_RESET);
+    measure(BUS_RESET);
+    for (size_t at = 0; at < sizeof numbers; at++) {
+        endpoint = numbers[at];
+        measure(PACKET);
+    }
+}
+
+static size_t read_file(const char *path, uint8_t *to, size_t room) {
+    FILE *file = fopen(path, "rb");
+    size_t length;
+    if (file == NULL) {
+        perror(path);
+        exit(2);
+    }
+    length = fread(to, 1, room, file);
+    fclose(file);
+    return length;
+}
+
+int main(int argument_count, char **arguments) {
+    int too_deep = 0;
+    if (argument_count < 3 || argument_count % 2 == 0) {
+        fprintf(stderr, "usage: stack SET SERIAL [SET SERIAL]..\n");
+        return 2;
+    }
+    measure(EMPTY);
+    for (int at = 1; at < argument_count; at += 2) {
+        set_length = read_file(arguments[at], set, sizeof set);
+        serial_length = read_file(arguments[at + 1], serial, sizeof serial);
+        measure_set();
+    }
+    for (int at = OPEN; at < FUNCTIONS; at++) {
+        size_t taken = deepest[at] > deepest[EMPTY] ? deepest[at] - deepest[EMPTY] : 0;
+        printf("  %5zu bytes of stack  %s%s\n", taken, names[at], taken > MOST ? "  TOO DEEP" : "");
+        too_deep |= taken > MOST;
+    }
+    printf("stack: %s %d bytes at the most on %d sets\n", too_deep ? "OVER" : "within", MOST, argument_count / 2);
+    return too_deep;
+}

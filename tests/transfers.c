@@ -1,0 +1,158 @@
+#include "transfers.h"
+
+#include <stdio.h>
+#include <string.h>
+
+#include "words.h"
+
+#define ASKED(setup) two_bytes((setup) + 6)
+
+void fail(struct host *host, const char *what) {
+    printf("  FAILED: %s\n", what);
+    host->failures++;
+}
+
+void show_record(struct host *host, const char *when) {
+    if (memcmp(host->shown, host->device.record, HK_IMAGE_LENGTH) == 0)
+        return;
+    memcpy(host->shown, host->device.record, HK_IMAGE_LENGTH);
+    printf("  record%s: ", when);
+    print_record(host->shown);
+    putchar('\n');
+}
+
+/* What the board's application heard, if it is not what the host was told by STALL. */
+static void show_fault(uint8_t number) {
+    if (number != HK_DONE && (number < HK_REQUEST_UNKNOWN || number > HK_NO_SUCH_FEATURE))
+        printf("  the board's application hears %u: %s\n", number, number_in_words(number));
+}
+
+static void check_transfer_ended(struct host *host) {
+    if (host->device.transfer.stage != STAGE_NONE)
+        fail(host, "the device is still in a control transfer");
+}
+
+void reset_bus(struct host *host) {
+    printf("bus reset\n");
+    wire_reset_bus();
+    host->address = 0;
+    check_transfer_ended(host);
+    show_fault(wire_heard());
+    show_record(host, "");
+}
+
+void fill_setup(uint8_t *setup, uint8_t type, uint8_t code, unsigned value, unsigned index, unsigned length) {
+    unsigned fields[] = {value, index, length};
+    setup[0] = type;
+    setup[1] = code;
+    for (size_t at = 0; at < 3; at++) {
+        setup[2 + 2 * at] = (uint8_t)fields[at];
+        setup[3 + 2 * at] = (uint8_t)(fields[at] >> 8);
+    }
+}
+
+/* IN tokens until a packet is short or all that was asked is there. */
+static void take_data(struct host *host, unsigned asked) {
+    hk_part packet = HK_NO_PART;
+    do {
+        if (wire_take_packet(host->address, &packet) != WIRE_DONE) {
+            fail(host, "no packet came");
+            return;
+        }
+        if (packet.length > host->packet_size || packet.length > asked - host->length) {
+            fail(host, "a packet is too long");
+            return;
+        }
+        memcpy(host->bytes + host->length, packet.start, packet.length);
+        host->length += packet.length;
+        host->packets++;
+    } while (packet.length == host->packet_size && host->length < asked);
+    host->last_packet = packet.length;
+}
+
+uint8_t begin_transfer(struct host *host, const uint8_t *setup) {
+    host->length = host->packets = host->last_packet = 0;
+    wire_heard();
+    if (wire_send_setup(host->address, setup) != WIRE_DONE)
+        fail(host, "nobody answers at this address");
+    uint8_t number = wire_heard();
+    if (number == HK_DONE && !wire_follows_record())
+        fail(host, "the hardware does not follow the record before the status stage");
+    if (number == HK_DONE && ASKED(setup) > 0)
+        take_data(host, ASKED(setup));
+    return number;
+}
+
+void end_transfer_with_status(struct host *host, const uint8_t *setup, uint8_t number) {
+    hk_part packet = HK_NO_PART;
+    int sends_status = number == HK_DONE && ASKED(setup) > 0;
+    enum wire_answer answer =
+        sends_status ? wire_send_status(host->address) : wire_take_packet(host->address, &packet);
+    if (answer != (number == HK_DONE ? WIRE_DONE : WIRE_STALL) || packet.length > 0)
+        fail(host, "the status stage went wrong");
+    check_transfer_ended(host);
+}
+
+static void print_packets(const struct host *host) {
+    printf("%u byte%s in ", (unsigned)host->length, host->length == 1 ? "" : "s");
+    if (host->packets == 1) {
+        printf("one packet");
+        return;
+    }
+    printf("packets of ");
+    if (host->packets > 8) {
+        printf("%u (%u times), ", host->packet_size, (unsigned)host->packets - 1);
+    } else {
+        for (size_t packet = 1; packet < host->packets; packet++)
+            printf("%u, ", host->packet_size);
+    }
+    printf("%u", (unsigned)host->last_packet);
+}
+
+static void print_answer(const struct host *host, const uint8_t *setup, uint8_t number) {
+    printf("  -> ");
+    if (number != HK_DONE) {
+        printf("STALL, %u: %s\n", number, number_in_words(number));
+    } else if (host->packets == 0) {
+        printf("done\n");
+    } else if (setup[1] == GET_DESCRIPTOR) {
+        print_packets(host);
+        putchar('\n');
+        print_descriptors(setup, host->bytes, host->length);
+    } else {
+        print_packets(host);
+        printf(": ");
+        print_bytes(host->bytes, host->length);
+        putchar('\n');
+    }
+}
+
+uint8_t request(struct host *host, const uint8_t *setup) {
+    print_setup(setup);
+    putchar('\n');
+    uint8_t number = begin_transfer(host, setup);
+    print_answer(host, setup, number);
+    show_fault(number);
+    show_record(host, "");
+    end_transfer_with_status(host, setup, number);
+    show_record(host, " after the status stage");
+    return number;
+}
+
+void ask(struct host *host, uint8_t type, uint8_t code, unsigned value, unsigned index, unsigned length,
+         uint8_t expected) {
+    uint8_t setup[HK_SETUP_LENGTH];
+    fill_setup(setup, type, code, value, index, length);
+    if (request(host, setup) != expected)
+        fail(host, "not the answer that a host expects");
+}
+
+int pass_packet(struct host *host, uint8_t endpoint) {
+    printf("packet on endpoint %02X\n", endpoint);
+    int passed = wire_pass_packet(endpoint) == WIRE_DONE;
+    if (!passed)
+        printf("  -> STALL, the endpoint is halted\n");
+    show_fault(wire_heard());
+    show_record(host, "");
+    return passed;
+}

@@ -1,0 +1,45 @@
+/* The host's side of the bus, each step told in the transcript. */
+#ifndef TRANSFERS_H
+#define TRANSFERS_H
+
+#include "wire.h"
+
+struct host {
+    struct device device;
+    uint8_t address;                /* the one that the host uses */
+    uint8_t packet_size;            /* bMaxPacketSize0, once it is learnt */
+    uint8_t shown[HK_IMAGE_LENGTH]; /* the record as it was printed last */
+    int failures;
+
+    /* the last answer */
+    uint8_t bytes[65536];
+    size_t length, packets, last_packet;
+};
+
+/* Counts and prints what should not be. */
+void fail(struct host *host, const char *what);
+
+/* Prints the record if it is another than the one printed last. */
+void show_record(struct host *host, const char *when);
+
+void reset_bus(struct host *host);
+
+void fill_setup(uint8_t *setup, uint8_t type, uint8_t code, unsigned value, unsigned index, unsigned length);
+
+/* The setup and data stages: the answer is kept. The number is the library's; the host only sees a STALL. */
+uint8_t begin_transfer(struct host *host, const uint8_t *setup);
+
+/* The status stage. */
+void end_transfer_with_status(struct host *host, const uint8_t *setup, uint8_t number);
+
+/* A whole control transfer, printed. */
+uint8_t request(struct host *host, const uint8_t *setup);
+
+/* The same by its fields; another number than the expected one fails. */
+void ask(struct host *host, uint8_t type, uint8_t code, unsigned value, unsigned index, unsigned length,
+         uint8_t expected);
+
+/* A data packet on another endpoint; 1 if it passed. */
+int pass_packet(struct host *host, uint8_t endpoint);
+
+#endif

@@ -1,0 +1,34 @@
+/* The wire between the bench host and the device loop, in memory: the host puts tokens on it, the loop runs at once,
+ * and what the loop asked of its hardware (firmware/hardware.h) is the answer. */
+#ifndef WIRE_H
+#define WIRE_H
+
+#include "../firmware/device.h"
+
+enum wire_answer {
+    WIRE_DONE,  /* acknowledged, or a packet came */
+    WIRE_STALL,
+    WIRE_SILENT /* nobody has this address, or the device is not ready */
+};
+
+void wire_attach(struct device *device);
+void wire_reset_bus(void);
+
+/* Endpoint zero of the device that has this address. A SETUP is always acknowledged. */
+enum wire_answer wire_send_setup(uint8_t address, const uint8_t *setup);
+enum wire_answer wire_take_packet(uint8_t address, hk_part *packet);
+enum wire_answer wire_send_status(uint8_t address);
+
+/* From now on the hardware hands over so many bytes of a SETUP. */
+void wire_hand_over(uint8_t setup_length);
+
+/* A data packet on another endpoint, at the device's own address. */
+enum wire_answer wire_pass_packet(uint8_t endpoint);
+
+/* Whether the hardware was told of the record's endpoints as they are now. */
+int wire_follows_record(void);
+
+/* The number that the application heard last, HK_DONE if none since the last time that it was asked. */
+uint8_t wire_heard(void);
+
+#endif
