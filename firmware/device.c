@@ -1,0 +1,145 @@
+#include "device.h"
+#include "hardware.h"
+
+/* What every event is lent. */
+#define LENT(device) \
+    (device)->flash->set, (device)->flash->set_length, (device)->flash->serial, (device)->flash->serial_length, \
+        (device)->record, sizeof(device)->record
+
+#define RECORD_ADDRESS 1
+
+/* An accepted set's contents start with the device descriptor's entry, which has the offset at byte 8 of the set. */
+static uint32_t max_packet_size_0(const struct device_flash *flash) {
+    size_t device_descriptor = flash->set[8] | (size_t)flash->set[9] << 8;
+    return flash->set[device_descriptor + 7];
+}
+
+/* The record's address is the one to answer to: a new one waits in another byte until its status stage has ended. */
+static void follow_record(const struct device *device) {
+    hardware_set_address(device->record[RECORD_ADDRESS]);
+    hardware_set_endpoints(device->record);
+}
+
+static void conclude(const struct device *device, uint8_t number) {
+    if (number == HK_DONE)
+        follow_record(device);
+    else
+        application_hear(number);
+}
+
+/* Where the reply is shorter than asked, the last packet is short or empty, so that the host knows the end. */
+static void send_next_packet(struct device *device) {
+    struct device_transfer *transfer = &device->transfer;
+    hk_part packet = HK_NO_PART;
+    uint8_t number = hk_packet(transfer->reply.start, transfer->reply.length, transfer->asked,
+                               max_packet_size_0(device->flash), transfer->packet, &packet);
+    if (number == HK_DONE) {
+        transfer->packet++;
+        hardware_send_packet(packet.start, packet.length);
+    } else {
+        transfer->stage = STAGE_STATUS_OUT;
+    }
+}
+
+/* Without a data stage the status stage goes from the device to the host, whatever direction the request names. */
+static void send_answer(struct device *device, uint16_t asked) {
+    struct device_transfer *transfer = &device->transfer;
+    transfer->asked = asked;
+    transfer->packet = 0;
+    if (asked == 0) {
+        transfer->stage = STAGE_STATUS_IN;
+        hardware_send_packet(transfer->bytes, 0);
+    } else {
+        transfer->stage = STAGE_DATA_IN;
+        hardware_receive_status(); /* from the start: the host may end the data stage early */
+        send_next_packet(device);
+    }
+}
+
+static void handle_setup(struct device *device, const uint8_t *setup, size_t setup_length) {
+    struct device_transfer *transfer = &device->transfer;
+    hk_part part = HK_NO_PART;
+    uint8_t count = 0;
+    uint8_t number = hk_setup(LENT(device), setup, setup_length, transfer->bytes, &count, &part);
+    transfer->stage = STAGE_NONE;
+    if (number != HK_DONE) {
+        hardware_stall_endpoint_zero();
+        application_hear(number);
+        return;
+    }
+    if (count > 0) {
+        part.start = transfer->bytes;
+        part.length = count;
+    }
+    transfer->reply = part;
+    follow_record(device); /* before the status stage, which tells the host that it is done */
+    send_answer(device, (uint16_t)(setup[6] | setup[7] << 8));
+}
+
+static void end_transfer(struct device *device) {
+    device->transfer.stage = STAGE_NONE;
+    conclude(device, hk_status_end(LENT(device)));
+}
+
+static void handle_packet_taken(struct device *device) {
+    if (device->transfer.stage == STAGE_DATA_IN)
+        send_next_packet(device);
+    else if (device->transfer.stage == STAGE_STATUS_IN)
+        end_transfer(device);
+}
+
+static void handle_status_received(struct device *device) {
+    if (device->transfer.stage == STAGE_DATA_IN || device->transfer.stage == STAGE_STATUS_OUT)
+        end_transfer(device);
+}
+
+/* Only opening mends a record that does not fit, and a bus reset is the time for it: all starts afresh anyhow. */
+static void handle_bus_reset(struct device *device) {
+    uint8_t number = hk_bus_reset(LENT(device));
+    if (number == HK_RECORD_DOES_NOT_FIT) {
+        application_hear(number);
+        number = hk_open(LENT(device));
+    }
+    device->transfer.stage = STAGE_NONE;
+    conclude(device, number);
+}
+
+static void handle(struct device *device, const struct hardware_event *event) {
+    switch (event->kind) {
+    case HARDWARE_BUS_RESET:
+        handle_bus_reset(device);
+        break;
+    case HARDWARE_SETUP:
+        handle_setup(device, event->setup, event->setup_length);
+        break;
+    case HARDWARE_PACKET_TAKEN:
+        handle_packet_taken(device);
+        break;
+    case HARDWARE_STATUS_RECEIVED:
+        handle_status_received(device);
+        break;
+    case HARDWARE_ENDPOINT_PACKET:
+        conclude(device, hk_packet_passed(LENT(device), event->endpoint));
+        break;
+    }
+}
+
+uint8_t device_start(struct device *device, const struct device_flash *flash) {
+    device->flash = flash;
+    device->transfer.stage = STAGE_NONE;
+    uint8_t number = hk_open(LENT(device));
+    conclude(device, number);
+    return number;
+}
+
+void device_run(struct device *device) {
+    struct hardware_event event;
+    while (hardware_wait(&event))
+        handle(device, &event);
+}
+
+uint8_t device_halt(struct device *device, uint8_t endpoint) {
+    uint8_t number = hk_halt(LENT(device), endpoint);
+    conclude(device, number);
+    return number;
+}

@@ -1,0 +1,52 @@
+/* The device loop: USB 2.0 chapter 9 on a small board, over the library (heideklonk.h) and the board (hardware.h).
+ *
+ * Nothing is allocated and there are no variables but the caller's struct device. docs/FIRMWARE.md shows a main. */
+#ifndef DEVICE_H
+#define DEVICE_H
+
+#include <stddef.h>
+#include <stdint.h>
+
+#include "heideklonk.h"
+
+/* What stands in flash and is only read: the set, and this unit's own serial block (NULL and 0 where there is none). */
+struct device_flash {
+    const uint8_t *set;
+    size_t set_length;
+    const uint8_t *serial;
+    size_t serial_length;
+};
+
+enum device_stage {
+    STAGE_NONE,       /* no control transfer is under way, or it was answered with STALL */
+    STAGE_DATA_IN,    /* the answer goes out in packets */
+    STAGE_STATUS_OUT, /* the whole answer is out: the host's empty packet ends the transfer */
+    STAGE_STATUS_IN   /* there was no data: our empty packet ends the transfer */
+};
+
+/* The control transfer under way. */
+struct device_transfer {
+    enum device_stage stage;
+    uint16_t asked;   /* wLength */
+    uint32_t packet;  /* the packet to send next, from 0 */
+    uint8_t bytes[2]; /* an answer of 1 or 2 bytes stands here until it is out */
+    hk_part reply;    /* the answer: in the set, the serial block or bytes */
+};
+
+struct device {
+    const struct device_flash *flash;
+    uint8_t record[HK_IMAGE_LENGTH]; /* changed by the library alone */
+    struct device_transfer transfer;
+};
+
+/* Power-on: HK_DONE, and only then may the board connect to the bus; or which group of rules the flash breaks. */
+uint8_t device_start(struct device *device, const struct device_flash *flash);
+
+/* The loop: one event after the other, for as long as hardware_wait has one. */
+void device_run(struct device *device);
+
+/* The application halts a bulk or interrupt endpoint: from then on it answers STALL, until the host clears it.
+ * HK_DONE, or why not. */
+uint8_t device_halt(struct device *device, uint8_t endpoint);
+
+#endif

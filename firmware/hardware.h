@@ -1,0 +1,53 @@
+/* What the device loop asks of a board: a handful of functions over its USB peripheral, and one of the application.
+ * Only the loop calls them. */
+#ifndef HARDWARE_H
+#define HARDWARE_H
+
+#include <stddef.h>
+#include <stdint.h>
+
+#include "heideklonk.h"
+
+enum hardware_event_kind {
+    HARDWARE_BUS_RESET,
+    HARDWARE_SETUP,           /* a SETUP packet stands in setup, setup_length bytes of it */
+    HARDWARE_PACKET_TAKEN,    /* endpoint zero: the host has acknowledged the packet that was sent */
+    HARDWARE_STATUS_RECEIVED, /* endpoint zero: the host's empty packet has arrived */
+    HARDWARE_ENDPOINT_PACKET  /* a data packet was acknowledged on the bulk or interrupt endpoint `endpoint` */
+};
+
+struct hardware_event {
+    enum hardware_event_kind kind;
+    uint8_t endpoint;
+    uint8_t setup_length;
+    uint8_t setup[HK_SETUP_LENGTH];
+};
+
+/* The next event, in the order in which the bus had them. A board sleeps here until there is one and gives back 1;
+ * 0 ends the loop, which only a bench wants. */
+int hardware_wait(struct hardware_event *event);
+
+/* Endpoint zero, IN: hands one packet over, maybe an empty one. The bytes stay as they are until it is taken; a SETUP
+ * that comes before drops it. The first packet after a SETUP is DATA1, then they alternate, as most peripherals do by
+ * themselves. */
+void hardware_send_packet(const uint8_t *bytes, size_t length);
+
+/* Endpoint zero, OUT: makes it ready for the host's empty packet. */
+void hardware_receive_status(void);
+
+/* Endpoint zero: STALL to all but the next SETUP, which ends the STALL. */
+void hardware_stall_endpoint_zero(void);
+
+/* The address to answer to from now on. */
+void hardware_set_address(uint8_t address);
+
+/* The other endpoints, as the record has them: open those of the configuration (byte 3) and its alternate settings
+ * (bytes 8 to 23), STALL those with a bit in the halts (bytes 24 to 27) and send or expect DATA1 at those with a bit in
+ * the toggles (bytes 28 to 31). Bit e is OUT number e, bit 16 + e is IN. */
+void hardware_set_endpoints(const uint8_t *record);
+
+/* The application hears every number but HK_DONE. HK_REQUEST_UNKNOWN to HK_NO_SUCH_FEATURE are the host's doing, and it
+ * was told by STALL. All others are a fault on the board: its flash, its memory, its peripheral or its application. */
+void application_hear(uint8_t number);
+
+#endif

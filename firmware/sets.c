@@ -1,0 +1,103 @@
+#include "sets.h"
+
+/* A number of two bytes, the low one first. */
+#define TWO(number) (number) & 0xFF, (number) >> 8
+
+static const uint8_t bench_set[] = {
+    TWO(63), 2, 0, /* total length, entries */
+
+    /* contents: type, index, language, offset, length */
+    1, 0, TWO(0), TWO(20), TWO(18),
+    2, 0, TWO(0), TWO(38), TWO(25),
+
+    /* device: USB 2.00, class FF, bMaxPacketSize0 8, 1234:5678, release 1.00, no strings, one configuration */
+    18, 1, TWO(0x0200), 0xFF, 0, 0, 8, TWO(0x1234), TWO(0x5678), TWO(0x0100), 0, 0, 0, 1,
+
+    /* configuration 1: 25 bytes, one interface, bus-powered, 100 mA */
+    9, 2, TWO(25), 1, 1, 0, 0x80, 50,
+    /* interface 0, alternate 0: one endpoint */
+    9, 4, 0, 0, 1, 0xFF, 0, 0, 0,
+    /* endpoint 81: interrupt, 8 bytes, every 10 ms */
+    7, 5, 0x81, 3, TWO(8), 10,
+};
+
+const struct device_flash bench_flash = {bench_set, sizeof bench_set, NULL, 0};
+
+#define GERMAN 0x0407
+#define ENGLISH 0x0409
+
+static const uint8_t titrator_set[] = {
+    TWO(403), 7, 0, /* total length, entries */
+
+    /* contents: type, index, language, offset, length; ascending by type, then language, then index */
+    1, 0, TWO(0), TWO(60), TWO(18), /* device */
+    2, 0, TWO(0), TWO(78), TWO(99), /* configuration 2 */
+    3, 0, TWO(0), TWO(177), TWO(6), /* languages */
+    3, 1, TWO(GERMAN), TWO(183), TWO(44), /* manufacturer */
+    3, 2, TWO(GERMAN), TWO(227), TWO(64), /* product */
+    3, 1, TWO(ENGLISH), TWO(291), TWO(46), /* manufacturer */
+    3, 2, TWO(ENGLISH), TWO(337), TWO(66), /* product */
+
+    /* device: USB 2.00, class by interface, bMaxPacketSize0 64, 1209:0001, release 1.00; string 1 manufacturer,
+     * 2 product, 3 serial number; one configuration */
+    18, 1, TWO(0x0200), 0, 0, 0, 64, TWO(0x1209), TWO(0x0001), TWO(0x0100), 1, 2, 3, 1,
+
+    /* configuration 2 (its value; its index is 0): 99 bytes, two interfaces, self-powered, remote wakeup, 100 mA */
+    9, 2, TWO(99), 2, 2, 0, 0xE0, 50,
+
+    /* interface 0, alternate 0: the burette takes commands and answers */
+    9, 4, 0, 0, 2, 0xFF, 0, 0, 0,
+    7, 5, 0x81, 2, TWO(64), 0, /* bulk IN */
+    7, 5, 0x01, 2, TWO(64), 0, /* bulk OUT */
+
+    /* interface 0, alternate 1: the same, and it tells when the titration is over */
+    9, 4, 0, 1, 3, 0xFF, 0, 0, 0,
+    7, 5, 0x81, 2, TWO(64), 0, /* bulk IN */
+    7, 5, 0x01, 2, TWO(64), 0, /* bulk OUT */
+    7, 5, 0x82, 3, TWO(8), 10, /* interrupt IN, every 10 ms */
+
+    /* interface 1, alternate 0: the electrode, silent and without a share of the bus */
+    9, 4, 1, 0, 0, 0xFF, 1, 0, 0,
+    5, 0x24, 1, TWO(192), /* a descriptor of the maker's class, which the library steps over */
+
+    /* interface 1, alternate 1: the electrode's readings as they come */
+    9, 4, 1, 1, 2, 0xFF, 1, 0, 0,
+    7, 5, 0x83, 5, TWO(192), 1, /* isochronous IN, asynchronous, every frame */
+    7, 5, 0x84, 3, TWO(16), 100, /* interrupt IN: out of range */
+
+    /* string 0: the languages */
+    6, 3, TWO(GERMAN), TWO(ENGLISH),
+
+    /* manufacturer, German */
+    44, 3,
+    'H', 0, 'e', 0, 'i', 0, 'd', 0, 'e', 0, 'k', 0, 'l', 0, 'o', 0,
+    'n', 0, 'k', 0, ' ', 0, 'M', 0, 'e', 0, 's', 0, 's', 0, 'g', 0,
+    'e', 0, 'r', 0, 0xE4, 0, 't', 0, 'e', 0,
+
+    /* product, German: 64 bytes, a whole packet, so an empty one ends it */
+    64, 3,
+    'H', 0, 'e', 0, 'i', 0, 'd', 0, 'e', 0, 'k', 0, 'l', 0, 'o', 0,
+    'n', 0, 'k', 0, ' ', 0, 'T', 0, 'i', 0, 't', 0, 'r', 0, 'a', 0,
+    't', 0, 'o', 0, 'r', 0, ' ', 0, 'm', 0, 'i', 0, 't', 0, ' ', 0,
+    'B', 0, 0xFC, 0, 'r', 0, 'e', 0, 't', 0, 't', 0, 'e', 0,
+
+    /* manufacturer, English */
+    46, 3,
+    'H', 0, 'e', 0, 'i', 0, 'd', 0, 'e', 0, 'k', 0, 'l', 0, 'o', 0,
+    'n', 0, 'k', 0, ' ', 0, 'I', 0, 'n', 0, 's', 0, 't', 0, 'r', 0,
+    'u', 0, 'm', 0, 'e', 0, 'n', 0, 't', 0, 's', 0,
+
+    /* product, English */
+    66, 3,
+    'H', 0, 'e', 0, 'i', 0, 'd', 0, 'e', 0, 'k', 0, 'l', 0, 'o', 0,
+    'n', 0, 'k', 0, ' ', 0, 't', 0, 'i', 0, 't', 0, 'r', 0, 'a', 0,
+    't', 0, 'o', 0, 'r', 0, ' ', 0, 'w', 0, 'i', 0, 't', 0, 'h', 0,
+    ' ', 0, 'b', 0, 'u', 0, 'r', 0, 'e', 0, 't', 0, 't', 0, 'e', 0,
+};
+
+static const uint8_t titrator_serial[] = {
+    20, 3,
+    'H', 0, 'K', 0, '-', 0, '0', 0, '0', 0, '0', 0, '1', 0, '2', 0, '3', 0,
+};
+
+const struct device_flash titrator_flash = {titrator_set, sizeof titrator_set, titrator_serial, sizeof titrator_serial};

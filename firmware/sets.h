@@ -1,0 +1,13 @@
+/* Two boards' flash, as their makers would write it. */
+#ifndef SETS_H
+#define SETS_H
+
+#include "device.h"
+
+/* The bench set S of document 01: one interrupt endpoint, no strings, no serial block. */
+extern const struct device_flash bench_flash;
+
+/* A titrator: two interfaces with alternate settings, strings in two languages and a serial number. */
+extern const struct device_flash titrator_flash;
+
+#endif
