@@ -8,7 +8,6 @@ use events::reply;
 use libc::STDIN_FILENO;
 use libc::STDOUT_FILENO;
 use records::Device;
-ghost use mathlib.Core.Path.{_≡_};
 ghost use Prim.Native.Nat.{_<_, _≤_};
 ghost use lib.ListN.{length};
 

@@ -3,7 +3,6 @@ use Prim.Native.Nat.{ℕ}
 use mathlib.Core.Path.{_≡_, refl, sym, _∙_}
 use mathlib.Core.List.{List, [], _∷_}
 use lib.ListN.{length}
-use lib.Dec.{eqb}
 use borrow.Author.Tests.{eq-eqb, ne-eqb}
 use Rattle.descriptors.specs.Limits.{fullSpeed}
 use Rattle.sets.specs.Opening.{Board, opening}
@@ -15,7 +14,7 @@ use Rattle.events.specs.declared.Answer.{Answer}
 use Rattle.events.specs.declared.Answer.the-variants.{Done, OneByte, TwoBytes, SetPart, SerialPart, Refused}
 use Rattle.events.specs.declared.Event.{Event}
 use Rattle.events.specs.Answer.{bytesOf}
-use Rattle.events.specs.Step.{opened, Reply, replyOf, step, event}
+use Rattle.events.specs.Step.{opened, replyOf, step, event}
 use Rattle.board.specs.Statements.{Opens, padded}
 
 module _ (b : Board) (image : List ℕ) where

@@ -1,11 +1,11 @@
 -- What a walk over a well-cut body has still ahead of it: the descriptors from a place on, and the endpoints that they list.
 -- Every lookup is a loop over these. Assumes nothing.
-use Prim.Native.Nat.{ℕ, _≤_, _<_}
+use Prim.Native.Nat.{ℕ, _+_, _≤_, _<_}
 use native.Mathlib.Nat.{lt-of-not-le}
 use native.Mathlib.Omega.{arith}
 use mathlib.Core.Path.{_≡_, refl, sym, ap, _∙_}
-use mathlib.Core.List.{List, [], _∷_, _++_, map, map-map}
-use mathlib.Core.Bool.{Bool, true, false, _&&_, _||_}
+use mathlib.Core.List.{List, [], _∷_, _++_, map}
+use mathlib.Core.Bool.{Bool, true, false, _&&_, _||_, or-assoc, or-false}
 use mathlib.Core.Option.{some}
 use lib.ListN.{length, drop}
 use lib.Dec.{eqb}
@@ -13,19 +13,17 @@ use borrow.Author.Tests.{eqb-true}
 use Rattle.octets.specs.Octets.{byte}
 use Rattle.octets.specs.Bit.{setBit}
 use Rattle.octets.specs.Sentences.{pick, any, only, first}
-use Rattle.octets.proofs.Sentences.{never, any-map}
+use Rattle.octets.proofs.Sentences.{cases, never, any-map}
 use Rattle.descriptors.specs.declared.Setting.{Setting}
 use Rattle.descriptors.specs.declared.Endpoint.{Endpoint}
 use Rattle.descriptors.specs.declared.Stand.{Stand}
 use Rattle.descriptors.specs.declared.Step.{Step}
-use Rattle.descriptors.specs.declared.lookup.EndpointFound.{EndpointFound}
-use Rattle.descriptors.specs.declared.lookup.EndpointFound.the-variants.{At, Nothing}
 use Rattle.descriptors.specs.Cut.{Cuts, whole, descriptor, cut, cutAfter, descriptorsOf, wellCut}
-use Rattle.descriptors.specs.Descriptor.{isInterface, isEndpoint, bInterfaceNumber, bAlternateSetting, iInterface, bEndpointAddress}
+use Rattle.descriptors.specs.Descriptor.{isInterface, isEndpoint, bInterfaceNumber, bAlternateSetting, bEndpointAddress}
 use Rattle.descriptors.specs.Interfaces.{grouped, settingOf, endpointOf, endpointsOf}
-use Rattle.descriptors.specs.Configuration.{behind, groupsOf, configurationOf, configurationReferences, iConfiguration, bitOf}
+use Rattle.descriptors.specs.Configuration.{behind, groupsOf, configurationOf, bitOf}
 use Rattle.descriptors.specs.Walk.{before, standOf, stepsOn, stepOf}
-use Rattle.descriptors.specs.Lookup.{found, standing, lists, listed, listsOne, bitsFrom}
+use Rattle.descriptors.specs.Lookup.{standing, lists, listed, listsOne, bitsFrom}
 use Rattle.descriptors.proofs.Walk.{spanned, moved, stuck, well-on, cut-end}
 
 -- ---- the descriptors ahead
@@ -52,6 +50,16 @@ descriptors-end : descriptorsOf whole ≡ []
 unfolding descriptorsOf
 descriptors-end = refl
 
+-- a walk that moved on stepped over the next descriptor, also of a body that is broken further on
+module _ (body : List ℕ) (at : ℕ) (stand : Stand) (h : at < length body) where
+  pub ahead-step : (step : Step) → step ≡ stepOf body at stand → at < step .end → ahead body at ≡ spanned body at (step .end) ∷ ahead body (step .end)
+  ahead-step step e m = rw e (ap descriptorsOf (moved body at stand h (rw e at m) .cuts) ∙ descriptors-step _ _)
+
+-- a descriptor in a well-cut body is whole
+pub steps : (body : List ℕ) (at : ℕ) → Place body at → at < length body → stepsOn body at ≡ true
+steps body at p h =
+    cases (stepsOn body at) (λ q. q) (λ q. let e : stepOf body at before .end ≡ at = rw q in never (p .well) (stuck body at before h (omega arith)))
+
 module _ (body : List ℕ) (at : ℕ) (stand : Stand) (p : Place body at) (h : at < length body) where
   moves : at < stepOf body at stand .end
   moves = lt-of-not-le (λ m. never (p .well) (stuck body at stand h m))
@@ -62,7 +70,7 @@ module _ (body : List ℕ) (at : ℕ) (stand : Stand) (p : Place body at) (h : a
       record {
         on = moves;
         place = record { inside = m .inside; well = sym (well-on body at stand h moves) ∙ p .well };
-        next = ap descriptorsOf (m .cuts) ∙ descriptors-step _ _;
+        next = ahead-step body at stand h (stepOf body at stand) refl moves;
         stands = m .stands;
       }
 
@@ -78,18 +86,15 @@ pub record Begun (body : List ℕ) (at : ℕ) : Type 0 where
   pub place : Place body at
   pub all : ahead body at ≡ behind (descriptorsOf (cut body))
 
-first-end : (body : List ℕ) (b : Bool) → stepsOn body 0 ≡ b → 0 < stepOf body 0 before .end → stepOf body 0 before .end ≡ byte body 0
-first-end body true p m = rw p (omega arith)
-first-end body false p m = let e : stepOf body 0 before .end ≡ 0 = rw p in absurd (omega arith)
-
 pub begun : (body : List ℕ) (at : ℕ) → wellCut (cut body) ≡ true → at ≡ byte body 0 → Begun body at
 unfolding descriptorsOf cutAfter
 begun [] at w e = rw e (record { place = record { inside = omega arith; well = w }; all = refl })
 begun (b ∷ bs) at w e =
     let body = b ∷ bs in
     let h : 0 < length body = omega arith in
-    let t = turned body 0 before (record { inside = omega arith; well = w }) h in
-    let q : at ≡ stepOf body 0 before .end = e ∙ sym (first-end body (stepsOn body 0) refl (t .on)) in
+    let p : Place body 0 = record { inside = omega arith; well = w } in
+    let t = turned body 0 before p h in
+    let q : at ≡ stepOf body 0 before .end = rw (steps body 0 p h, e) (omega arith) in
     rw q (record { place = t .place; all = sym (ap behind (t .next)) })
 
 -- ---- the settings: those of the interface descriptors
@@ -129,14 +134,6 @@ pub settings-begin : (t : Setting → Bool) {body : List ℕ} {at : ℕ} → Beg
     → any t (configurationOf body .settings) ≡ any (λ d. isInterface d && t (begins d)) (ahead body at)
 settings-begin t {body} b = any-setting t body ∙ sym (ap (any (λ d. isInterface d && t (begins d))) (b .all))
 
--- the string references are those of the interface descriptors, in order
-pub references-begin : {body : List ℕ} {at : ℕ} → Begun body at
-    → configurationReferences body ≡ iConfiguration body ∷ map iInterface (only isInterface (ahead body at))
-unfolding configurationReferences groupsOf
-references-begin {body} b =
-    let ds = behind (descriptorsOf (cut body)) in
-    ap (_∷_ (iConfiguration body)) (sym (map-map iInterface (λ g. g .head) (grouped ds .groups)) ∙ ap (map iInterface) (heads ds ∙ ap (only isInterface) (sym (b .all))))
-
 -- ---- the endpoints: those that the descriptors list, each where it stands
 unfoldable pub endpointsUnder : Stand → List (List ℕ) → List Endpoint
 endpointsUnder stand [] = []
@@ -144,7 +141,7 @@ endpointsUnder stand (d ∷ ds) =
     let rest = endpointsUnder (standOf stand d) ds in
     pick (lists (standOf stand d) d) (listed (standOf stand d) d ∷ rest) rest
 
-not-both : (d : List ℕ) → isInterface d ≡ true → isEndpoint d ≡ false
+pub not-both : (d : List ℕ) → isInterface d ≡ true → isEndpoint d ≡ false
 not-both d p = ap (λ (n : ℕ). eqb n 5) (eqb-true (byte d 1) 4 p)
 
 under : (stand : Stand) (ds : List (List ℕ))
@@ -192,6 +189,15 @@ module _ (t : List ℕ → Bool) {body : List ℕ} {at : ℕ} {stand : Stand} {s
 pub none-ahead : (t : List ℕ → Bool) (body : List ℕ) (at : ℕ) {total : Bool} → length body ≤ at → total ≡ any t (ahead body at) → false ≡ total
 none-ahead t body at h inv = sym (inv ∙ any-end t body at h)
 
+-- the same where the search goes on past the first: b tells of those that are passed
+module _ (t : List ℕ → Bool) {body : List ℕ} {at : ℕ} {stand : Stand} {step : Step} (b : Bool) {total : Bool}
+    (turn : Turn body at stand step) (inv : total ≡ (b || any t (ahead body at))) where
+  pub any-on : {more : Bool} → more ≡ t (spanned body at (step .end)) → total ≡ ((b || more) || any t (ahead body (step .end)))
+  any-on p = inv ∙ rw (any-turn t turn, p) (sym (or-assoc b (t (spanned body at (step .end))) (any t (ahead body (step .end)))))
+
+pub any-all : (t : List ℕ → Bool) (body : List ℕ) (at : ℕ) {b total : Bool} → length body ≤ at → total ≡ (b || any t (ahead body at)) → b ≡ total
+any-all t body at {b} h inv = sym (inv ∙ rw (any-end t body at h) (or-false b))
+
 -- ---- the endpoints ahead, a descriptor at a time
 no-endpoints : (stand : Stand) → endpointsUnder stand [] ≡ []
 unfolding endpointsUnder
@@ -217,12 +223,7 @@ module _ {body : List ℕ} {at : ℕ} {stand : Stand} {step : Step} (turn : Turn
       ≡ before-others (lists (step .stand) here) (listed (step .stand) here) (endpointsUnder (step .stand) (ahead body (step .end)))
   endpoints-turn = ap (endpointsUnder stand) (turn .next) ∙ under-step stand here _ ∙ rw (turn .stands)
 
--- ---- a search among the endpoints ahead
-first-step : (t : Endpoint → Bool) (b : Bool) (e : Endpoint) (es : List Endpoint) → first t (before-others b e es) ≡ pick (b && t e) (some e) (first t es)
-unfolding first
-first-step t true e es = refl
-first-step t false e es = refl
-
+-- ---- the first, and the bits, of some of the endpoints ahead
 pub first-only : {A : Type 0} (t f : A → Bool) (xs : List A) → first t (only f xs) ≡ first (λ x. f x && t x) xs
 unfolding first only
 first-only t f [] = refl
@@ -232,28 +233,6 @@ first-only t f (x ∷ xs) = go (f x) (first-only t f xs)
     go true rest = ap (pick (t x) (some x)) rest
     go false rest = rest
 
-module _ (t : Endpoint → Bool) {body : List ℕ} {at : ℕ} {stand : Stand} {step : Step} {total : EndpointFound}
-    (turn : Turn body at stand step) (inv : total ≡ found (first t (endpointsUnder stand (ahead body at)))) where
-  sought : total ≡ found (pick (listsOne t (step .stand) (spanned body at (step .end))) (some (listed (step .stand) (spanned body at (step .end)))) (first t (endpointsUnder (step .stand) (ahead body (step .end)))))
-  sought =
-      let d = spanned body at (step .end) in
-      inv ∙ ap (λ (es : List Endpoint). found (first t es)) (endpoints-turn turn) ∙
-      ap found (first-step t (lists (step .stand) d) (listed (step .stand) d) (endpointsUnder (step .stand) (ahead body (step .end))))
-
-  pub found-here : {b : Bool} → b ≡ listsOne t (step .stand) (spanned body at (step .end)) → b ≡ true
-      → {e : Endpoint} → e ≡ listed (step .stand) (spanned body at (step .end)) → At e ≡ total
-  found-here p q r = ap At r ∙ sym (sought ∙ rw (sym p ∙ q))
-
-  pub not-here : {b : Bool} → b ≡ listsOne t (step .stand) (spanned body at (step .end)) → b ≡ false
-      → total ≡ found (first t (endpointsUnder (step .stand) (ahead body (step .end))))
-  not-here p q = sought ∙ rw (sym p ∙ q)
-
-pub found-none : (t : Endpoint → Bool) (body : List ℕ) (at : ℕ) (stand : Stand) {total : EndpointFound} → length body ≤ at
-    → total ≡ found (first t (endpointsUnder stand (ahead body at))) → Nothing ≡ total
-unfolding first
-found-none t body at stand h inv = sym (inv ∙ ap (λ (es : List Endpoint). found (first t es)) (endpoints-end body at stand h))
-
--- ---- the bits of some of the endpoints ahead
 only-step : (t : Endpoint → Bool) (b : Bool) (e : Endpoint) (es : List Endpoint) → only t (before-others b e es) ≡ before-others (b && t e) e (only t es)
 unfolding only
 only-step t true e es = refl

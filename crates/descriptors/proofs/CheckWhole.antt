@@ -84,15 +84,9 @@ past well true rest k i p = sym p
 past true false rest k i p = refl
 past false false rest k i p = refl
 
-module _ (limits : Limits) (body : List ℕ) (step : Step) (e : step ≡ stepOf body 0 before) where
+module _ (body : List ℕ) (step : Step) (e : step ≡ stepOf body 0 before) where
   nothing : length body ≤ 0 → step .end ≡ 0
   nothing h = rw (e, le-ltb 0 (length body) h, and-false (leb 2 (byte body 0)))
-
-  pub check-none : step .end ≡ 0 → false ≡ goodConfiguration limits body
-  unfolding goodConfiguration goodDescriptors wellCut descriptorsOf
-  check-none p = cases (ltb 0 (length body))
-      (λ q. rw (stuck body 0 before (ltb-true 0 (length body) q) (rw (← e, p) (le-refl 0))))
-      (λ q. rw (cut-end body 0 (ltb-false 0 (length body) q)))
 
   module _ (m : 0 < step .end) where
     some-bytes : 0 < length body
@@ -101,9 +95,17 @@ module _ (limits : Limits) (body : List ℕ) (step : Step) (e : step ≡ stepOf 
     pub head-inside : step .end ≤ length body
     head-inside = rw e (moved body 0 before some-bytes (rw e at m) .inside)
 
-    first : cut body ≡ descriptor (take (step .end) body) (cut (drop (step .end) body))
-    first = rw e (rw (sub-zero (stepOf body 0 before .end)) at (moved body 0 before some-bytes (rw e at m) .cuts))
+    pub check-first : cut body ≡ descriptor (take (step .end) body) (cut (drop (step .end) body))
+    check-first = rw e (rw (sub-zero (stepOf body 0 before .end)) at (moved body 0 before some-bytes (rw e at m) .cuts))
 
+module _ (limits : Limits) (body : List ℕ) (step : Step) (e : step ≡ stepOf body 0 before) where
+  pub check-none : step .end ≡ 0 → false ≡ goodConfiguration limits body
+  unfolding goodConfiguration goodDescriptors wellCut descriptorsOf
+  check-none p = cases (ltb 0 (length body))
+      (λ q. rw (stuck body 0 before (ltb-true 0 (length body) q) (rw (← e, p) (le-refl 0))))
+      (λ q. rw (cut-end body 0 (ltb-false 0 (length body) q)))
+
+  module _ (m : 0 < step .end) where
     pub check-head : goodConfiguration limits body
         ≡ (goodHead (length body) (take (step .end) body) && walked (checking limits (bNumInterfaces (take (step .end) body))) beginning (cut (drop (step .end) body)))
     unfolding goodConfiguration goodDescriptors wellCut descriptorsOf
@@ -111,4 +113,4 @@ module _ (limits : Limits) (body : List ℕ) (step : Step) (e : step ≡ stepOf 
         let d = take (step .end) body in
         let cs = cut (drop (step .end) body) in
         let ds = descriptorsOf cs in
-        rw first (past (wellCut cs) (goodHead (length body) d) _ (every (goodDescriptor limits) ds) (goodInterfaces (bNumInterfaces d) (grouped ds)) (rest-same limits (bNumInterfaces d) cs))
+        rw (check-first body step e m) (past (wellCut cs) (goodHead (length body) d) _ (every (goodDescriptor limits) ds) (goodInterfaces (bNumInterfaces d) (grouped ds)) (rest-same limits (bNumInterfaces d) cs))

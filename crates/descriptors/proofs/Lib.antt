@@ -3,5 +3,8 @@ pub mod CheckOrder
 pub mod CheckAddresses
 pub mod CheckWhole
 pub mod Ahead
+pub mod CheckReferences
 pub mod EndpointBits
 pub mod Alternates
+pub mod Tables
+pub mod Surveying

@@ -6,13 +6,14 @@ use native.Mathlib.Omega.{arith}
 use mathlib.Core.Path.{_≡_, refl, sym, ap, _∙_}
 use mathlib.Core.List.{List, [], _∷_}
 use mathlib.Core.Bool.{Bool, true, false, _&&_, and-false}
-use mathlib.Core.Option.{Option, some, none}
-use lib.ListN.{length, getD, take, drop, length-drop, drop-of-length-le}
+use mathlib.Core.Option.{some, none}
+use lib.ListN.{length, take, drop, length-drop, drop-of-length-le}
 use lib.Seq.{drop-cons, drop-drop}
 use lib.Dec.{leb, ltb}
-use borrow.Author.Tests.{lt-leb, le-leb, lt-ltb, leb-true, leb-false}
+use borrow.Author.Tests.{lt-leb, le-leb, lt-ltb, leb-true, leb-false, ltb-true}
 use Rattle.octets.specs.Octets.{byte, part}
 use Rattle.octets.specs.Sentences.{pick}
+use Rattle.octets.proofs.Sentences.{both}
 use Rattle.descriptors.specs.declared.Stand.{Stand}
 use Rattle.descriptors.specs.declared.Step.{Step}
 use Rattle.descriptors.specs.Cut.{Cuts, whole, broken, descriptor, cut, cutAfter, wellCut}
@@ -77,6 +78,17 @@ cases false f g = g refl
 abbrev pub spanned : List ℕ → ℕ → ℕ → List ℕ
 spanned body at end = take (end - at) (drop at body)
 
+-- a descriptor that is whole: it begins inside the body and ends there
+pub record Whole (body : List ℕ) (at : ℕ) : Type 0 where
+  pub begins : at < length body
+  pub ends : at + byte body at ≤ length body
+
+pub steps-whole : (body : List ℕ) (at : ℕ) → stepsOn body at ≡ true → Whole body at
+steps-whole body at p =
+    let (q, r) = both (leb 2 (byte body at) && ltb at (length body)) (leb (byte body at) (length body - at)) p in
+    let l : at < length body = ltb-true at (length body) (both (leb 2 (byte body at)) (ltb at (length body)) q .1) in
+    record { begins = l; ends = omega (arith, l, leb-true (byte body at) (length body - at) r) }
+
 pub record Moved (body : List ℕ) (at : ℕ) (stand : Stand) (step : Step) : Type 0 where
   pub inside : step .end ≤ length body
   pub cuts : cut (drop at body) ≡ descriptor (spanned body at (step .end)) (cut (drop (step .end) body))
@@ -109,11 +121,11 @@ module _ (body : List ℕ) (at : ℕ) (stand : Stand) (h : at < length body) whe
   pub stuck : stepOf body at stand .end ≤ at → wellCut (cut (drop at body)) ≡ false
   stuck m = cases (leb 2 (byte body at))
       (λ q. cases (leb (byte body at) (length body - at))
-          (λ r.
-              let l : 2 ≤ byte body at = leb-true 2 (byte body at) q in
-              let e : stepOf body at stand .end ≡ at + byte body at = rw (two q r) in
-              absurd (omega arith))
-          (λ r. rw (cut-long body at h (leb-true 2 (byte body at) q) (leb-false (byte body at) (length body - at) r), well-descriptor) well-broken))
+      (λ r.
+      let l : 2 ≤ byte body at = leb-true 2 (byte body at) q in
+      let e : stepOf body at stand .end ≡ at + byte body at = rw (two q r) in
+      absurd (omega arith))
+      (λ r. rw (cut-long body at h (leb-true 2 (byte body at) q) (leb-false (byte body at) (length body - at) r), well-descriptor) well-broken))
       (λ q. rw (cut-small body at h (leb-false 2 (byte body at) q)) well-broken)
 
 -- ---- a loop that walks: `total` is what the whole walk answers, and the invariant that the walk from `at` in the state w answers the same

@@ -3,17 +3,21 @@ use Prim.Native.Nat.{ℕ, _+_, _-_}
 use mathlib.Core.List.{List}
 use mathlib.Core.Bool.{Bool, false, _&&_, _||_, not}
 use mathlib.Core.Option.{some, none}
+use lib.ListN.{length}
 use lib.Dec.{eqb, leb}
 use Rattle.octets.specs.Bit.{bit, setBit}
-use Rattle.octets.specs.Sentences.{pick, _⇒_}
+use Rattle.octets.specs.Sentences.{pick, _⇒_, every}
 use Rattle.descriptors.specs.declared.Limits.{Limits}
 use Rattle.descriptors.specs.declared.Setting.{Setting}
 use Rattle.descriptors.specs.declared.Stand.{Stand}
 use Rattle.descriptors.specs.declared.check.Progress.{Progress}
-use Rattle.descriptors.specs.Descriptor.{isInterface, isEndpoint, bInterfaceNumber, bAlternateSetting, bNumEndpoints, bEndpointAddress, goodDescriptor}
+use Rattle.descriptors.specs.declared.check.Verdict.{Verdict}
+use Rattle.descriptors.specs.Limits.{named}
+use Rattle.descriptors.specs.Descriptor.{isInterface, isEndpoint, bInterfaceNumber, bAlternateSetting, bNumEndpoints, iInterface, bEndpointAddress, goodEndpoint, goodDescriptor}
 use Rattle.descriptors.specs.Interfaces.{follows}
-use Rattle.descriptors.specs.Configuration.{bitOf}
+use Rattle.descriptors.specs.Configuration.{bitOf, configurationReferences}
 use Rattle.descriptors.specs.Walk.{before, standOf, Walk}
+use Rattle.descriptors.specs.Table.{has}
 
 -- the setting that a descriptor stands under, and the one that an interface descriptor begins
 abbrev pub under : Stand → Setting
@@ -43,6 +47,13 @@ unshared w d = isEndpoint d ⇒ fresh w (bEndpointAddress d)
 
 abbrev pub allowed : Limits → Progress → List ℕ → Bool
 allowed limits w d = goodDescriptor limits d && inOrder w d && unshared w d
+
+-- the same of an interface descriptor, and of an endpoint descriptor
+abbrev pub mayBegin : Limits → Progress → List ℕ → Bool
+mayBegin limits w d = leb 9 (length d) && (not (named (limits .refused) 4) && eqb (w .coming) 0 && placed (w .stand) (begun d))
+
+abbrev pub mayList : Limits → Progress → List ℕ → Bool
+mayList limits w d = not (named (limits .refused) 5) && goodEndpoint limits d && leb 1 (w .coming) && fresh w (bEndpointAddress d)
 
 -- what is known after it: after an interface descriptor, which stands at `stand`; after an endpoint descriptor; and after either, or another
 abbrev pub atInterface : Progress → Stand → List ℕ → Progress
@@ -84,3 +95,14 @@ checking limits n = record {
   finish = ended n;
   astray = λ w. false;
 }
+
+-- the string reference of a descriptor, and every one of a configuration, is in a table
+abbrev pub interfaceRefers : List ℕ → List ℕ → Bool
+interfaceRefers names d = isInterface d ⇒ has names (iInterface d)
+
+abbrev pub configurationRefers : List ℕ → List ℕ → Bool
+configurationRefers names body = every (has names) (configurationReferences body)
+
+-- what the code says of something that is good or not, and refers to what is there or not
+abbrev pub verdict : Bool → Bool → Verdict
+verdict good refers = record { good = good; refers = good && refers }

@@ -1,7 +1,7 @@
 -- A configuration body: its first descriptor, its rules, and what requests ask of it.
 use Prim.Native.Nat.{ℕ, _+_, _*_, _/_, _%_}
 use mathlib.Core.List.{List, [], _∷_, map}
-use mathlib.Core.Bool.{Bool, true, false, _&&_, _||_}
+use mathlib.Core.Bool.{Bool, false, _&&_, _||_}
 use mathlib.Core.Option.{Option}
 use lib.ListN.{length, getD}
 use lib.Dec.{eqb, leb}
@@ -13,7 +13,7 @@ use Rattle.descriptors.specs.declared.Setting.{Setting}
 use Rattle.descriptors.specs.declared.Endpoint.{Endpoint}
 use Rattle.descriptors.specs.Cut.{cut, descriptorsOf, wellCut}
 use Rattle.descriptors.specs.Descriptor.{bDescriptorType, goodDescriptor, iInterface, transferType}
-use Rattle.descriptors.specs.Interfaces.{Group, Groups, grouped, settingOf, endpointsOf, goodInterfaces}
+use Rattle.descriptors.specs.Interfaces.{Group, grouped, settingOf, endpointsOf, goodInterfaces}
 
 -- ---- the first descriptor; a body begins with it, so its fields are the body's
 abbrev pub wTotalLength : List ℕ → ℕ

@@ -1,7 +1,7 @@
 -- The interfaces, settings and endpoints of a configuration, and the rules for how they stand together.
 use Prim.Native.Nat.{ℕ, _+_}
 use mathlib.Core.List.{List, [], _∷_, _++_, map}
-use mathlib.Core.Bool.{Bool, true, false, _&&_, _||_, not}
+use mathlib.Core.Bool.{Bool, false, _&&_, _||_, not}
 use lib.ListN.{length}
 use lib.Dec.{eqb, leb}
 use Rattle.octets.specs.Sentences.{pick, _⇒_, every, pairs, neighbours, isEmpty}

@@ -6,3 +6,5 @@ pub mod Configuration
 pub mod Walk
 pub mod Check
 pub mod Lookup
+pub mod Survey
+pub mod Table

@@ -2,21 +2,20 @@
 use mathlib.Core.Bool.{Bool, _&&_}
 use mathlib.Core.List.{List, [], _∷_}
 use mathlib.Core.Option.{Option, some, none}
-use Prim.Native.Nat.{ℕ, _<_}
+use Prim.Native.Nat.{ℕ}
 use mathlib.Core.Path.{_≡_}
-use lib.ListN.{getD}
 use lib.Dec.{eqb}
-use Rattle.octets.specs.Bit.{bit, setBit}
-use Rattle.octets.specs.Sentences.{pick}
+use Rattle.octets.specs.Bit.{setBit}
+use Rattle.octets.specs.Sentences.{only}
 use Rattle.descriptors.specs.declared.Setting.{Setting}
 use Rattle.descriptors.specs.declared.Endpoint.{Endpoint}
 use Rattle.descriptors.specs.declared.Stand.{Stand}
-use Rattle.descriptors.specs.declared.lookup.InterfaceBits.{InterfaceBits}
+use Rattle.descriptors.specs.declared.lookup.SettingChange.{SettingChange}
 use Rattle.descriptors.specs.declared.lookup.EndpointFound.{EndpointFound}
 use Rattle.descriptors.specs.declared.lookup.EndpointFound.the-variants.{At, Nothing}
 use Rattle.descriptors.specs.Descriptor.{isInterface, isEndpoint, bInterfaceNumber, bAlternateSetting}
 use Rattle.descriptors.specs.Interfaces.{endpointOf}
-use Rattle.descriptors.specs.Configuration.{Configuration, hasInterface, hasSetting, isCurrent, canHalt, bitOf}
+use Rattle.descriptors.specs.Configuration.{Configuration, hasSetting, bitOf, ofEither}
 
 -- an answer as the code gives it
 abbrev pub found : Option Endpoint → EndpointFound
@@ -45,12 +44,6 @@ listed stand d = endpointOf (standing stand) d
 abbrev pub listsOne : (Endpoint → Bool) → Stand → List ℕ → Bool
 listsOne t stand d = lists stand d && t (listed stand d)
 
-abbrev pub currentAt : List ℕ → ℕ → Endpoint → Bool
-currentAt alternates address e = isCurrent alternates e && eqb (e .address) address
-
-abbrev pub currentHalting : List ℕ → Endpoint → Bool
-currentHalting alternates e = isCurrent alternates e && canHalt e
-
 -- a word with the bits of these endpoints too
 unfoldable pub bitsFrom : ℕ → List Endpoint → ℕ
 bitsFrom word [] = word
@@ -59,16 +52,7 @@ bitsFrom word (e ∷ es) = bitsFrom (setBit word (bitOf (e .address))) es
 abbrev pub bitsOf : List Endpoint → ℕ
 bitsOf = bitsFrom 0
 
--- ---- the alternate settings of a record
--- whether a descriptor begins a current setting
-abbrev pub beginsCurrent : List ℕ → List ℕ → Bool
-beginsCurrent alternates d = isInterface d && eqb (bAlternateSetting d) (getD alternates (bInterfaceNumber d) 0)
-
--- bits say which interfaces a configuration has, and of which the current setting exists
-pub record TellsInterfaces (c : Configuration) (alternates : List ℕ) (bits : InterfaceBits) : Type 0 where
-  pub exists : (k : ℕ) → k < 32 → hasInterface c k ≡ bit (bits .existing) k
-  pub stands : (k : ℕ) → k < 32 → hasSetting c k (getD alternates k 0) ≡ bit (bits .current) k
-
--- interface j's alternate setting exists, and is 0 if the interface does not
-abbrev pub goodAlternate : Configuration → List ℕ → ℕ → Bool
-goodAlternate c alternates j = pick (hasInterface c j) (hasSetting c j (getD alternates j 0)) (eqb (getD alternates j 0) 0)
+-- what changes with a setting of interface j: whether the new one is there, and the endpoints of the old and the new one
+pub record Changes (c : Configuration) (j old new : ℕ) (r : SettingChange) : Type 0 where
+  pub there : r .there ≡ hasSetting c j new
+  pub bits : r .bits ≡ bitsOf (only (ofEither j old new) (c .endpoints))

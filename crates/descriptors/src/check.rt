@@ -4,16 +4,18 @@ use crate::Range;
 use crate::Setting;
 use crate::Stand;
 use crate::lookup::bit_of;
+use crate::table::holds;
 ghost use mathlib.Core.Path.{_≡_};
+ghost use mathlib.Core.Bool.{false, _&&_};
 ghost use Rattle.descriptors.specs.Limits.{within, doubled, named};
-ghost use Rattle.descriptors.specs.Descriptor.{goodAddress, goodAttributes, sized, goodSize, goodInterval, goodEndpoint, goodDescriptor};
+ghost use Rattle.descriptors.specs.Descriptor.{goodAddress, goodAttributes, sized, goodSize, goodInterval, goodEndpoint};
 ghost use Rattle.descriptors.specs.Configuration.{goodHead, goodConfiguration};
-ghost use Rattle.descriptors.specs.Cut.{cut};
+ghost use Rattle.descriptors.specs.Cut.{cut, descriptorsOf};
 ghost use Rattle.descriptors.specs.Walk.{walked};
-ghost use Rattle.descriptors.specs.Check.{placed, fresh, inOrder, unshared, allowed, atInterface, atEndpoint, onward, ended, beginning, checking};
+ghost use Rattle.descriptors.specs.Check.{placed, fresh, mayBegin, mayList, allowed, atInterface, atEndpoint, onward, ended, beginning, checking, interfaceRefers, configurationRefers, verdict};
 ghost use lib.ListN.{drop};
 ghost use Prim.Native.Nat.{_-_};
-ghost use Rattle.octets.specs.Sentences.{pick};
+ghost use Rattle.octets.specs.Sentences.{pick, every};
 
 // How far the check of a body is: where it stands; how many endpoints of this setting are still to come; and, a bit for each
 // address, the addresses of this setting, of this interface's settings, and of all that was seen.
@@ -23,6 +25,12 @@ struct Progress {
     setting: u32,
     interface: u32,
     seen: u32,
+}
+
+// Whether a body, or bodies, are good; and whether they are and every string reference in them is in a table.
+pub struct Verdict {
+    pub good: bool,
+    pub refers: bool,
 }
 
 // ---- a number by a speed's limits
@@ -74,27 +82,40 @@ fn is_sized(limits: Limits, range: Range, size: u16) -> bool
 fn good_size(limits: Limits, transfer: u8, size: u16) -> bool
     ensures { λ r. ⌜ r ≡ goodSize limits transfer size ⌝ }
 {
-    (!(transfer == 2) | is_doubled(limits.bulk, size))
-        & (!(transfer == 3) | is_sized(limits, limits.interrupt, size))
-        & (!(transfer == 1) | is_sized(limits, limits.isochronous, size))
+    if transfer == 2 {
+        return is_doubled(limits.bulk, size);
+    }
+    if transfer == 3 {
+        return is_sized(limits, limits.interrupt, size);
+    }
+    if transfer == 1 {
+        return is_sized(limits, limits.isochronous, size);
+    }
+    true
 }
 
 fn good_interval(limits: Limits, transfer: u8, interval: u8) -> bool
     ensures { λ r. ⌜ r ≡ goodInterval limits transfer interval ⌝ }
 {
-    let x = interval as u16;
-    (!(transfer == 3) | is_within(limits.polling, x))
-        & (!(transfer == 1) | is_within(limits.period, x))
+    if transfer == 3 {
+        return is_within(limits.polling, interval as u16);
+    }
+    if transfer == 1 {
+        return is_within(limits.period, interval as u16);
+    }
+    true
 }
 
 fn good_endpoint(d: &[u8], limits: Limits) -> bool
     ensures { λ r. ⌜ r ≡ goodEndpoint limits (now (d .entry)) ⌝ }
 {
+    if d.len() < 7 {
+        return false;
+    }
     let attributes = octets::peek(d, 3);
     let transfer = attributes % 4;
     let size = octets::word(d, 4);
-    (7 <= d.len())
-        & good_address(octets::peek(d, 2))
+    good_address(octets::peek(d, 2))
         & good_attributes(attributes)
         & good_size(limits, transfer, size)
         & good_interval(limits, transfer, octets::peek(d, 6))
@@ -114,16 +135,6 @@ fn good_head(d: &[u8], size: usize) -> bool
         & (octets::peek(d, 8) <= 250)
         & (1 <= interfaces)
         & (interfaces <= 16)
-}
-
-// A descriptor after the first.
-fn good_descriptor(d: &[u8], limits: Limits) -> bool
-    ensures { λ r. ⌜ r ≡ goodDescriptor limits (now (d .entry)) ⌝ }
-{
-    let t = octets::peek(d, 1);
-    !is_named(limits.refused, t)
-        & (!(t == 4) | (9 <= d.len()))
-        & (!(t == 5) | good_endpoint(d, limits))
 }
 
 // ---- the descriptors after the first, one after another
@@ -150,19 +161,6 @@ fn is_placed(stand: Stand, t: Setting) -> bool
     ((stand.inside & (again | next)) | first) & (t.alternate <= 15)
 }
 
-// Whether an interface or an endpoint is due.
-fn is_in_order(d: &[u8], progress: Progress) -> bool
-    ensures { λ r. ⌜ r ≡ inOrder progress (now (d .entry)) ⌝ }
-{
-    let t = octets::peek(d, 1);
-    let begun = Setting {
-        interface: octets::peek(d, 2),
-        alternate: octets::peek(d, 3),
-    };
-    (!(t == 4) | ((progress.coming == 0) & is_placed(progress.stand, begun)))
-        & (!(t == 5) | (1 <= progress.coming))
-}
-
 // An address that was seen before may come again in another setting of this interface only.
 fn is_fresh(progress: Progress, address: u8) -> bool
     ensures { λ r. ⌜ r ≡ fresh progress address ⌝ }
@@ -172,21 +170,42 @@ fn is_fresh(progress: Progress, address: u8) -> bool
         | (octets::test_bit(progress.interface, e) & !octets::test_bit(progress.setting, e))
 }
 
-fn is_unshared(d: &[u8], progress: Progress) -> bool
-    ensures { λ r. ⌜ r ≡ unshared progress (now (d .entry)) ⌝ }
+// An interface descriptor may come.
+fn may_begin(d: &[u8], progress: Progress, limits: Limits) -> bool
+    ensures { λ r. ⌜ r ≡ mayBegin limits progress (now (d .entry)) ⌝ }
 {
-    !(octets::peek(d, 1) == 5) | is_fresh(progress, octets::peek(d, 2))
+    if d.len() < 9 {
+        return false;
+    }
+    let begun = Setting {
+        interface: octets::peek(d, 2),
+        alternate: octets::peek(d, 3),
+    };
+    !is_named(limits.refused, 4) & (progress.coming == 0) & is_placed(progress.stand, begun)
 }
 
-// A descriptor that is only stepped over is asked its type alone, so that many small ones cost little.
+// An endpoint descriptor may come.
+fn may_list(d: &[u8], progress: Progress, limits: Limits) -> bool
+    ensures { λ r. ⌜ r ≡ mayList limits progress (now (d .entry)) ⌝ }
+{
+    !is_named(limits.refused, 5)
+        & good_endpoint(d, limits)
+        & (1 <= progress.coming)
+        & is_fresh(progress, octets::peek(d, 2))
+}
+
+// A descriptor is asked what its type asks and no more, so that many small ones cost little.
 fn is_allowed(d: &[u8], progress: Progress, limits: Limits) -> bool
     ensures { λ r. ⌜ r ≡ allowed limits progress (now (d .entry)) ⌝ }
 {
     let t = octets::peek(d, 1);
-    if (t != 4) & (t != 5) {
-        return !is_named(limits.refused, t);
+    if t == 4 {
+        return may_begin(d, progress, limits);
     }
-    good_descriptor(d, limits) & is_in_order(d, progress) & is_unshared(d, progress)
+    if t == 5 {
+        return may_list(d, progress, limits);
+    }
+    !is_named(limits.refused, t)
 }
 
 fn less_one(x: u8) -> u8
@@ -262,40 +281,70 @@ fn may_end(progress: Progress, interfaces: u8) -> bool
         & (progress.coming == 0)
 }
 
+// Not good.
+pub fn refuse() -> Verdict
+    ensures { λ r. ⌜ r ≡ verdict false false ⌝ }
+{
+    Verdict {
+        good: false,
+        refers: false,
+    }
+}
+
+// Whether every reference is in `names`, after one more descriptor; only an interface's has one, so that others cost nothing.
+fn still_refers(d: &[u8], refers: bool, names: &[u32; 8]) -> bool
+    ensures { λ r. ⌜ r ≡ (refers && interfaceRefers (now (names .entry)) (now (d .entry))) ⌝ }
+{
+    if octets::peek(d, 1) == 4 {
+        return refers & holds(names, octets::peek(d, 8));
+    }
+    refers
+}
+
 // The descriptors from `from` on, for so many interfaces.
-fn good_rest(body: &[u8], from: usize, interfaces: u8, limits: Limits) -> bool
-    ensures { λ r. ⌜ r ≡ walked (checking limits interfaces) beginning (cut (drop from (now (body .entry)))) ⌝ }
+fn good_rest(body: &[u8], from: usize, interfaces: u8, limits: Limits, names: &[u32; 8]) -> Verdict
+    ensures { λ r. ⌜ r ≡ verdict (walked (checking limits interfaces) beginning (cut (drop from (now (body .entry))))) (every (interfaceRefers (now (names .entry))) (descriptorsOf (cut (drop from (now (body .entry)))))) ⌝ }
 {
     let mut progress = start();
+    let mut refers = true;
     let mut at = from;
     while at < body.len() {
         let step = crate::advance(body, at, progress.stand);
         let end = step.end;
         if end <= at {
-            return false;
+            return refuse();
         }
         if is_allowed(&body[at..end], progress, limits) {
             progress = move_on(&body[at..end], progress, step.stand);
+            refers = still_refers(&body[at..end], refers, names);
             at = end;
         } else {
-            return false;
+            return refuse();
         }
     }
-    may_end(progress, interfaces)
+    let good = may_end(progress, interfaces);
+    Verdict {
+        good,
+        refers: good & refers,
+    }
 }
 
-// The check of a configuration body: one walk, a few words.
-pub fn good_configuration(body: &[u8], limits: Limits) -> bool
-    ensures { λ r. ⌜ r ≡ goodConfiguration limits (now (body .entry)) ⌝ }
+// The check of a configuration body: one walk, a few words. `names` are the numbers that a string reference may be.
+pub fn good_configuration(body: &[u8], limits: Limits, names: &[u32; 8]) -> Verdict
+    ensures { λ r. ⌜ r ≡ verdict (goodConfiguration limits (now (body .entry))) (configurationRefers (now (names .entry)) (now (body .entry))) ⌝ }
 {
     let step = crate::advance(body, 0, crate::outside());
     let end = step.end;
     if end == 0 {
-        return false;
+        return refuse();
     }
     let head = &body[..end];
     if good_head(head, body.len()) {
-        return good_rest(body, end, octets::peek(head, 4), limits);
+        let rest = good_rest(body, end, octets::peek(head, 4), limits, names);
+        return Verdict {
+            good: rest.good,
+            refers: rest.refers & holds(names, octets::peek(body, 6)),
+        };
     }
-    false
+    refuse()
 }

@@ -1,10 +1,13 @@
 // A configuration body: what it is made of, and the limits that a speed sets.
 pub mod check;
 pub mod lookup;
+pub mod survey;
+pub mod table;
 
 ghost use mathlib.Core.Path.{_≡_};
+ghost use mathlib.Core.Bool.{true};
 ghost use Rattle.descriptors.specs.Limits.{fullSpeed};
-ghost use Rattle.descriptors.specs.Walk.{before, standOf, stepOf};
+ghost use Rattle.descriptors.specs.Walk.{before, standOf, stepsOn, stepOf};
 
 // A range of numbers, both ends in it.
 pub struct Range {
@@ -34,8 +37,14 @@ pub fn full_speed() -> Limits
         control: Range { least: 8, most: 64 },
         bulk: Range { least: 8, most: 64 },
         interrupt: Range { least: 0, most: 64 },
-        polling: Range { least: 1, most: 255 },
-        isochronous: Range { least: 0, most: 1023 },
+        polling: Range {
+            least: 1,
+            most: 255,
+        },
+        isochronous: Range {
+            least: 0,
+            most: 1023,
+        },
         period: Range { least: 1, most: 16 },
         bursts: 0,
         entries: 0x0E,
@@ -102,8 +111,20 @@ fn stand_of(d: &[u8], stand: Stand) -> Stand
     stand
 }
 
-// The step over the descriptor at `at`: every walk takes it. A bLength below 2 or past the body's end leaves it where it is, and a
-// walk that finds itself no further on must stop.
+// The step over a whole descriptor at `at`: every walk takes it.
+pub fn step_over(body: &[u8], at: usize, stand: Stand) -> Step
+    requires { ⌜ stepsOn (now body) at ≡ true ⌝ }
+    ensures { λ r. ⌜ r ≡ stepOf (now (body .entry)) at stand ⌝ }
+{
+    let end = at + octets::peek(body, at) as usize;
+    Step {
+        end,
+        stand: stand_of(&body[at..end], stand),
+    }
+}
+
+// The same where nothing is known of the body. A bLength below 2 or past the body's end leaves it where it is, and a walk that finds
+// itself no further on must stop.
 pub fn advance(body: &[u8], at: usize, stand: Stand) -> Step
     ensures { λ r. ⌜ r ≡ stepOf (now (body .entry)) at stand ⌝ }
 {
@@ -117,9 +138,5 @@ pub fn advance(body: &[u8], at: usize, stand: Stand) -> Step
     if body.len() - at < size {
         return Step { end: at, stand };
     }
-    let end = at + size;
-    Step {
-        end,
-        stand: stand_of(&body[at..end], stand),
-    }
+    step_over(body, at, stand)
 }

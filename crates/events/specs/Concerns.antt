@@ -1,10 +1,8 @@
 -- Which interface an event concerns (document 01: "An event concerns interface j, in Configured, if ..").
 use Prim.Native.Nat.{ℕ}
-use mathlib.Core.Bool.{Bool}
 use mathlib.Core.Option.{Option, some, none, Option·map}
 use lib.Dec.{eqb}
 use Rattle.octets.specs.Sentences.{pick}
-use Rattle.descriptors.specs.declared.Endpoint.{Endpoint}
 use Rattle.descriptors.specs.Configuration.{Configuration, hasInterface, addressed}
 use Rattle.sets.specs.View.{View}
 use Rattle.records.specs.declared.Device.{Device}

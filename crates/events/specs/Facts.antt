@@ -18,10 +18,21 @@ use Rattle.sets.specs.View.{View}
 use Rattle.records.specs.declared.Device.{Device}
 use Rattle.records.specs.Current.{selected}
 use Rattle.requests.specs.declared.Setup.{Setup}
+use Rattle.events.specs.declared.Event.{Event}
+use Rattle.events.specs.declared.Event.the-variants.{Request, Malformed, StatusEnd, BusReset, Halt, PacketPassed}
 use Rattle.events.specs.declared.Located.{Located}
 use Rattle.events.specs.declared.Located.the-variants.{Body, Serial, Nowhere}
 use Rattle.events.specs.declared.Outcome.{Outcome}
 use Rattle.events.specs.Requests.{byRecipient, digit, deviceFeature, interfaceFeature, endpointFeature, clearHalt, setHalt, isEntry, languageFor}
+
+-- the address of the endpoint that an event asks for
+abbrev pub asked : Event → ℕ
+asked (Request s) = s .index
+asked Malformed = 0
+asked StatusEnd = 0
+asked BusReset = 0
+asked (Halt a) = a
+asked (PacketPassed a) = a
 
 -- an endpoint halted, or its halt and toggle cleared
 abbrev pub changed : Bool → Device → ℕ → Device

@@ -1,7 +1,7 @@
 -- The step: from a board, a record and an event to the answer and the next record.
 use Prim.Native.Nat.{ℕ}
 use mathlib.Core.List.{List}
-use mathlib.Core.Bool.{Bool, true, false, _&&_, not}
+use mathlib.Core.Bool.{_&&_, not}
 use mathlib.Core.Option.{Option, some, none}
 use lib.ListN.{length}
 use lib.Dec.{eqb}
@@ -25,7 +25,7 @@ use Rattle.events.specs.declared.Answer.the-variants.{Refused}
 use Rattle.events.specs.declared.Event.{Event}
 use Rattle.events.specs.declared.Event.the-variants.{Request, Malformed, StatusEnd, BusReset, Halt, PacketPassed}
 use Rattle.events.specs.declared.Outcome.{Outcome}
-use Rattle.events.specs.Answer.{gives, done, refused, numberOf}
+use Rattle.events.specs.Answer.{gives, done, refused}
 use Rattle.events.specs.Requests.{getStatus, clearFeature, setFeature, setHalt, setAddress, getDescriptor, getConfiguration, setConfiguration, getInterface, setInterface}
 
 -- ---- a setup: the request by its code (the table has no other)

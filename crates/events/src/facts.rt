@@ -1,26 +1,22 @@
 // What an event has to know of a board, gathered from its set and its serial block.
+use crate::Event;
 use crate::Located;
 use descriptors::ConfigurationIndex;
 use descriptors::ConfigurationValue;
-use descriptors::lookup;
-use descriptors::lookup::EndpointFound;
 use records::Device;
 use requests::Setup;
 use sets::EntryFound;
 use sets::configuration;
 use sets::contents;
 ghost use mathlib.Core.Path.{_≡_};
-ghost use mathlib.Core.Bool.{true};
 ghost use lib.Dec.{eqb};
 ghost use Rattle.octets.specs.Bit.{bit};
 ghost use Rattle.octets.specs.Sentences.{any};
-ghost use Rattle.descriptors.specs.Cut.{cut, wellCut};
 ghost use Rattle.descriptors.specs.Configuration.{configurationOf, configurationAttributes};
-ghost use Rattle.descriptors.specs.Lookup.{found};
 ghost use Rattle.sets.specs.View.{View, viewOf};
-ghost use Rattle.records.specs.Current.{selected, endpointAt};
+ghost use Rattle.records.specs.Current.{selected};
 ghost use Rattle.events.specs.Requests.{powering, languageFor};
-ghost use Rattle.events.specs.Facts.{configurationsIn, selectedBody, firstBody, located, locateString, locate};
+ghost use Rattle.events.specs.Facts.{asked, configurationsIn, selectedBody, firstBody, located, locateString, locate};
 
 // The body of the configuration with a value; empty if none has it.
 pub fn selected_body(set: &[u8], value: ConfigurationValue) -> &[u8]
@@ -70,13 +66,18 @@ pub fn powered(set: &[u8], body: &[u8], device: Device) -> bool
     is_powered(body)
 }
 
-// The endpoint with this whole address in a current setting; `body` is the selected configuration's.
-pub fn endpoint_at(body: &[u8], device: Device, address: u16) -> EndpointFound
-    requires { ⌜ wellCut (cut (now body)) ≡ true ⌝ }
-    ensures { λ r. ⌜ ((v : View) → configurationOf (now (body .entry)) ≡ selected v device → r ≡ found (endpointAt v device address)) ⌝ }
+// The address of the endpoint that an event asks for, 0 if it asks for none.
+pub fn asked(event: Event) -> u16
+    ensures { λ r. ⌜ r ≡ asked event ⌝ }
 {
-    let alternates = device.alternates;
-    lookup::current_endpoint(body, alternates, address)
+    match event {
+        Event::Request(setup) => setup.index,
+        Event::Malformed => 0,
+        Event::StatusEnd => 0,
+        Event::BusReset => 0,
+        Event::Halt(address) => address as u16,
+        Event::PacketPassed(address) => address as u16,
+    }
 }
 
 // Where an entry's body lies.

@@ -1,5 +1,6 @@
 // What happens to a device, and what it answers.
 use descriptors::ConfigurationValue;
+use descriptors::survey;
 use records::Device;
 use requests::Setup;
 ghost use mathlib.Core.Path.{_≡_};
@@ -78,10 +79,13 @@ pub fn step_opened(number: u8, set: &[u8], serial: &[u8], device: Device, event:
     let body = facts::selected_body(set, value);
     let there = facts::has_configuration(set, value);
     let waking = sets::configuration::wakes(set);
-    if !records::fits(body, there, waking, device) {
+    let alternates = device.alternates;
+    let survey = survey::walk(body, alternates, facts::asked(event));
+    if !records::fits(survey, there, waking, device) {
         return outcomes::refused(8, device);
     }
-    dispatch::respond(set, serial, body, device, event)
+    let endpoint = survey.endpoint;
+    dispatch::respond(set, serial, body, endpoint, device, event)
 }
 
 // The step: the board is checked, then the record, and then the event is answered.

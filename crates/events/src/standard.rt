@@ -1,9 +1,11 @@
-// The standard requests: each gathers what it has to know of the board and gives the outcome. `body` is the selected configuration's.
+// The standard requests: each gathers what it has to know of the board and gives the outcome. `body` is the selected configuration's, and
+// `endpoint` the one of its current settings that the setup's index names.
 use crate::Outcome;
 use crate::facts;
 use crate::outcomes;
 use descriptors::ConfigurationValue;
 use descriptors::lookup;
+use descriptors::lookup::EndpointFound;
 use records::Device;
 use requests::Setup;
 ghost use mathlib.Core.Path.{_≡_};
@@ -11,17 +13,24 @@ ghost use mathlib.Core.Bool.{true};
 ghost use Prim.Native.Nat.{_<_};
 ghost use Rattle.descriptors.specs.Cut.{cut, wellCut};
 ghost use Rattle.descriptors.specs.Configuration.{configurationOf};
+ghost use Rattle.descriptors.specs.Lookup.{found};
 ghost use Rattle.sets.specs.View.{View, viewOf};
-ghost use Rattle.records.specs.Current.{selected};
+ghost use Rattle.records.specs.Current.{selected, endpointAt};
 ghost use Rattle.events.specs.Requests.{getStatus, clearFeature, setFeature, getDescriptor, setConfiguration, getInterface, setInterface};
 ghost use Rattle.events.specs.Facts.{configurationsIn, Usable, feature};
 
 // GET_STATUS
-pub fn get_status(set: &[u8], body: &[u8], device: Device, setup: Setup) -> Outcome
+pub fn get_status(
+    set: &[u8],
+    body: &[u8],
+    endpoint: EndpointFound,
+    device: Device,
+    setup: Setup,
+) -> Outcome
     requires { ⌜ wellCut (cut (now body)) ≡ true ⌝ }
     requires { ⌜ device .wakeup < 2 ⌝ }
     ensures { λ r. ⌜ ((v : View) → v .configurations ≡ configurationsIn (now (set .entry)) → configurationOf (now (body .entry)) ≡ selected v device
-        → r ≡ getStatus v device setup) ⌝ }
+        → endpoint ≡ found (endpointAt v device (setup .index)) → r ≡ getStatus v device setup) ⌝ }
 {
     let recipient = setup.kind % 32;
     if recipient == 0 {
@@ -30,15 +39,21 @@ pub fn get_status(set: &[u8], body: &[u8], device: Device, setup: Setup) -> Outc
     if recipient == 1 {
         return outcomes::get_interface_status(device, lookup::has_interface(body, setup.index));
     }
-    let endpoint = facts::endpoint_at(body, device, setup.index);
     outcomes::get_endpoint_status(device, setup.index, endpoint)
 }
 
 // A feature of the recipient, set or cleared.
-fn feature(on: bool, set: &[u8], body: &[u8], device: Device, setup: Setup) -> Outcome
+fn feature(
+    on: bool,
+    set: &[u8],
+    body: &[u8],
+    endpoint: EndpointFound,
+    device: Device,
+    setup: Setup,
+) -> Outcome
     requires { ⌜ wellCut (cut (now body)) ≡ true ⌝ }
     ensures { λ r. ⌜ ((v : View) → v .configurations ≡ configurationsIn (now (set .entry)) → configurationOf (now (body .entry)) ≡ selected v device
-        → r ≡ feature on v device setup) ⌝ }
+        → endpoint ≡ found (endpointAt v device (setup .index)) → r ≡ feature on v device setup) ⌝ }
 {
     let recipient = setup.kind % 32;
     if recipient == 0 {
@@ -47,28 +62,37 @@ fn feature(on: bool, set: &[u8], body: &[u8], device: Device, setup: Setup) -> O
     if recipient == 1 {
         return outcomes::interface_feature(device, setup, lookup::has_interface(body, setup.index));
     }
-    // the alternates alone go along: this is where the stack is deepest
-    let alternates = device.alternates;
-    let endpoint = lookup::current_endpoint(body, alternates, setup.index);
     outcomes::endpoint_feature(on, device, setup, endpoint)
 }
 
 // CLEAR_FEATURE
-pub fn clear_feature(set: &[u8], body: &[u8], device: Device, setup: Setup) -> Outcome
+pub fn clear_feature(
+    set: &[u8],
+    body: &[u8],
+    endpoint: EndpointFound,
+    device: Device,
+    setup: Setup,
+) -> Outcome
     requires { ⌜ wellCut (cut (now body)) ≡ true ⌝ }
     ensures { λ r. ⌜ ((v : View) → v .configurations ≡ configurationsIn (now (set .entry)) → configurationOf (now (body .entry)) ≡ selected v device
-        → r ≡ clearFeature v device setup) ⌝ }
+        → endpoint ≡ found (endpointAt v device (setup .index)) → r ≡ clearFeature v device setup) ⌝ }
 {
-    feature(false, set, body, device, setup)
+    feature(false, set, body, endpoint, device, setup)
 }
 
 // SET_FEATURE
-pub fn set_feature(set: &[u8], body: &[u8], device: Device, setup: Setup) -> Outcome
+pub fn set_feature(
+    set: &[u8],
+    body: &[u8],
+    endpoint: EndpointFound,
+    device: Device,
+    setup: Setup,
+) -> Outcome
     requires { ⌜ wellCut (cut (now body)) ≡ true ⌝ }
     ensures { λ r. ⌜ ((v : View) → v .configurations ≡ configurationsIn (now (set .entry)) → configurationOf (now (body .entry)) ≡ selected v device
-        → r ≡ setFeature v device setup) ⌝ }
+        → endpoint ≡ found (endpointAt v device (setup .index)) → r ≡ setFeature v device setup) ⌝ }
 {
-    feature(true, set, body, device, setup)
+    feature(true, set, body, endpoint, device, setup)
 }
 
 // GET_DESCRIPTOR
@@ -101,10 +125,9 @@ pub fn set_interface(body: &[u8], device: Device, setup: Setup) -> Outcome
     ensures { λ r. ⌜ ((v : View) → configurationOf (now (body .entry)) ≡ selected v device → r ≡ setInterface v device setup) ⌝ }
 {
     let alternates = device.alternates;
-    let there = lookup::has_setting(body, setup.index, setup.value);
     let old = octets::peek(&alternates[..], setup.index as usize);
-    let bits = lookup::setting_bits(body, setup.index, old, setup.value);
-    let halts = lookup::without(device.halts, bits);
-    let toggles = lookup::without(device.toggles, bits);
-    outcomes::set_interface(device, setup, there, halts, toggles)
+    let change = lookup::setting_change(body, setup.index, old, setup.value);
+    let halts = lookup::without(device.halts, change.bits);
+    let toggles = lookup::without(device.toggles, change.bits);
+    outcomes::set_interface(device, setup, change.there, halts, toggles)
 }

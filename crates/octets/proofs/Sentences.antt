@@ -6,13 +6,13 @@ use native.Mathlib.Nat.{not-suc-le-zero}
 use mathlib.Core.Path.{_≡_, refl, sym, ap, _∙_}
 use mathlib.Core.Logic.{_⊎_, inl, inr}
 use mathlib.Core.Bool.{Bool, true, false, _&&_, _||_, false≢true, and-true, and-false, and-assoc, or-assoc}
-use mathlib.Core.List.{List, [], _∷_, _++_, map, List·Memᴰ, List·Memᴰ·head, List·Memᴰ·tail, List·Memᴰ·not-nil, List·Memᴰ·cases-cons, Memᴰ·cast}
+use mathlib.Core.List.{List, [], _∷_, _++_, map, List·Memᴰ, List·Memᴰ·head, List·Memᴰ·tail, List·Memᴰ·not-nil, List·Memᴰ·cases-cons}
 use mathlib.Core.Option.{some, none}
 use lib.ListN.{length, getD, drop, drop-of-length-le}
 use lib.Seq.{drop-cons}
 use lib.Dec.{eqb}
-use borrow.Author.Tests.{eqb-true, eqb-false, eq-eqb}
-use Rattle.octets.specs.Sentences.{pick, _⇒_, every, any, only, first, pairs, neighbours, below, member, isSome}
+use borrow.Author.Tests.{eqb-true, eqb-false}
+use Rattle.octets.specs.Sentences.{pick, _⇒_, every, any, only, first, pairs, neighbours, below, isSome}
 
 -- ---- tests
 -- by cases on a test
@@ -129,9 +129,6 @@ module _ {A : Type 0} (f : A → Bool) where
       go : (b : Bool) → f y ≡ b → pick b (some y) (first f ys) ≡ some x → (first f ys ≡ some x → List·Memᴰ x ys × (f x ≡ true)) → List·Memᴰ x (y ∷ ys) × (f x ≡ true)
       go true q e later = let i : x ≡ y = cc in (List·Memᴰ·head i, ap f i ∙ q)
       go false q e later = let (m, r) = later e in (List·Memᴰ·tail m, r)
-
-  pub first-none : {x : A} {xs : List A} → first f xs ≡ none → List·Memᴰ x xs → f x ≡ false
-  first-none {x} {xs} p m = any-none (sym (first-any xs) ∙ ap isSome p) m
 
   pub none-first : (xs : List A) → ((x : A) → List·Memᴰ x xs → f x ≡ false) → first f xs ≡ none
   unfolding first
@@ -282,10 +279,3 @@ pub below-alike : (f g : ℕ → Bool) (n : ℕ) → ((k : ℕ) → k < n → f 
 unfolding below
 below-alike f g zero h = refl
 below-alike f g (suc n) h = rw (h n (omega arith), below-alike f g n (λ k l. h k (omega arith)))
-
--- ---- a number in a list of numbers
-pub member-is : (n : ℕ) (ns : List ℕ) → member n ns ≡ true → List·Memᴰ n ns
-member-is n ns p = let (m, k, e) = any-member (eqb n) ns p in Memᴰ·cast (eqb-true n m e) k
-
-pub is-member : {n : ℕ} {ns : List ℕ} → List·Memᴰ n ns → member n ns ≡ true
-is-member {n} m = member-any (eqb n) m (eq-eqb n n refl)

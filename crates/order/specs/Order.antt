@@ -2,7 +2,7 @@
 -- each owner has the same events in the same order end at the same record and give each event the same answer. Assumes nothing.
 use Prim.Native.Nat.{ℕ}
 use mathlib.Core.Path.{_≡_, refl, sym, ap, _∙_}
-use mathlib.Core.List.{List, [], _∷_}
+use mathlib.Core.List.{List, _∷_}
 use Rattle.order.specs.Run.{run, answers, log, All, own, logOf}
 use Rattle.order.specs.Shuffle.{Shuffle, stay, same, swap, then, move, all-shuffle, own-shuffle, sort}
 

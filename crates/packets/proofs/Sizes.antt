@@ -6,7 +6,6 @@ use mathlib.Core.Bool.{Bool, true, false, _&&_, _||_, false≢true}
 use lib.Dec.{eqb, leb, ltb}
 use borrow.Author.Tests.{eqb-true, leb-true, ltb-true, lt-ltb}
 use Rattle.octets.specs.Sentences.{pick}
-use Rattle.packets.specs.declared.Packet.{Packet}
 use Rattle.packets.specs.Packets.{canCut, count, packetWhere, packet}
 
 -- what holds of the four sizes holds of the size

@@ -6,12 +6,11 @@ use lib.ListN.{set}
 use Rattle.descriptors.specs.Limits.{fullSpeed}
 use Rattle.sets.specs.Opening.{Board, opening}
 use Rattle.records.specs.declared.Device.{Device}
-use Rattle.records.specs.Device.{inDefault, inAddress, inConfigured, nothing, zeros, fresh, withWaiting, withAddress, withConfiguration, withEndpoints}
+use Rattle.records.specs.Device.{inAddress, inConfigured, zeros, fresh, withWaiting, withAddress, withConfiguration, withEndpoints}
 use Rattle.events.specs.declared.Event.{Event}
 use Rattle.events.specs.declared.Event.the-variants.{Request, Malformed, StatusEnd, BusReset, Halt, PacketPassed}
 use Rattle.events.specs.declared.Answer.{Answer}
 use Rattle.events.specs.declared.Answer.the-variants.{Done, OneByte, TwoBytes, SetPart, SerialPart, Refused}
-use Rattle.events.specs.Answer.{partOf}
 use Rattle.events.specs.Step.{step, setupEvent}
 use Rattle.packets.specs.Packets.{packets}
 use Rattle.listing.specs.Listing.{listing, line}

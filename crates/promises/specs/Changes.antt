@@ -77,6 +77,7 @@ module _ {v : View} {d : Device} (f : Fitting v d) where
       low : (leb (d .waiting) 127 ≡ true) ⊎ (eqb (d .waiting) nothing ≡ true) → d .waiting ≤ 127
       low (inl p) = leb-true (d .waiting) 127 p
       low (inr p) = absurd (n (eqb-true (d .waiting) nothing p))
+
       zero : Dec (d .state ≡ 0) → Dec (d .state ≡ 1) → d .configuration ≡ 0
       zero (yes p) q = eqb-true (d .configuration) 0 (both (eqb (d .address) 0) (eqb (d .configuration) 0) (if-then (eqb (d .state) 0) _ (f .default) (eq-eqb (d .state) 0 p)) .1)
       zero (no p) (yes q) = eqb-true (d .configuration) 0 (conjunct 2 three (in-address q))

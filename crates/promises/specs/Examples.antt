@@ -1,6 +1,6 @@
 -- Sets to compute on: by their bytes, and by their pieces; the bench set S and the titrator T.
 use Prim.Native.Nat.{ℕ, zero, suc, _+_, _*_, _/_, _%_}
-use mathlib.Core.List.{List, [], _∷_, _++_, map, flatMap}
+use mathlib.Core.List.{List, [], _∷_, _++_, flatMap}
 use lib.ListN.{length}
 use Rattle.octets.specs.Sentences.{every, any, only, first, pairs, neighbours, below, from}
 use Rattle.descriptors.specs.Cut.{cutAfter, descriptorsOf, wellCut}

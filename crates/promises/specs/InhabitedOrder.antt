@@ -10,13 +10,11 @@ use lib.Dec.{ltb}
 use borrow.Author.Tests.{ltb-true, ne-eqb}
 use Rattle.octets.specs.Sentences.{every, only}
 use Rattle.octets.proofs.Sentences.{both}
-use Rattle.sets.specs.Opening.{Board}
-use Rattle.sets.specs.View.{View, viewOf, accepted}
+use Rattle.sets.specs.View.{View, viewOf}
 use Rattle.records.specs.declared.Device.{Device}
-use Rattle.records.specs.Device.{nothing, zeros, withEndpoints}
+use Rattle.records.specs.Device.{zeros, withEndpoints}
 use Rattle.records.specs.Fits.{fits}
 use Rattle.records.specs.Image.{deviceOf}
-use Rattle.records.proofs.Image.{Sized}
 use Rattle.events.specs.declared.Answer.{Answer}
 use Rattle.events.specs.declared.Answer.the-variants.{Done, TwoBytes, Refused}
 use Rattle.events.specs.declared.Event.{Event}

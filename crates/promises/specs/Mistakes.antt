@@ -2,13 +2,10 @@
 use Prim.Native.Nat.{ℕ, _%_}
 use mathlib.Core.Path.{_≡_, refl}
 use mathlib.Core.List.{List, [], _∷_, map}
-use mathlib.Core.Bool.{Bool}
-use mathlib.Core.Option.{Option}
 use lib.ListN.{length, getD}
 use lib.Dec.{eqb, ltb}
 use Rattle.octets.specs.Sentences.{pick, first}
-use Rattle.octets.specs.Bit.{bit, clearBit}
-use Rattle.descriptors.specs.declared.Endpoint.{Endpoint}
+use Rattle.octets.specs.Bit.{bit}
 use Rattle.sets.specs.View.{View, viewOf}
 use Rattle.records.specs.declared.Device.{Device}
 use Rattle.records.specs.Device.{inAddress, inConfigured, zeros, fresh, withAddress, withConfiguration, withEndpoints}
@@ -19,7 +16,7 @@ use Rattle.events.specs.declared.Answer.{Answer}
 use Rattle.events.specs.declared.Answer.the-variants.{Done, Refused}
 use Rattle.events.specs.declared.Outcome.{Outcome}
 use Rattle.events.specs.declared.Event.the-variants.{Request}
-use Rattle.events.specs.Answer.{gives, done, refused}
+use Rattle.events.specs.Answer.{done, refused}
 use Rattle.events.specs.Requests.{setInterface, haltFeature, setHalt, clearHalt, endpointFeature}
 use Rattle.events.specs.Step.{step}
 use Rattle.promises.specs.Examples.{bytes, computed, S, T}

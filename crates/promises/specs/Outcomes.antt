@@ -78,6 +78,7 @@ ruled f p state s q = go (rowOf s) refl q
         within true true e = (refl, refl)
         within true false e = absurd (omega arith)
         within false b e = absurd (omega arith)
+
     go : (o : Option Row) → rowOf s ≡ o → refusalAt o state s ≡ 0
         → (r : Row) × (f r ≡ true) × (r .code ≡ s .code) × (inState r state ≡ true) × (fieldsFit r s ≡ true)
     go none e z = absurd (omega arith)
@@ -115,6 +116,7 @@ tableRefuses state s = go (rowOf s)
     tests true true n = absurd (n refl)
     tests true false n = (lit≤ tt, lit≤ tt)
     tests false b n = (lit≤ tt, lit≤ tt)
+
     go : (o : Option Row) → (refusalAt o state s ≡ 0 → ⊥) → (10 ≤ refusalAt o state s) × (refusalAt o state s ≤ 14)
     go none n = (lit≤ tt, lit≤ tt)
     go (some r) n = tests (inState r state) (fieldsFit r s) n
@@ -157,11 +159,11 @@ module _ (v : View) (d : Device) (s : Setup) where
   unfolding getDescriptor
   descriptors = chosen (Answered v d) (eqb (s .value / 256) 3)
       (λ e. chosen (Answered v d) (leb 1 (s .value % 256) && eqb (s .value % 256) (v .serial))
-          (λ e. chosen (Answered v d) (member (s .index) (v .languages)) (λ e. fromSerial (s .length)) (λ e. missing))
-          (λ e. at 3 (s .value % 256) (languageFor (s .value % 256) (s .index)) _ refl))
+      (λ e. chosen (Answered v d) (member (s .index) (v .languages)) (λ e. fromSerial (s .length)) (λ e. missing))
+      (λ e. at 3 (s .value % 256) (languageFor (s .value % 256) (s .index)) _ refl))
       (λ e. chosen (Answered v d) (eqb (s .value / 256) 1 || eqb (s .value / 256) 2)
-          (λ e. at (s .value / 256) (s .value % 256) 0 _ refl)
-          (λ e. missing))
+      (λ e. at (s .value / 256) (s .value % 256) 0 _ refl)
+      (λ e. missing))
     where
       at : (kind index language : ℕ) (o : Option Entry) → first (isEntry kind index language) (v .entries) ≡ o → Answered v d (setPart d (s .length) o)
       at kind index language none e = missing

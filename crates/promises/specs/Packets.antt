@@ -4,18 +4,18 @@ use native.Mathlib.Omega.{arith}
 use native.Mathlib.Nat.{suc-mul, zero-mul}
 use native.Mathlib.Decide.{decLe}
 use mathlib.Core.Path.{_≡_, refl, sym, ap, _∙_}
-use mathlib.Core.List.{List, [], _∷_, _++_, map, flatMap}
+use mathlib.Core.List.{List, [], _∷_, map, flatMap}
 use mathlib.Core.Bool.{Bool, true, false, _&&_}
 use lib.ListN.{length, take, drop, take-append-drop, length-drop, drop-of-length-le}
 use lib.Seq.{take-all, drop-drop}
 use lib.Dec.{eqb, ltb}
 use borrow.Author.Tests.{lt-ltb, eqb-true}
 use Rattle.octets.specs.Octets.{part}
-use Rattle.octets.specs.Sentences.{pick, from, upTo}
+use Rattle.octets.specs.Sentences.{pick, from}
 use Rattle.octets.proofs.Sentences.{cases}
 use Rattle.packets.specs.declared.Packet.{Packet}
 use Rattle.packets.specs.Packets.{count, canCut, packetWhere, packet, packets}
-use Rattle.packets.proofs.Sizes.{by-size, begins}
+use Rattle.packets.proofs.Sizes.{by-size}
 use Rattle.promises.specs.Examples.{computed}
 
 -- the bytes of packets, one after the other
@@ -52,11 +52,11 @@ pub all-but-the-last : (r w p k : ℕ) → canCut r w p ≡ true → suc k < cou
 unfolding Whole
 all-but-the-last r w p k h b =
     let whole = by-size (Whole r w k)
-        (whole-at r w k 8 (λ q. omega arith) (λ q. omega arith))
-        (whole-at r w k 16 (λ q. omega arith) (λ q. omega arith))
-        (whole-at r w k 32 (λ q. omega arith) (λ q. omega arith))
-        (whole-at r w k 64 (λ q. omega arith) (λ q. omega arith))
-        r w p h b in
+    (whole-at r w k 8 (λ q. omega arith) (λ q. omega arith))
+    (whole-at r w k 16 (λ q. omega arith) (λ q. omega arith))
+    (whole-at r w k 32 (λ q. omega arith) (λ q. omega arith))
+    (whole-at r w k 64 (λ q. omega arith) (λ q. omega arith))
+    r w p h b in
     let e : suc k * p ≡ k * p + p = suc-mul k p in
     ap (λ (q : Packet). q .length) (below-count r w p k h (omega arith)) ∙ omega arith
 

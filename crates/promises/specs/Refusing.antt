@@ -110,5 +110,6 @@ openingNumber limits b = go (goodFrame (b .set)) (goodContents limits (b .set)) 
     one : (g : Bool) (n m : ℕ) → n ≤ 6 → m ≤ 6 → pick (not g) n m ≤ 6
     one true n m p q = q
     one false n m p q = p
+
     go : (g h i j k l : Bool) → pick (not g) 1 (pick (not h) 2 (pick (not i) 3 (pick (not j) 4 (pick (not k) 5 (pick (not l) 6 0))))) ≤ 6
     go g h i j k l = one g 1 _ (omega arith) (one h 2 _ (omega arith) (one i 3 _ (omega arith) (one j 4 _ (omega arith) (one k 5 _ (omega arith) (one l 6 0 (omega arith) (omega arith))))))

@@ -2,13 +2,13 @@
 use Prim.Native.Nat.{ℕ, zero, suc, _+_, _*_, _/_, _%_, _^_, _<_, _≤_}
 use native.Mathlib.Omega.{arith}
 use native.Mathlib.Nat.{add-zero, zero-add, le-of-eq, min-le-left, div-div-eq-div-mul}
-use mathlib.Core.Path.{_≡_, refl, sym, ap, _∙_}
+use mathlib.Core.Path.{_≡_, sym, ap, _∙_}
 use mathlib.Core.List.{List, [], _∷_, _++_, append-assoc, append-nil}
 use lib.ListN.{length, take, drop, length-append, length-take, length-drop, take-append-drop, drop-of-length-le}
 use lib.Seq.{drop-cons, drop-drop, getD-append-add, take-at, take-length}
 use Rattle.octets.specs.Octets.{byte, part}
 use Rattle.records.specs.declared.Device.{Device}
-use Rattle.records.specs.Device.{fresh, withEndpoints}
+use Rattle.records.specs.Device.{withEndpoints}
 use Rattle.records.specs.Image.{fourBytes, bytesOfFour, deviceOf, imageOf}
 
 -- a record of the size that the code has: sixteen alternates, two numbers of 32 bits
@@ -16,9 +16,6 @@ pub record Sized (d : Device) : Type 0 where
   pub sixteen : length (d .alternates) ≡ 16
   pub halts-fit : d .halts < 2 ^ 32
   pub toggles-fit : d .toggles < 2 ^ 32
-
-pub fresh-sized : Sized fresh
-fresh-sized = record { sixteen = refl; halts-fit = omega arith; toggles-fit = omega arith }
 
 -- a record is known by its alternates, halts and toggles, and the rest
 pub same-device : (d : Device) {a : List ℕ} {h t : ℕ} → a ≡ d .alternates → h ≡ d .halts → t ≡ d .toggles → withEndpoints a h t d ≡ d

@@ -3,7 +3,6 @@ use Prim.Native.Nat.{ℕ}
 use mathlib.Core.List.{List}
 use mathlib.Core.Option.{Option}
 use Rattle.descriptors.specs.declared.Endpoint.{Endpoint}
-use Rattle.descriptors.specs.declared.ConfigurationValue.{ConfigurationValue}
 use Rattle.descriptors.specs.Configuration.{Configuration, currentOf, addressed}
 use Rattle.sets.specs.View.{View, byValue}
 use Rattle.records.specs.declared.Device.{Device}

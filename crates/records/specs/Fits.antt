@@ -2,7 +2,7 @@
 use Prim.Native.Nat.{ℕ}
 use mathlib.Core.List.{List}
 use mathlib.Core.Bool.{Bool, _&&_, _||_}
-use lib.ListN.{length, getD}
+use lib.ListN.{getD}
 use lib.Dec.{eqb, leb}
 use Rattle.octets.specs.Bit.{bit}
 use Rattle.octets.specs.Sentences.{pick, _⇒_, any, below}

@@ -1,7 +1,6 @@
 -- The record's 32-byte image, and back (document 01: "For C its image is 32 bytes").
 use Prim.Native.Nat.{ℕ, _+_, _*_, _/_, _%_}
 use mathlib.Core.List.{List, [], _∷_, _++_}
-use lib.ListN.{take, drop}
 use Rattle.octets.specs.Octets.{byte, part}
 use Rattle.records.specs.declared.Device.{Device}
 

@@ -1,12 +1,11 @@
 // The device record: what a board keeps between events.
+use descriptors::survey::Survey;
 ghost use mathlib.Core.Path.{_≡_};
-ghost use mathlib.Core.Bool.{true};
-ghost use Prim.Native.Nat.{_<_};
+ghost use Prim.Native.Nat.{ℕ, _<_};
 ghost use lib.ListN.{length};
 ghost use lib.Dec.{eqb};
 ghost use Rattle.octets.specs.Sentences.{any};
-ghost use Rattle.descriptors.specs.Cut.{cut, wellCut};
-ghost use Rattle.descriptors.specs.Configuration.{configurationOf};
+ghost use Rattle.descriptors.specs.Survey.{Surveys};
 ghost use Rattle.sets.specs.View.{View, wakes};
 ghost use Rattle.records.specs.Device.{fresh};
 ghost use Rattle.records.specs.Image.{fourBytes, bytesOfFour, deviceOf, imageOf};
@@ -141,21 +140,19 @@ fn good_state(there: bool, device: Device) -> bool
         & (!(device.state == 2) | (in_use & there & (device.waiting == 255)))
 }
 
-// Whether a record fits. `body` is the selected configuration's, empty if none is; `there`: the set has a configuration with the record's
-// value; `waking`: some configuration supports remote wakeup.
-pub fn fits(body: &[u8], there: bool, waking: bool, device: Device) -> bool
-    requires { ⌜ wellCut (cut (now body)) ≡ true ⌝ }
-    ensures { λ r. ⌜ ((v : View) → configurationOf (now (body .entry)) ≡ selected v device
+// Whether a record fits. `survey` is the selected configuration's, of no descriptors if none is; `there`: the set has a configuration with the
+// record's value; `waking`: some configuration supports remote wakeup.
+pub fn fits(survey: Survey, there: bool, waking: bool, device: Device) -> bool
+    ensures { λ r. ⌜ ((v : View) (a : ℕ) → Surveys (selected v device) (device .alternates) a survey
         → there ≡ any (λ c. eqb (c .value) (device .configuration)) (v .configurations)
         → waking ≡ wakes v → r ≡ fits v device) ⌝ }
 {
     let alternates = device.alternates;
-    let allowed = descriptors::lookup::halting_bits(body, alternates);
     in_range(device)
         & good_waiting(device)
         & good_state(there, device)
-        & descriptors::lookup::alternates_exist(body, alternates)
-        & descriptors::lookup::stands_at(device.halts, allowed)
-        & descriptors::lookup::stands_at(device.toggles, allowed)
+        & descriptors::survey::alternates_exist(survey.existing, survey.current, alternates)
+        & descriptors::lookup::stands_at(device.halts, survey.halting)
+        & descriptors::lookup::stands_at(device.toggles, survey.halting)
         & (!(device.wakeup == 1) | waking)
 }

@@ -1,6 +1,6 @@
 -- The laws of a set's contents: its entries, one after another, and the bodies that they name. Assumes nothing.
 use Prim.Native.Nat.{ℕ, zero, suc, _+_, _-_, _*_, _≤_, _<_}
-use native.Mathlib.Nat.{add-assoc, add-zero, sub-zero}
+use native.Mathlib.Nat.{sub-zero}
 use native.Mathlib.Omega.{arith}
 use mathlib.Core.Path.{_≡_, refl, sym, ap, _∙_}
 use mathlib.Core.List.{List, [], _∷_}
@@ -9,8 +9,8 @@ use mathlib.Core.Option.{some, none}
 use lib.Dec.{eqb, leb}
 use borrow.Author.Tests.{eq-eqb, ne-eqb}
 use lib.ListN.{length, take, drop, getElem?, length-drop, drop-of-length-le}
-use lib.Seq.{getD-drop, drop-drop, take-all, take-nil}
-use Rattle.octets.specs.Octets.{byte, word, part}
+use lib.Seq.{getD-take, drop-drop, take-all, take-nil}
+use Rattle.octets.specs.Octets.{byte, part}
 use Rattle.octets.specs.Sentences.{every, any, only, first, neighbours}
 use Rattle.descriptors.specs.declared.Limits.{Limits}
 use Rattle.descriptors.specs.Limits.{named}
@@ -19,13 +19,17 @@ use Rattle.sets.specs.Contents.{count, entryOf, entriesFrom, entries, is
 use Rattle.sets.specs.Checks.{goodEntry}
 
 -- ---- reading
-pub word-drop : (bytes : List ℕ) (at k : ℕ) → word bytes (at + k) ≡ word (drop at bytes) k
-word-drop bytes at k = simp (getD-drop, add-assoc)
+-- an entry is its first eight bytes, or as many as are there
+pub entry-whole : (bytes : List ℕ) (n : ℕ) → 8 ≤ n → entryOf (take n bytes) ≡ entryOf bytes
+entry-whole bytes n h =
+    let at : (i : ℕ) → i < 8 → byte (take n bytes) i ≡ byte bytes i = λ i l. getD-take n bytes i 0 (omega arith) in
+    rw (at 0 (omega arith), at 1 (omega arith), at 2 (omega arith), at 3 (omega arith), at 4 (omega arith), at 5 (omega arith), at 6 (omega arith), at 7 (omega arith))
 
--- an entry, read at the places of its fields
-pub entry-read : (set : List ℕ) (at : ℕ)
-    → record { kind = byte set at; index = byte set (at + 1); language = word set (at + 2); offset = word set (at + 4); length = word set (at + 6) } ≡ entryOf (drop at set)
-entry-read set at = simp (getD-drop, add-assoc, add-zero)
+pub entry-short : (set : List ℕ) (at : ℕ) → entryOf (take (length set - at) (drop at set)) ≡ entryOf (drop at set)
+entry-short set at = ap entryOf (take-all (length set - at) (drop at set) (rw length-drop (omega arith)))
+
+pub entry-none : (set : List ℕ) (at : ℕ) → length set ≤ at → entryOf [] ≡ entryOf (drop at set)
+entry-none set at h = ap entryOf (sym (drop-of-length-le set h))
 
 -- ---- a body that runs past the set's end is as much of it as is there
 pub part-short : (bytes : List ℕ) (offset size : ℕ) → length bytes ≤ offset + size → take (length bytes - offset) (drop offset bytes) ≡ part bytes offset size

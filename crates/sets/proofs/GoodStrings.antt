@@ -1,22 +1,26 @@
 -- Group 5 as the code asks it: by whether string 0 is there. Assumes nothing.
 use Prim.Native.Nat.{ℕ}
 use native.Mathlib.Omega.{arith}
-use mathlib.Core.Path.{_≡_, refl, _∙_}
-use mathlib.Core.List.{List, [], _∷_}
-use mathlib.Core.Bool.{Bool, true, false, _&&_, _||_, not, and-true, and-false, or-true, or-false, or-self}
-use mathlib.Core.Option.{some, none}
+use mathlib.Core.Path.{_≡_, refl, sym, ap, _∙_}
+use mathlib.Core.List.{List, [], _∷_, List·Memᴰ, List·Memᴰ·head, List·Memᴰ·tail}
+use mathlib.Core.Bool.{Bool, true, false, _&&_, _||_, not, and-true, and-false, or-true, or-false}
+use mathlib.Core.Option.{Option, some, none}
 use lib.ListN.{length, drop}
 use lib.Dec.{eqb, leb}
 use borrow.Author.Tests.{eqb-true, eqb-false, ne-eqb, lt-leb, le-leb}
-use Rattle.octets.specs.Sentences.{_⇒_, every, any, isEmpty}
-use Rattle.octets.proofs.Sentences.{cases, member-every, every-alike}
+use Rattle.octets.specs.Sentences.{pick, _⇒_, every, any, isEmpty}
+use Rattle.octets.proofs.Sentences.{cases, member-every, first-some}
+use Rattle.descriptors.specs.Table.{has}
+use Rattle.descriptors.specs.Check.{configurationRefers}
 use Rattle.sets.specs.declared.Entry.{Entry}
-use Rattle.sets.specs.Contents.{bodyOf, entriesOf}
+use Rattle.sets.specs.Contents.{bodyOf, bodies, entriesOf}
 use Rattle.sets.specs.Device.{deviceBody, iSerialNumber}
-use Rattle.sets.specs.Strings.{words, goodString, stringZero, languageZero, listed, notSerial, goodReference, goodLanguages, references, goodStrings}
-use Rattle.sets.specs.Checks.{refers, goodStringEntry, goodListed}
-use Rattle.sets.proofs.Tables.{allOf, has-none}
+use Rattle.sets.specs.Strings.{words, goodString, isStringZero, stringZero, languages, languageZero, listed, notSerial, goodReference, goodLanguages, references, goodStrings}
+use Rattle.sets.specs.Checks.{goodStringEntry, goodListed, mayName, deviceRefers, Read}
+use Rattle.sets.proofs.Sound.{Bytes}
 use Rattle.sets.proofs.Strings.{languages-of}
+use Rattle.sets.proofs.References.{references-set}
+use Rattle.sets.proofs.Bounds.{references-alike}
 
 -- ---- the rules on entries, rule by rule and entry by entry
 four : (a b c d a′ b′ c′ d′ : Bool) → (a && b && c && d && (a′ && b′ && c′ && d′)) ≡ ((a && a′) && (b && b′) && (c && c′) && (d && d′))
@@ -41,19 +45,6 @@ arrange true true false c d r x = refl
 arrange true true true false d r x = refl
 arrange true true true true d r x = rw (or-true (not x))
 
-module _ (set : List ℕ) where
-  -- string 0 is there
-  pub strings-listed : {e : Entry} → stringZero set ≡ some e
-      → goodListed set (words (drop 2 (bodyOf set e))) (iSerialNumber (deviceBody set)) ≡ goodStrings set
-  unfolding goodStrings
-  strings-listed {e} p =
-      let ls = words (drop 2 (bodyOf set e)) in
-      let es = entriesOf 3 set in
-      let serial = iSerialNumber (deviceBody set) in
-      rw (p, languages-of set p, entry-rules set ls serial es)
-      (arrange (goodLanguages ls) (every (λ e. goodString (bodyOf set e)) es) (every languageZero es) (every (listed ls) es) (every (notSerial serial) es)
-      (every (goodReference ls es serial) (references set)) (not (isEmpty es) || any (λ r. leb 1 r) (references set)))
-
 -- ---- string 0 is not there: then no string is, and no reference
 zero-or-not : (r : ℕ) → eqb r 0 ≡ not (leb 1 r)
 zero-or-not r = cases (eqb r 0)
@@ -69,18 +60,33 @@ not-any (r ∷ rs) = rw (zero-or-not r, not-any rs) (go (leb 1 r) (any (λ r. le
     go true b = refl
     go false b = refl
 
-refers-nowhere : (r : ℕ) → refers 0 (allOf 0) r ≡ eqb r 0
-refers-nowhere r = rw (has-none r, or-false) (or-self (eqb r 0))
-
 -- with no language listed, every reference is good
 in-no-language : (es : List Entry) (serial : ℕ) (rs : List ℕ) → every (goodReference [] es serial) rs ≡ true
 unfolding every
 in-no-language es serial rs = member-every (goodReference [] es serial) rs (λ r m. or-true (eqb r 0 || eqb r serial))
 
+some-there : {e : Entry} {es : List Entry} → List·Memᴰ e es → eqb (length es) 0 ≡ false
+some-there (List·Memᴰ·head {x} {xs} p) = ne-eqb (length (x ∷ xs)) 0 (λ q. omega arith)
+some-there (List·Memᴰ·tail {x} {xs} m) = ne-eqb (length (x ∷ xs)) 0 (λ q. omega arith)
+
 module _ (set : List ℕ) where
-  pub strings-none : stringZero set ≡ none → (eqb (length (entriesOf 3 set)) 0 && every (refers 0 (allOf 0)) (references set)) ≡ goodStrings set
+  -- string 0 is there
+  strings-listed : (e : Entry) → stringZero set ≡ some e
+      → let ls = words (drop 2 (bodyOf set e)) in
+      (goodLanguages ls && every (goodStringEntry set ls (iSerialNumber (deviceBody set))) (entriesOf 3 set)
+      && every (goodReference ls (entriesOf 3 set) (iSerialNumber (deviceBody set))) (references set)) ≡ goodStrings set
+  unfolding goodStrings
+  strings-listed e p =
+      let ls = words (drop 2 (bodyOf set e)) in
+      let es = entriesOf 3 set in
+      let serial = iSerialNumber (deviceBody set) in
+      rw (p, languages-of set p, entry-rules set ls serial es)
+      (arrange (goodLanguages ls) (every (λ e. goodString (bodyOf set e)) es) (every languageZero es) (every (listed ls) es) (every (notSerial serial) es)
+      (every (goodReference ls es serial) (references set)) (not (isEmpty es) || any (λ r. leb 1 r) (references set)))
+
+  strings-none : stringZero set ≡ none → (eqb (length (entriesOf 3 set)) 0 && every (λ r. eqb r 0) (references set)) ≡ goodStrings set
   unfolding goodStrings every
-  strings-none p = rw (p, languages-of set p, every-alike (refers 0 (allOf 0)) (λ r. eqb r 0) (references set) (λ r m. refers-nowhere r), not-any (references set)) (go (entriesOf 3 set))
+  strings-none p = rw (p, languages-of set p, not-any (references set)) (go (entriesOf 3 set))
     where
       n : Bool
       n = any (λ r. leb 1 r) (references set)
@@ -94,3 +100,35 @@ module _ (set : List ℕ) where
           && ((not (isEmpty es) || n) ⇒ false) && every (notSerial serial) es && every (goodReference [] es serial) (references set))
       go [] = rw (in-no-language [] serial (references set)) (simp (or-false, and-true))
       go (e ∷ es) = rw (ne-eqb (length (e ∷ es)) 0 (λ q. omega arith)) (simp and-false)
+
+  -- either way: what is asked of the entries, and what a reference may be
+  strings-read : (goodListed set (languages set) && every (mayName set (languages set)) (references set)) ≡ goodStrings set
+  strings-read = go (stringZero set) refl
+    where
+      there : (e : Entry) → stringZero set ≡ some e → (b : Bool) → goodLanguages (words (drop 2 (bodyOf set e))) ≡ b
+          → let ls = words (drop 2 (bodyOf set e)) in
+          let es = entriesOf 3 set in
+          let serial = iSerialNumber (deviceBody set) in
+          (pick b (every (goodStringEntry set ls serial) es) (eqb (length es) 0) && every (λ r. pick b (goodReference ls es serial r) (eqb r 0)) (references set)) ≡ goodStrings set
+      there e p true q = rw q at (strings-listed e p)
+      there e p false q = rw (some-there (first-some isStringZero (entriesOf 3 set) p .0)) (rw q at (strings-listed e p))
+
+      go : (o : Option Entry) → stringZero set ≡ o → (goodListed set (languages set) && every (mayName set (languages set)) (references set)) ≡ goodStrings set
+      go (some e) p = rw (languages-of set p) (there e p (goodLanguages (words (drop 2 (bodyOf set e)))) refl)
+      go none p = rw (languages-of set p) (strings-none p)
+
+  -- as it is asked of a table of what a reference may be, and of the configurations apart
+  pub strings-told : Bytes set → (zero names : List ℕ) (refer : Bool) → Read set zero names refer
+      → (refer && deviceRefers names (deviceBody set) && goodListed set (words (drop 2 zero))) ≡ goodStrings set
+  strings-told h zero names refer r =
+      rw (r .listed, r .told)
+      (turned (every (configurationRefers names) (bodies 2 set)) (deviceRefers names (deviceBody set)) (goodListed set (languages set))
+      ∙ ap (λ b. goodListed set (languages set) && b)
+      (sym (references-set (has names) set) ∙ references-alike set h (has names) (mayName set (languages set)) (λ j l. r .named j l ∙ rw (r .listed)))
+      ∙ strings-read)
+    where
+      turned : (c d g : Bool) → (c && d && g) ≡ (g && (d && c))
+      turned true true g = sym (and-true g)
+      turned true false g = sym (and-false g)
+      turned false true g = sym (and-false g)
+      turned false false g = sym (and-false g)

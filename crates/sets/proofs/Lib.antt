@@ -10,4 +10,3 @@ pub mod Lookups
 pub mod References
 pub mod Sound
 pub mod Strings
-pub mod Tables

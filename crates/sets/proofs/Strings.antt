@@ -4,25 +4,24 @@ use native.Mathlib.Numerals.{add-one}
 use native.Mathlib.Omega.{arith}
 use mathlib.Core.Path.{_≡_, refl, sym, ap, _∙_}
 use mathlib.Core.List.{List, [], _∷_}
-use mathlib.Core.Bool.{Bool, true, false, _&&_, _||_, and-false, and-assoc, or-true}
+use mathlib.Core.Bool.{Bool, true, false, _&&_, _||_, and-false, and-assoc, or-true, or-false, or-assoc}
 use mathlib.Core.Option.{Option, some, none}
 use lib.ListN.{length, drop, length-drop}
 use lib.Seq.{drop-cons}
 use lib.Dec.{eqb, leb, ltb}
-use borrow.Author.Tests.{leb-true, ltb-true, eqb-true, le-leb, lt-leb}
+use borrow.Author.Tests.{leb-true, ltb-true, eqb-true, eqb-false, eq-eqb, ne-eqb, le-leb, lt-leb}
 use Rattle.octets.specs.Octets.{byte, word}
 use Rattle.octets.specs.Sentences.{pick, every, any, only, first, neighbours}
-use Rattle.octets.proofs.Sentences.{both, joined, same-test, first-alike}
+use Rattle.octets.proofs.Sentences.{cases, both, joined, same-test, first-alike}
+use Rattle.descriptors.specs.Table.{has, with}
 use Rattle.descriptors.proofs.Ahead.{first-only}
+use Rattle.descriptors.proofs.Tables.{with-long, has-with, allOf, has-none}
 use Rattle.sets.specs.declared.Entry.{Entry}
 use Rattle.sets.specs.declared.EntryFound.the-variants.{At, Nothing}
-use Rattle.sets.specs.declared.Indices.{Indices}
 use Rattle.sets.specs.Contents.{isKind, entries}
 use Rattle.sets.specs.Strings.{words, isString, isStringZero, stringZero, languagesIn, languages, goodLanguages}
-use Rattle.sets.specs.Indices.{has, with}
 use Rattle.sets.specs.Found.{found, isAt}
 use Rattle.sets.proofs.Devices.{at-same, at-missing}
-use Rattle.sets.proofs.Tables.{has-with}
 
 -- ---- the numbers that a body lists, from a place on
 words-two : (a b : ℕ) (bytes : List ℕ) → words (a ∷ b ∷ bytes) ≡ (a + 256 * b) ∷ words bytes
@@ -101,11 +100,11 @@ past n t a true l s false p h = refl
 past n t a true false s true p h = refl
 past n t a true true s true p h = rw (sym (h refl) ∙ p)
 
-module _ (table next : Indices) (language : ℕ) (e : Entry) (es : List Entry) (j : ℕ) where
+module _ (table next : List ℕ) (language : ℕ) (e : Entry) (es : List Entry) (j : ℕ) where
   same-index : eqb (e .index) j ≡ true → has table (e .index) ≡ has table j
   same-index p = ap (has table) (eqb-true (e .index) j p)
 
-  pub entry-in : length (next .words) ≡ 8 → e .index < 256 → (eqb (e .kind) 3 && eqb (e .language) language && has table (e .index)) ≡ true
+  pub entry-in : length next ≡ 8 → e .index < 256 → (eqb (e .kind) 3 && eqb (e .language) language && has table (e .index)) ≡ true
       → (has next j || (has table j && any (isString j language) (only (isKind 3) (e ∷ es))))
       ≡ (has (with next (e .index)) j || (has table j && any (isString j language) (only (isKind 3) es)))
   entry-in p h q =
@@ -117,6 +116,18 @@ module _ (table next : Indices) (language : ℕ) (e : Entry) (es : List Entry) (
       → (has next j || (has table j && any (isString j language) (only (isKind 3) (e ∷ es))))
       ≡ (has next j || (has table j && any (isString j language) (only (isKind 3) es)))
   entry-past q = rw any-only (past (has next j) (has table j) _ (eqb (e .kind) 3) (eqb (e .language) language) (has table (e .index)) (eqb (e .index) j) q same-index)
+
+-- ---- the table of what a reference may be: with the serial number's index and 0, and 0 alone
+turned : (m n : ℕ) → eqb m n ≡ eqb n m
+turned m n = cases (eqb n m) (λ p. eq-eqb m n (sym (eqb-true n m p)) ∙ sym p) (λ p. ne-eqb m n (λ e. eqb-false n m p (sym e)) ∙ sym p)
+
+pub with-serial : (table : List ℕ) (serial j : ℕ) → serial < 256 → length table ≡ 8 → has (with (with table serial) 0) j ≡ (eqb j 0 || eqb j serial || has table j)
+with-serial table serial j h p =
+    has-with (with table serial) 0 (omega arith) (with-long table serial p) j
+    ∙ rw (has-with table serial h p j, turned 0 j, turned serial j) (sym (or-assoc (eqb j 0) (eqb j serial) (has table j)))
+
+pub with-none : (j : ℕ) → has (with (allOf 0) 0) j ≡ eqb j 0
+with-none j = has-with (allOf 0) 0 (omega arith) refl j ∙ rw (has-none j, or-false) (turned 0 j)
 
 pub neighbours-one : {A : Type 0} (r : A → A → Bool) (x : A) → neighbours r (x ∷ []) ≡ true
 unfolding neighbours

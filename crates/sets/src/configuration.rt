@@ -1,41 +1,56 @@
 // The configurations of a set. Group 4, and looking one up.
 use crate::Entry;
 use crate::EntryFound;
-use crate::Indices;
 use crate::contents::body_of;
 use crate::contents::entry_at;
 use crate::contents::entry_of;
-use crate::table::holds;
-use crate::table::joined;
 use descriptors::ConfigurationIndex;
 use descriptors::ConfigurationValue;
 use descriptors::Limits;
+use descriptors::check::Verdict;
+use descriptors::table::holds;
+use descriptors::table::join;
 ghost use mathlib.Core.Path.{_≡_};
 ghost use lib.ListN.{getElem?};
-ghost use Rattle.octets.specs.Sentences.{first, any};
+ghost use Rattle.octets.specs.Sentences.{first, any, every};
+ghost use Rattle.descriptors.specs.Check.{verdict, configurationRefers};
 ghost use Rattle.sets.specs.Contents.{entriesOf, bodies};
 ghost use Rattle.sets.specs.Found.{found, valued, canWake};
 ghost use Rattle.sets.specs.Opening.{goodConfigurations};
 ghost use Rattle.sets.specs.Checks.{goodNumbered};
 
 // A configuration entry: the index that it has to have, its body, and whether its value was there before.
-fn good_configuration_entry(e: Entry, index: u8, body: &[u8], seen: bool, limits: Limits) -> bool
-    ensures { λ r. ⌜ r ≡ goodNumbered limits e index (now (body .entry)) seen ⌝ }
+fn good_configuration_entry(
+    e: Entry,
+    index: u8,
+    body: &[u8],
+    seen: bool,
+    limits: Limits,
+    names: &[u32; 8],
+) -> Verdict
+    ensures { λ r. ⌜ r ≡ verdict (goodNumbered limits e index (now (body .entry)) seen) (configurationRefers (now (names .entry)) (now (body .entry))) ⌝ }
 {
-    (e.index == index)
+    let verdict = descriptors::check::good_configuration(body, limits, names);
+    let good = (e.index == index)
         & (e.language == 0)
-        & descriptors::check::good_configuration(body, limits)
+        & verdict.good
         & (1 <= octets::peek(body, 5))
-        & !seen
+        & !seen;
+    Verdict {
+        good,
+        refers: good & verdict.refers,
+    }
 }
 
-// Group 4: a pass over the entries, with the index that is next and the values that were there.
-pub fn good_configurations(set: &[u8], limits: Limits) -> bool
-    ensures { λ r. ⌜ r ≡ goodConfigurations limits (now (set .entry)) ⌝ }
+// Group 4, and whether every reference of the configurations is in `names`: a pass over the entries, with the index that is next and
+// the values that were there.
+pub fn good_configurations(set: &[u8], limits: Limits, names: &[u32; 8]) -> Verdict
+    ensures { λ r. ⌜ r ≡ verdict (goodConfigurations limits (now (set .entry))) (every (configurationRefers (now (names .entry))) (bodies 2 (now (set .entry)))) ⌝ }
 {
     let count = octets::peek(set, 2);
     let mut index: u8 = 0;
-    let mut seen = Indices { words: [0u32; 8] };
+    let mut seen = [0u32; 8];
+    let mut refers = true;
     let mut i: u8 = 0;
     while i < count {
         let e = entry_at(set, i);
@@ -43,14 +58,17 @@ pub fn good_configurations(set: &[u8], limits: Limits) -> bool
         if e.kind == 2 {
             let body = body_of(set, e);
             let value = octets::peek(body, 5);
-            if !good_configuration_entry(e, index, body, holds(seen, value), limits) {
-                return false;
+            let again = holds(&seen, value);
+            let verdict = good_configuration_entry(e, index, body, again, limits, names);
+            if !verdict.good {
+                return descriptors::check::refuse();
             }
-            seen = joined(seen, value);
+            refers = refers & verdict.refers;
+            join(&mut seen, value);
             index += 1;
         }
     }
-    true
+    Verdict { good: true, refers }
 }
 
 // The entry of the configuration at an index.

@@ -25,18 +25,31 @@ pub fn good_frame(set: &[u8]) -> bool
         & (4 + 8 * count <= total)
 }
 
-// The i-th entry of the contents.
+// The entry that some bytes begin with.
+fn entry_in(bytes: &[u8]) -> Entry
+    ensures { λ r. ⌜ r ≡ entryOf (now (bytes .entry)) ⌝ }
+{
+    Entry {
+        kind: octets::peek(bytes, 0),
+        index: octets::peek(bytes, 1),
+        language: octets::word(bytes, 2),
+        offset: octets::word(bytes, 4),
+        length: octets::word(bytes, 6),
+    }
+}
+
+// The i-th entry of the contents. Whether it is whole is asked once, and not of each byte: every pass over the entries pays for it.
 pub fn entry_at(set: &[u8], i: u8) -> Entry
     ensures { λ r. ⌜ r ≡ entryOf (drop (4 + 8 * i) (now (set .entry))) ⌝ }
 {
     let at = 4 + 8 * (i as usize);
-    Entry {
-        kind: octets::peek(set, at),
-        index: octets::peek(set, at + 1),
-        language: octets::word(set, at + 2),
-        offset: octets::word(set, at + 4),
-        length: octets::word(set, at + 6),
+    if at + 8 <= set.len() {
+        return entry_in(&set[at..at + 8]);
     }
+    if at <= set.len() {
+        return entry_in(&set[at..]);
+    }
+    entry_in(&set[0..0])
 }
 
 // The body that an entry names; the part of it that is there, where it runs past the end.

@@ -4,9 +4,11 @@ use crate::contents::body_of;
 use crate::contents::count_of;
 use crate::contents::entry_of;
 use descriptors::Limits;
+use descriptors::table::holds;
 ghost use mathlib.Core.Path.{_≡_};
 ghost use Rattle.sets.specs.Device.{goodDevice, deviceBody, iSerialNumber};
 ghost use Rattle.sets.specs.Opening.{goodDevices, goodSerial};
+ghost use Rattle.sets.specs.Checks.{deviceRefers};
 
 // The device descriptor, beside the number of type 2 entries.
 fn good_device(body: &[u8], configurations: u8, limits: Limits) -> bool
@@ -56,6 +58,16 @@ pub fn serial_index(set: &[u8]) -> u8
     ensures { λ r. ⌜ r ≡ iSerialNumber (deviceBody (now (set .entry))) ⌝ }
 {
     octets::peek(device_body(set), 16)
+}
+
+// Whether the device's three string references are in `names`.
+pub fn device_refers(set: &[u8], names: &[u32; 8]) -> bool
+    ensures { λ r. ⌜ r ≡ deviceRefers (now (names .entry)) (deviceBody (now (set .entry))) ⌝ }
+{
+    let device = device_body(set);
+    holds(names, octets::peek(device, 14))
+        & holds(names, octets::peek(device, 15))
+        & holds(names, octets::peek(device, 16))
 }
 
 // Group 6.

@@ -2,9 +2,7 @@
 pub mod configuration;
 pub mod contents;
 pub mod device;
-pub mod reference;
 pub mod string;
-pub mod table;
 
 use descriptors::Limits;
 ghost use mathlib.Core.Path.{_≡_};
@@ -17,11 +15,6 @@ pub struct Entry {
     pub language: u16,
     pub offset: u16,
     pub length: u16,
-}
-
-// A set of numbers below 256: number k is bit k % 32 of word k / 32.
-pub struct Indices {
-    pub words: [u32; 8],
 }
 
 // An entry that is looked up.
@@ -43,10 +36,14 @@ pub fn opening(set: &[u8], serial: &[u8], limits: Limits) -> u8
     if !device::good_devices(set, limits) {
         return 3;
     }
-    if !configuration::good_configurations(set, limits) {
+    // The strings are read first: the one walk through a configuration tells its references too.
+    let languages = string::string_zero(set);
+    let names = string::names(set, languages);
+    let configurations = configuration::good_configurations(set, limits, &names);
+    if !configurations.good {
         return 4;
     }
-    if !string::good_strings(set) {
+    if !string::good_strings(set, languages, &names, configurations.refers) {
         return 5;
     }
     if !device::good_serial(device::serial_index(set), serial) {

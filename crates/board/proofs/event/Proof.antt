@@ -1,5 +1,5 @@
 -- `board::event` meets its contract, by the image's length. Assumes nothing.
-use mathlib.Core.Path.{_≡_, sym, ap, _∙_}
+use mathlib.Core.Path.{sym, ap, _∙_}
 use Rattle.records.specs.declared.Device.{Device}
 use Rattle.records.specs.Image.{imageOf}
 use Rattle.events.specs.declared.Outcome.{Outcome}
@@ -11,12 +11,12 @@ use Rattle.board.proofs.event.Statement.{statement}
 use Rattle.board.proofs.event.Tie as tie
 
 returns : tie.Need-returns
-returns c = 
+returns c =
     let q = event-short _ _ _ (c .before .if1 .taken) _ (c .before .before .before .before .before .pre) (c .if2 .taken) in
     (ap (λ (r : Reply). r .answer) (sym q), ap (λ (r : Reply). r .image) (sym q))
 
 returns-2 : tie.Need-returns-2
-returns-2 c = 
+returns-2 c =
     let q = event-refused _ _ _ (c .before .if1 .taken) _ (c .before .before .before .before .before .pre) (c .if2 .left) in
     (ap (λ (r : Reply). r .answer) (sym q), ap (λ (r : Reply). r .image) (sym q))
 
@@ -33,7 +33,7 @@ same-length : tie.Need-same-length
 same-length c = search needs
 
 returns-3 : tie.Need-returns-3
-returns-3 c = 
+returns-3 c =
     let start = c .before .before .before .before .before .before .before .before in
     let a = start .before .before .before .before .args in
     let b = lent (a .set .now) (a .serial .now) in

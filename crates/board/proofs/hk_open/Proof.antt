@@ -22,7 +22,7 @@ same-length : tie.Need-same-length
 same-length c = search needs
 
 returns-2 : tie.Need-returns-2
-returns-2 c = 
+returns-2 c =
     open-whole _ _ (c .before .before .before .before .before .before .if1 .left) _ _ (c .opening .ensures)
     (c .before .before .before .store .ensures ∙ ap imageOf (c .before .before .before .before .before .fresh .ensures))
 

@@ -18,7 +18,7 @@ event-requires : tie.Need-event-requires
 event-requires c κs = search needs
 
 hand-out-requires : tie.Need-hand-out-requires
-hand-out-requires c κs = 
+hand-out-requires c κs =
     let was = c .before .before .before .before .before in
     let a = was .before .before .before .before .before .before .before .before .args in
     let b = lent (a .set .now) (a .serial .now) in
@@ -28,7 +28,7 @@ same-length : tie.Need-same-length
 same-length c = search needs
 
 returns : tie.Need-returns
-returns c = 
+returns c =
     let was = c .before .before .before .before .before .before in
     let a = was .before .before .before .before .before .before .before .before .args in
     let b = lent (a .set .now) (a .serial .now) in

@@ -1,10 +1,7 @@
 -- `descriptors::advance` meets its contract: the three tests that stop it, and the step. Assumes nothing.
-use mathlib.Core.Path.{sym, _∙_, _≡_}
-use Prim.Native.Nat.{_<_, _≤_, _-_}
-use native.Mathlib.Nat.{add-sub-cancel-left}
-use native.Mathlib.Omega.{arith}
 use mathlib.Core.Bool.{and-false}
 use borrow.Author.Tests.{lt-leb, le-leb, lt-ltb, le-ltb}
+use native.Mathlib.Omega.{arith}
 use borrow.Author.Needs.{needs}
 use Rattle.descriptors.proofs.advance.Statement.{statement}
 use Rattle.descriptors.proofs.advance.Tie as tie
@@ -27,30 +24,13 @@ sub-if3 c = search needs
 returns-3 : tie.Need-returns-3
 returns-3 c = simp (lt-leb _ _ (rw (c .before .before .before .peek .ensures) at (c .if3 .taken)), and-false)
 
-add-end : tie.Need-add-end
-add-end c = search needs
-
-sub-stand-of : tie.Need-sub-stand-of
-sub-stand-of c = search needs
-
-part-stand-of-start : tie.Need-part-stand-of-start
-part-stand-of-start c = search needs
-
-part-stand-of-end : tie.Need-part-stand-of-end
-part-stand-of-end c = search needs
-
-stand-of-requires : tie.Need-stand-of-requires
-stand-of-requires c κs = search needs
+step-over-requires : tie.Need-step-over-requires
+step-over-requires c κs =
+    let e = c .before .before .before .peek .ensures in
+    rw (le-leb 2 _ (rw e at (c .before .before .if1 .left)), lt-ltb _ _ (c .before .if2 .left), le-leb _ _ (rw e at (c .if3 .left)))
 
 returns-4 : tie.Need-returns-4
-returns-4 c =
-    let e = c .before .before .before .before .before .peek .ensures in
-    simp (
-      le-leb 2 _ (rw e at (c .before .before .before .before .if1 .left)),
-      lt-ltb _ _ (c .before .before .before .if2 .left),
-      le-leb _ _ (rw e at (c .before .before .if3 .left)),
-    )
-    (rw (c .stand-of .ensures, e, add-sub-cancel-left))
+returns-4 c = search needs
 
 pub advance-spec : {M : Type 1} → statement M
 advance-spec =
@@ -62,9 +42,5 @@ advance-spec =
     returns-2
     sub-if3
     returns-3
-    add-end
-    sub-stand-of
-    part-stand-of-start
-    part-stand-of-end
-    stand-of-requires
+    step-over-requires
     returns-4)

@@ -1,5 +1,5 @@
 -- `descriptors::stand_of` meets its contract. Assumes nothing.
-use mathlib.Core.Path.{sym, _∙_, _≡_}
+use mathlib.Core.Path.{sym, _∙_}
 use borrow.Author.Tests.{eq-eqb, ne-eqb}
 use borrow.Author.Needs.{needs}
 use Rattle.descriptors.proofs.stand_of.Statement.{statement}

@@ -2,7 +2,6 @@
 use lib.ListN.{length}
 use native.Mathlib.Omega.{arith}
 use native.Mathlib.Nat.{add-comm, add-sub-cancel-left}
-use mathlib.Core.Path.{_≡_, sym, _∙_}
 use Rattle.packets.proofs.Sizes.{inside}
 use borrow.Author.Needs.{needs}
 use Rattle.packets.proofs.cut.Statement.{statement}
@@ -12,7 +11,7 @@ packet-of-requires : tie.Need-packet-of-requires
 packet-of-requires c κs = search needs
 
 add-end : tie.Need-add-end
-add-end c = 
+add-end c =
     let a = c .before .before .before .args in
     let e = c .before .packet-of .ensures in
     rw e (omega (arith, inside (length (a .reply .now)) (a .asked) (a .size) (a .number)))
@@ -24,7 +23,7 @@ part-result-start : tie.Need-part-result-start
 part-result-start c = search needs
 
 part-result-end : tie.Need-part-result-end
-part-result-end c = 
+part-result-end c =
     let a = c .before .before .before .args in
     let e = c .before .packet-of .ensures in
     rw e (omega (arith, inside (length (a .reply .now)) (a .asked) (a .size) (a .number)))

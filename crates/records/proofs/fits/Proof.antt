@@ -1,11 +1,9 @@
 -- `records::fits` meets its contract: each rule from what is told. Assumes nothing.
 use borrow.Author.Needs.{needs}
+use Rattle.records.specs.Current.{selected}
 use Rattle.records.proofs.Fitting.{fitting}
 use Rattle.records.proofs.fits.Statement.{statement}
 use Rattle.records.proofs.fits.Tie as tie
-
-halting-bits-requires : tie.Need-halting-bits-requires
-halting-bits-requires c κs = search needs
 
 in-range-requires : tie.Need-in-range-requires
 in-range-requires c κs = search needs
@@ -26,13 +24,14 @@ stands-at-requires-2 : tie.Need-stands-at-requires-2
 stands-at-requires-2 c κs = search needs
 
 returns : tie.Need-returns
-returns c = λ v p q w. fitting v (c .before .before .before .before .before .before .before .before .before .before .args .device) _ p (c .before .before .before .before .before .before .in-range .ensures) (c .before .before .before .before .before .good-waiting .ensures) (c .before .before .before .before .good-state .ensures v q) (c .before .before .before .alternates-exist .ensures) (c .before .before .before .before .before .before .before .halting-bits .ensures) (c .before .before .stands-at .ensures) (c .before .stands-at2 .ensures) w
+returns c = λ v a t q w.
+    let d = c .before .before .before .before .before .before .before .before .args .device in
+    fitting v d (c .before .before .before .before .before .before .in-range .ensures) (c .before .before .before .before .before .good-waiting .ensures) (c .before .before .before .before .good-state .ensures v q) (c .before .before .before .alternates-exist .ensures (selected v d) (t .interfaces)) (t .halts) (c .before .before .stands-at .ensures) (c .before .stands-at2 .ensures) w
 
 pub fits-spec : {M : Type 1} → statement M
 fits-spec =
     tie.close
     (tie.spec
-    halting-bits-requires
     in-range-requires
     good-waiting-requires
     good-state-requires

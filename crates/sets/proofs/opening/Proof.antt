@@ -1,11 +1,33 @@
 -- `sets::opening` meets its contract: group after group. Assumes nothing.
-use mathlib.Core.Path.{sym, _∙_}
+use mathlib.Core.Bool.{Bool, true, not}
+use mathlib.Core.Path.{_≡_, sym, ap, _∙_}
 use borrow.Author.Tests.{not-true, not-false}
+use Rattle.octets.specs.Sentences.{pick}
+use Rattle.descriptors.proofs.CheckReferences.{told}
+use Rattle.sets.specs.Contents.{goodFrame, goodContents}
+use Rattle.sets.specs.Strings.{goodStrings}
+use Rattle.sets.specs.Opening.{goodDevices, goodConfigurations, goodBlock, opening}
 use borrow.Author.Needs.{needs}
-use Rattle.sets.specs.Opening.{goodBlock, opening}
-use Rattle.sets.proofs.Configurations.{well-cut-bodies}
 use Rattle.sets.proofs.opening.Statement.{statement}
 use Rattle.sets.proofs.opening.Tie as tie
+
+-- the groups that are met, one after another
+frame : (c : tie.Else1) → goodFrame (c .before .before .before .before .args .set .now) ≡ true
+frame c = sym (c .before .good-frame .ensures) ∙ not-false (c .before .good-frame .result) (c .if1 .left)
+
+contents : (c : tie.Else2) → let a = c .before .before .before .before .before .before .args in goodContents (a .limits) (a .set .now) ≡ true
+contents c = sym (c .before .good-contents .ensures) ∙ not-false (c .before .good-contents .result) (c .if2 .left)
+
+devices : (c : tie.Else3) → let a = c .before .before .before .before .before .before .before .before .args in goodDevices (a .limits) (a .set .now) ≡ true
+devices c = sym (c .before .good-devices .ensures) ∙ not-false (c .before .good-devices .result) (c .if3 .left)
+
+configurations : (c : tie.Else4)
+    → let a = c .before .before .before .before .before .before .before .before .before .before .before .before .before .before .args in goodConfigurations (a .limits) (a .set .now) ≡ true
+configurations c = let v = c .before .before .good-configurations in sym (ap (λ v. v .good) (v .ensures)) ∙ not-false (v .result .good) (c .if4 .left)
+
+strings : (c : tie.Else5)
+    → goodStrings (c .before .before .before .before .before .before .before .before .before .before .before .before .before .before .before .before .before .args .set .now) ≡ true
+strings c = sym (c .before .good-strings .ensures) ∙ not-false (c .before .good-strings .result) (c .if5 .left)
 
 good-frame-requires : tie.Need-good-frame-requires
 good-frame-requires c κs = search needs
@@ -19,25 +41,20 @@ good-contents-requires c κs = search needs
 
 returns-2 : tie.Need-returns-2
 unfolding opening
-returns-2 c =
-    rw (
-      sym (c .before .before .before .good-frame .ensures) ∙ not-false (c .before .before .before .good-frame .result) (c .before .before .if1 .left),
-      sym (c .before .good-contents .ensures) ∙ not-true (c .before .good-contents .result) (c .if2 .taken),
-    )
+returns-2 c = rw (frame (c .before .before), sym (c .before .good-contents .ensures) ∙ not-true (c .before .good-contents .result) (c .if2 .taken))
 
 good-devices-requires : tie.Need-good-devices-requires
 good-devices-requires c κs = search needs
 
 returns-3 : tie.Need-returns-3
 unfolding opening
-returns-3 c =
-    rw (
-      sym (c .before .before .before .before .before .good-frame .ensures)
-          ∙ not-false (c .before .before .before .before .before .good-frame .result) (c .before .before .before .before .if1 .left),
-      sym (c .before .before .before .good-contents .ensures)
-          ∙ not-false (c .before .before .before .good-contents .result) (c .before .before .if2 .left),
-      sym (c .before .good-devices .ensures) ∙ not-true (c .before .good-devices .result) (c .if3 .taken),
-    )
+returns-3 c = let g = c .before .before in rw (frame (g .before .before), contents g, sym (c .before .good-devices .ensures) ∙ not-true (c .before .good-devices .result) (c .if3 .taken))
+
+string-zero-requires : tie.Need-string-zero-requires
+string-zero-requires c κs = search needs
+
+names-requires : tie.Need-names-requires
+names-requires c κs = search needs
 
 good-configurations-requires : tie.Need-good-configurations-requires
 good-configurations-requires c κs = search needs
@@ -45,37 +62,35 @@ good-configurations-requires c κs = search needs
 returns-4 : tie.Need-returns-4
 unfolding opening
 returns-4 c =
+    let g = c .before .before .before .before .before .before in
+    let v = c .before .before .good-configurations in
     rw (
-      sym (c .before .before .before .before .before .before .before .good-frame .ensures)
-          ∙ not-false (c .before .before .before .before .before .before .before .good-frame .result)
-          (c .before .before .before .before .before .before .if1 .left),
-      sym (c .before .before .before .before .before .good-contents .ensures)
-          ∙ not-false (c .before .before .before .before .before .good-contents .result) (c .before .before .before .before .if2 .left),
-      sym (c .before .before .before .good-devices .ensures)
-          ∙ not-false (c .before .before .before .good-devices .result) (c .before .before .if3 .left),
-      sym (c .before .good-configurations .ensures) ∙ not-true (c .before .good-configurations .result) (c .if4 .taken),
+      frame (g .before .before .before .before),
+      contents (g .before .before),
+      devices g,
+      sym (ap (λ v. v .good) (v .ensures)) ∙ not-true (v .result .good) (c .if4 .taken),
     )
 
 good-strings-requires : tie.Need-good-strings-requires
 good-strings-requires c κs =
-    let a = c .before .before .before .before .before .before .before .before .before .before .args in
-    well-cut-bodies (a .limits) (a .set .now)
-    (sym (c .before .good-configurations .ensures) ∙ not-false (c .before .good-configurations .result) (c .if4 .left))
+    let g = c .before in
+    let v = g .before .before .good-configurations in
+    record {
+      listed = g .before .before .before .before .before .string-zero .ensures;
+      named = g .before .before .before .before .names .ensures;
+      told = told (v .result) _ _ (v .ensures) (not-false (v .result .good) (g .if4 .left));
+    }
 
 returns-5 : tie.Need-returns-5
 unfolding opening
 returns-5 c =
+    let g = c .before .before .before in
+    let d = g .before .before .before .before .before .before in
     rw (
-      sym (c .before .before .before .before .before .before .before .before .before .good-frame .ensures)
-          ∙ not-false (c .before .before .before .before .before .before .before .before .before .good-frame .result)
-          (c .before .before .before .before .before .before .before .before .if1 .left),
-      sym (c .before .before .before .before .before .before .before .good-contents .ensures)
-          ∙ not-false (c .before .before .before .before .before .before .before .good-contents .result)
-          (c .before .before .before .before .before .before .if2 .left),
-      sym (c .before .before .before .before .before .good-devices .ensures)
-          ∙ not-false (c .before .before .before .before .before .good-devices .result) (c .before .before .before .before .if3 .left),
-      sym (c .before .before .before .good-configurations .ensures)
-          ∙ not-false (c .before .before .before .good-configurations .result) (c .before .before .if4 .left),
+      frame (d .before .before .before .before),
+      contents (d .before .before),
+      devices d,
+      configurations g,
       sym (c .before .good-strings .ensures) ∙ not-true (c .before .good-strings .result) (c .if5 .taken),
     )
 
@@ -85,49 +100,27 @@ serial-index-requires c κs = search needs
 good-serial-requires : tie.Need-good-serial-requires
 good-serial-requires c κs = search needs
 
+-- all but the serial block is good
+met : (c : tie.Else5) {b : Bool}
+    → let a = c .before .before .before .before .before .before .before .before .before .before .before .before .before .before .before .before .before .args in
+    goodBlock (a .set .now) (a .serial .now) ≡ b → pick (not b) 6 0 ≡ opening (a .limits) (record { set = a .set .now; serial = a .serial .now })
+unfolding opening
+met c p =
+    let g = c .before .before .before in
+    let d = g .before .before .before .before .before .before in
+    rw (frame (d .before .before .before .before), contents (d .before .before), devices d, configurations g, strings c, p)
+
+block : (c : tie.After-good-serial)
+    → let a = c .before .before .before .before .before .before .before .before .before .before .before .before .before .before .before .before .before .before .before .args in
+    goodBlock (a .set .now) (a .serial .now) ≡ c .good-serial .result
+unfolding goodBlock
+block c = sym (rw (c .before .serial-index .ensures) at (c .good-serial .ensures))
+
 returns-6 : tie.Need-returns-6
-unfolding opening goodBlock
-returns-6 c =
-    rw (
-      sym (c .before .before .before .before .before .before .before .before .before .before .before .before .good-frame .ensures)
-          ∙ not-false (c .before .before .before .before .before .before .before .before .before .before .before .before .good-frame .result)
-          (c .before .before .before .before .before .before .before .before .before .before .before .if1 .left),
-      sym (c .before .before .before .before .before .before .before .before .before .before .good-contents .ensures)
-          ∙ not-false (c .before .before .before .before .before .before .before .before .before .before .good-contents .result)
-          (c .before .before .before .before .before .before .before .before .before .if2 .left),
-      sym (c .before .before .before .before .before .before .before .before .good-devices .ensures)
-          ∙ not-false (c .before .before .before .before .before .before .before .before .good-devices .result)
-          (c .before .before .before .before .before .before .before .if3 .left),
-      sym (c .before .before .before .before .before .before .good-configurations .ensures)
-          ∙ not-false (c .before .before .before .before .before .before .good-configurations .result)
-          (c .before .before .before .before .before .if4 .left),
-      sym (c .before .before .before .before .good-strings .ensures)
-          ∙ not-false (c .before .before .before .before .good-strings .result) (c .before .before .before .if5 .left),
-      sym (rw (c .before .before .serial-index .ensures) at (c .before .good-serial .ensures))
-          ∙ not-true (c .before .good-serial .result) (c .if6 .taken),
-    )
+returns-6 c = met (c .before .before .before) (block (c .before) ∙ not-true (c .before .good-serial .result) (c .if6 .taken))
 
 returns-7 : tie.Need-returns-7
-unfolding opening goodBlock
-returns-7 c =
-    rw (
-      sym (c .before .before .before .before .before .before .before .before .before .before .before .before .good-frame .ensures)
-          ∙ not-false (c .before .before .before .before .before .before .before .before .before .before .before .before .good-frame .result)
-          (c .before .before .before .before .before .before .before .before .before .before .before .if1 .left),
-      sym (c .before .before .before .before .before .before .before .before .before .before .good-contents .ensures)
-          ∙ not-false (c .before .before .before .before .before .before .before .before .before .before .good-contents .result)
-          (c .before .before .before .before .before .before .before .before .before .if2 .left),
-      sym (c .before .before .before .before .before .before .before .before .good-devices .ensures)
-          ∙ not-false (c .before .before .before .before .before .before .before .before .good-devices .result)
-          (c .before .before .before .before .before .before .before .if3 .left),
-      sym (c .before .before .before .before .before .before .good-configurations .ensures)
-          ∙ not-false (c .before .before .before .before .before .before .good-configurations .result)
-          (c .before .before .before .before .before .if4 .left),
-      sym (c .before .before .before .before .good-strings .ensures)
-          ∙ not-false (c .before .before .before .before .good-strings .result) (c .before .before .before .if5 .left),
-      sym (rw (c .before .before .serial-index .ensures) at (c .before .good-serial .ensures))
-          ∙ not-false (c .before .good-serial .result) (c .if6 .left),
-    )
+returns-7 c = met (c .before .before .before) (block (c .before) ∙ not-false (c .before .good-serial .result) (c .if6 .left))
 
 pub opening-spec : {M : Type 1} → statement M
 opening-spec =
@@ -139,6 +132,8 @@ opening-spec =
     returns-2
     good-devices-requires
     returns-3
+    string-zero-requires
+    names-requires
     good-configurations-requires
     returns-4
     good-strings-requires

@@ -1,7 +1,11 @@
 -- `descriptors::check::good_endpoint` meets its contract. Assumes nothing.
+use borrow.Author.Tests.{lt-leb, le-leb}
 use borrow.Author.Needs.{needs}
 use Rattle.descriptors.proofs.check.good_endpoint.Statement.{statement}
 use Rattle.descriptors.proofs.check.good_endpoint.Tie as tie
+
+returns : tie.Need-returns
+returns c = rw (lt-leb 7 _ (c .if1 .taken))
 
 peek-requires : tie.Need-peek-requires
 peek-requires c κs = search needs
@@ -27,13 +31,14 @@ peek-requires-3 c κs = search needs
 good-interval-requires : tie.Need-good-interval-requires
 good-interval-requires c κs = search needs
 
-returns : tie.Need-returns
-returns c = cc
+returns-2 : tie.Need-returns-2
+returns-2 c = rw (le-leb 7 _ (c .before .before .before .before .before .before .before .before .if1 .left)) cc
 
 pub good-endpoint-spec : {M : Type 1} → statement M
 good-endpoint-spec =
     tie.close
     (tie.spec
+    returns
     peek-requires
     word-requires
     peek-requires-2
@@ -42,4 +47,4 @@ good-endpoint-spec =
     good-size-requires
     peek-requires-3
     good-interval-requires
-    returns)
+    returns-2)

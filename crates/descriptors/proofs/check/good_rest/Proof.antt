@@ -1,34 +1,55 @@
--- `descriptors::check::good_rest` meets its contract. Assumes nothing.
-use Prim.Native.Nat.{_-_}
+-- `descriptors::check::good_rest` meets its contract: what is asked of all is asked of the descriptors ahead, by the check and of the references. Assumes nothing.
+use Prim.Native.Nat.{_-_, _≤_}
 use native.Mathlib.Omega.{arith}
-use mathlib.Core.Path.{_≡_, sym, _∙_}
+use mathlib.Core.Path.{_≡_, refl, sym, _∙_}
+use mathlib.Core.Bool.{_&&_}
 use lib.ListN.{length, drop}
 use borrow.Author.Needs.{needs}
+use Rattle.octets.specs.Sentences.{every}
 use Rattle.descriptors.specs.Cut.{cut}
 use Rattle.descriptors.specs.Walk.{walked}
-use Rattle.descriptors.specs.Check.{beginning, checking}
+use Rattle.descriptors.specs.Check.{beginning, checking, interfaceRefers}
 use Rattle.descriptors.proofs.Walk.{walk-end}
+use Rattle.descriptors.proofs.Ahead.{ahead}
 use Rattle.descriptors.proofs.CheckWhole.{check-stuck, check-inside, check-refused, check-on}
+use Rattle.descriptors.proofs.CheckReferences.{asked-all, asked-on, refused}
 use Rattle.descriptors.proofs.check.good_rest.Statement.{statement}
 use Rattle.descriptors.proofs.check.good_rest.Tie as tie
 
 abbrev Inv-loop : tie.InvT-loop
-Inv-loop body from interfaces limits progress₀ at₀ progress at = walked (checking limits interfaces) beginning (cut (drop from body)) ≡ walked (checking limits interfaces) progress (cut (drop at body))
+Inv-loop body from interfaces limits names progress₀ refers₀ at₀ progress refers at =
+    (walked (checking limits interfaces) beginning (cut (drop from body)) ≡ walked (checking limits interfaces) progress (cut (drop at body)))
+    × (every (interfaceRefers names) (ahead body from) ≡ (refers && every (interfaceRefers names) (ahead body at)))
 
 abbrev μ-loop : tie.MeasureT-loop
-μ-loop body from interfaces limits progress₀ at₀ progress at = length body - at
+μ-loop body from interfaces limits names progress₀ refers₀ at₀ progress refers at = length body - at
+
+-- the descriptor at hand ends inside the body
+inside : (c : tie.Else1 Inv-loop μ-loop) → c .before .advance .result .end ≤ length (c .before .before .before .before .before .before .args .body .now)
+inside c =
+    let l = c .before .before .before .loop in
+    check-inside (c .before .before .before .before .before .before .args .limits) _ _ _ _ _ (l .inv .0) _ (c .before .advance .ensures)
+    (c .before .before .loop-test .taken) (c .if1 .left)
 
 start-requires : tie.Need-start-requires Inv-loop μ-loop
 start-requires c κs = search needs
 
 loop-holds : tie.Need-loop-holds Inv-loop μ-loop
-loop-holds c = rw (c .start .ensures)
+loop-holds c = (rw (c .start .ensures), refl)
 
 advance-requires : tie.Need-advance-requires Inv-loop μ-loop
 advance-requires c κs = search needs
 
+refuse-requires : tie.Need-refuse-requires Inv-loop μ-loop
+refuse-requires c κs = search needs
+
 returns : tie.Need-returns Inv-loop μ-loop
-returns c = check-stuck (c .before .before .before .before .before .before .args .limits) _ _ _ _ _ (c .before .before .before .loop .inv) _ (c .before .advance .ensures) (c .before .before .loop-test .taken) (c .if1 .taken)
+returns c =
+    let w = c .before in
+    let l = w .before .before .before .loop in
+    c .refuse .ensures
+    ∙ refused _
+    (check-stuck (w .before .before .before .before .before .before .args .limits) _ _ _ _ _ (l .inv .0) _ (w .before .advance .ensures) (w .before .before .loop-test .taken) (w .if1 .taken))
 
 sub-is-allowed : tie.Need-sub-is-allowed Inv-loop μ-loop
 sub-is-allowed c = search needs
@@ -37,7 +58,7 @@ part-is-allowed-start : tie.Need-part-is-allowed-start Inv-loop μ-loop
 part-is-allowed-start c = search needs
 
 part-is-allowed-end : tie.Need-part-is-allowed-end Inv-loop μ-loop
-part-is-allowed-end c = check-inside (c .before .before .before .before .before .before .args .limits) _ _ _ _ _ (c .before .before .before .loop .inv) _ (c .before .advance .ensures) (c .before .before .loop-test .taken) (c .if1 .left)
+part-is-allowed-end c = inside c
 
 is-allowed-requires : tie.Need-is-allowed-requires Inv-loop μ-loop
 is-allowed-requires c κs = search needs
@@ -49,25 +70,65 @@ part-move-on-start : tie.Need-part-move-on-start Inv-loop μ-loop
 part-move-on-start c = search needs
 
 part-move-on-end : tie.Need-part-move-on-end Inv-loop μ-loop
-part-move-on-end c = check-inside (c .before .before .before .before .before .before .before .before .before .args .limits) _ _ _ _ _ (c .before .before .before .before .before .before .loop .inv) _ (c .before .before .before .before .advance .ensures) (c .before .before .before .before .before .loop-test .taken) (c .before .before .before .if1 .left)
+part-move-on-end c = inside (c .before .before .before)
 
 move-on-requires : tie.Need-move-on-requires Inv-loop μ-loop
 move-on-requires c κs = search needs
 
+sub-still-refers : tie.Need-sub-still-refers Inv-loop μ-loop
+sub-still-refers c = search needs
+
+part-still-refers-start : tie.Need-part-still-refers-start Inv-loop μ-loop
+part-still-refers-start c = search needs
+
+part-still-refers-end : tie.Need-part-still-refers-end Inv-loop μ-loop
+part-still-refers-end c = inside (c .before .before .before .before .before)
+
+still-refers-requires : tie.Need-still-refers-requires Inv-loop μ-loop
+still-refers-requires c κs = search needs
+
 loop-less : tie.Need-loop-less Inv-loop μ-loop
-loop-less c = let i = check-inside (c .before .before .before .before .before .before .before .before .before .before .before .args .limits) _ _ _ _ _ (c .before .before .before .before .before .before .before .before .loop .inv) _ (c .before .before .before .before .before .before .advance .ensures) (c .before .before .before .before .before .before .before .loop-test .taken) (c .before .before .before .before .before .if1 .left) in omega (arith, i, c .before .before .before .before .before .if1 .left, c .before .before .before .before .before .before .before .loop-test .taken)
+loop-less c =
+    let w = c .before .before .before .before .before .before .before in
+    let i = inside w in
+    omega (arith, i, w .if1 .left, w .before .before .loop-test .taken)
 
 loop-again : tie.Need-loop-again Inv-loop μ-loop
-loop-again c = check-on (c .before .before .before .before .before .before .before .before .before .before .before .args .limits) _ _ _ _ _ (c .before .before .before .before .before .before .before .before .loop .inv) _ (c .before .before .before .before .before .before .advance .ensures) (c .before .before .before .before .before .before .before .loop-test .taken) (c .before .before .before .before .before .if1 .left) _ (sym (c .before .before .before .is-allowed .ensures) ∙ c .before .before .if2 .taken) (c .move-on .ensures)
+loop-again c =
+    let w = c .before .before .before .before .before .before .before in
+    let a = w .before .before .before .before .before .before .args in
+    let l = w .before .before .before .loop in
+    let s = w .before .advance in (
+      check-on (a .limits) _ _ _ _ _ (l .inv .0) _ (s .ensures) (w .before .before .loop-test .taken) (w .if1 .left) _
+          (sym (c .before .before .before .before .before .is-allowed .ensures) ∙ c .before .before .before .before .if2 .taken) (c .before .before .move-on .ensures),
+      rw (c .still-refers .ensures)
+          (asked-on (interfaceRefers (a .names .now)) (a .body .now) (l .at) (l .refers) _ (l .inv .1) (l .progress .stand) (s .result) (s .ensures) (w .before .before .loop-test .taken) (w .if1 .left)),
+    )
+
+refuse-requires-2 : tie.Need-refuse-requires-2 Inv-loop μ-loop
+refuse-requires-2 c κs = search needs
 
 returns-2 : tie.Need-returns-2 Inv-loop μ-loop
-returns-2 c = check-refused (c .before .before .before .before .before .before .before .before .before .args .limits) _ _ _ _ _ (c .before .before .before .before .before .before .loop .inv) _ (c .before .before .before .before .advance .ensures) (c .before .before .before .before .before .loop-test .taken) (c .before .before .before .if1 .left) (sym (c .before .is-allowed .ensures) ∙ c .if2 .left)
+returns-2 c =
+    let w = c .before .before .before .before in
+    let l = w .before .before .before .loop in
+    c .refuse2 .ensures
+    ∙ refused _
+    (check-refused (w .before .before .before .before .before .before .args .limits) _ _ _ _ _ (l .inv .0) _ (w .before .advance .ensures) (w .before .before .loop-test .taken) (w .if1 .left)
+    (sym (c .before .before .is-allowed .ensures) ∙ c .before .if2 .left))
 
 may-end-requires : tie.Need-may-end-requires Inv-loop μ-loop
 may-end-requires c κs = search needs
 
 returns-3 : tie.Need-returns-3 Inv-loop μ-loop
-returns-3 c = c .may-end .ensures ∙ walk-end (checking (c .before .before .before .before .before .args .limits) _) _ _ _ _ (c .before .before .loop .inv) (c .before .loop-test .left)
+returns-3 c =
+    let a = c .before .before .before .before .before .args in
+    let l = c .before .before .loop in
+    rw (
+      asked-all (interfaceRefers (a .names .now)) (a .body .now) (l .at) (l .refers) _ (l .inv .1) (c .before .loop-test .left),
+      ← walk-end (checking (a .limits) (a .interfaces)) (a .body .now) (l .at) (l .progress) _ (l .inv .0) (c .before .loop-test .left),
+      ← c .may-end .ensures,
+    )
 
 pub good-rest-spec : {M : Type 1} → statement M
 good-rest-spec =
@@ -78,6 +139,7 @@ good-rest-spec =
     start-requires
     loop-holds
     advance-requires
+    refuse-requires
     returns
     sub-is-allowed
     part-is-allowed-start
@@ -87,8 +149,13 @@ good-rest-spec =
     part-move-on-start
     part-move-on-end
     move-on-requires
+    sub-still-refers
+    part-still-refers-start
+    part-still-refers-end
+    still-refers-requires
     loop-less
     loop-again
+    refuse-requires-2
     returns-2
     may-end-requires
     returns-3)

@@ -1,4 +1,6 @@
--- `descriptors::lookup::begins_interface` meets its contract: the same tests. Assumes nothing.
+-- `descriptors::lookup::begins_interface` meets its contract: the same tests, of a descriptor of its type. Assumes nothing.
+use mathlib.Core.Path.{sym, _∙_}
+use borrow.Author.Tests.{eq-eqb, ne-eqb}
 use borrow.Author.Needs.{needs}
 use Rattle.descriptors.proofs.lookup.begins_interface.Statement.{statement}
 use Rattle.descriptors.proofs.lookup.begins_interface.Tie as tie
@@ -13,7 +15,10 @@ cast-result : tie.Need-cast-result
 cast-result c = search needs
 
 returns : tie.Need-returns
-returns c = cc
+returns c = simp (eq-eqb _ _ (sym (c .before .before .peek .ensures) ∙ c .before .if1 .taken), c .peek2 .ensures)
+
+returns-2 : tie.Need-returns-2
+returns-2 c = simp (ne-eqb _ _ (λ e. c .if1 .left (c .before .peek .ensures ∙ e)))
 
 pub begins-interface-spec : {M : Type 1} → statement M
-begins-interface-spec = tie.close (tie.spec peek-requires peek-requires-2 cast-result returns)
+begins-interface-spec = tie.close (tie.spec peek-requires peek-requires-2 cast-result returns returns-2)

@@ -1,4 +1,6 @@
--- `descriptors::lookup::begins_setting` meets its contract: the same tests. Assumes nothing.
+-- `descriptors::lookup::begins_setting` meets its contract: the same tests, of a descriptor of its type. Assumes nothing.
+use mathlib.Core.Path.{sym, _∙_}
+use borrow.Author.Tests.{eq-eqb, ne-eqb}
 use borrow.Author.Needs.{needs}
 use Rattle.descriptors.proofs.lookup.begins_setting.Statement.{statement}
 use Rattle.descriptors.proofs.lookup.begins_setting.Tie as tie
@@ -19,9 +21,12 @@ cast-result-2 : tie.Need-cast-result-2
 cast-result-2 c = search needs
 
 returns : tie.Need-returns
-returns c = cc
+returns c = simp (eq-eqb _ _ (sym (c .before .before .before .peek .ensures) ∙ c .before .before .if1 .taken), c .before .peek2 .ensures, c .peek3 .ensures)
+
+returns-2 : tie.Need-returns-2
+returns-2 c = simp (ne-eqb _ _ (λ e. c .if1 .left (c .before .peek .ensures ∙ e)))
 
 pub begins-setting-spec : {M : Type 1} → statement M
 begins-setting-spec =
     tie.close
-    (tie.spec peek-requires peek-requires-2 cast-result peek-requires-3 cast-result-2 returns)
+    (tie.spec peek-requires peek-requires-2 cast-result peek-requires-3 cast-result-2 returns returns-2)

@@ -8,7 +8,7 @@ use borrow.Author.Needs.{needs}
 use Rattle.octets.specs.Sentences.{any}
 use Rattle.descriptors.specs.Configuration.{configurationOf, hasInterface}
 use Rattle.descriptors.specs.Lookup.{beginsInterface}
-use Rattle.descriptors.proofs.Ahead.{Place, ahead, begun, turn, settings-begin, met, not-met, none-ahead}
+use Rattle.descriptors.proofs.Ahead.{Place, ahead, begun, steps, turn, settings-begin, met, not-met, none-ahead}
 use Rattle.descriptors.proofs.lookup.has_interface.Statement.{statement}
 use Rattle.descriptors.proofs.lookup.has_interface.Tie as tie
 
@@ -32,30 +32,30 @@ loop-holds c =
     let b = begun (c .before .before .before .args .body .now) _ (c .before .before .before .pre) (c .peek .ensures) in
     (b .place, settings-begin (λ s. eqb (s .interface) (c .before .before .before .args .number)) b)
 
-advance-requires : tie.Need-advance-requires Inv-loop μ-loop
-advance-requires c κs = search needs
+step-over-requires : tie.Need-step-over-requires Inv-loop μ-loop
+step-over-requires c κs = steps _ _ (c .before .loop .inv .0) (c .loop-test .taken)
 
 sub-begins-interface : tie.Need-sub-begins-interface Inv-loop μ-loop
-sub-begins-interface c = let t = turn _ _ _ (c .before .before .loop .inv .0) (c .before .loop-test .taken) _ (c .advance .ensures) in omega arith
+sub-begins-interface c = let t = turn _ _ _ (c .before .before .loop .inv .0) (c .before .loop-test .taken) _ (c .step-over .ensures) in omega arith
 
 part-begins-interface-start : tie.Need-part-begins-interface-start Inv-loop μ-loop
-part-begins-interface-start c = let t = turn _ _ _ (c .before .before .loop .inv .0) (c .before .loop-test .taken) _ (c .advance .ensures) in omega arith
+part-begins-interface-start c = let t = turn _ _ _ (c .before .before .loop .inv .0) (c .before .loop-test .taken) _ (c .step-over .ensures) in omega arith
 
 part-begins-interface-end : tie.Need-part-begins-interface-end Inv-loop μ-loop
-part-begins-interface-end c = let t = turn _ _ _ (c .before .before .loop .inv .0) (c .before .loop-test .taken) _ (c .advance .ensures) in omega (arith, t .place .inside)
+part-begins-interface-end c = let t = turn _ _ _ (c .before .before .loop .inv .0) (c .before .loop-test .taken) _ (c .step-over .ensures) in omega (arith, t .place .inside)
 
 begins-interface-requires : tie.Need-begins-interface-requires Inv-loop μ-loop
 begins-interface-requires c κs = search needs
 
 returns : tie.Need-returns Inv-loop μ-loop
-returns c = met _ (turn _ _ _ (c .before .before .before .before .before .loop .inv .0) (c .before .before .before .before .loop-test .taken) _ (c .before .before .before .advance .ensures)) (c .before .before .before .before .before .loop .inv .1) (c .before .begins-interface .ensures) (c .if1 .taken)
+returns c = met _ (turn _ _ _ (c .before .before .before .before .before .loop .inv .0) (c .before .before .before .before .loop-test .taken) _ (c .before .before .before .step-over .ensures)) (c .before .before .before .before .before .loop .inv .1) (c .before .begins-interface .ensures) (c .if1 .taken)
 
 loop-less : tie.Need-loop-less Inv-loop μ-loop
-loop-less c = let t = turn _ _ _ (c .before .before .before .before .before .loop .inv .0) (c .before .before .before .before .loop-test .taken) _ (c .before .before .before .advance .ensures) in omega (arith, t .place .inside)
+loop-less c = let t = turn _ _ _ (c .before .before .before .before .before .loop .inv .0) (c .before .before .before .before .loop-test .taken) _ (c .before .before .before .step-over .ensures) in omega (arith, t .place .inside)
 
 loop-again : tie.Need-loop-again Inv-loop μ-loop
 loop-again c =
-    let t = turn _ _ _ (c .before .before .before .before .before .loop .inv .0) (c .before .before .before .before .loop-test .taken) _ (c .before .before .before .advance .ensures) in
+    let t = turn _ _ _ (c .before .before .before .before .before .loop .inv .0) (c .before .before .before .before .loop-test .taken) _ (c .before .before .before .step-over .ensures) in
     (t .place, not-met _ t (c .before .before .before .before .before .loop .inv .1) (c .before .begins-interface .ensures) (c .if1 .left))
 
 returns-2 : tie.Need-returns-2 Inv-loop μ-loop
@@ -71,7 +71,7 @@ has-interface-spec =
     peek-requires
     cast-at
     loop-holds
-    advance-requires
+    step-over-requires
     sub-begins-interface
     part-begins-interface-start
     part-begins-interface-end

@@ -13,14 +13,14 @@ request-requires c κs = search needs
 
 returns : tie.Need-returns
 unfolding answerSetup
-returns c = λ q. rw (← c .before .before .refusal .ensures, eq-eqb _ _ (c .before .if1 .taken)) (c .request .ensures q)
+returns c = λ q e. rw (← c .before .before .refusal .ensures, eq-eqb _ _ (c .before .if1 .taken)) (c .request .ensures q e)
 
 refused-requires : tie.Need-refused-requires
 refused-requires c κs = search needs
 
 returns-2 : tie.Need-returns-2
 unfolding answerSetup
-returns-2 c = λ q. rw (← c .before .before .refusal .ensures, ne-eqb _ _ (c .before .if1 .left)) (c .refused .ensures)
+returns-2 c = λ q e. rw (← c .before .before .refusal .ensures, ne-eqb _ _ (c .before .if1 .left)) (c .refused .ensures)
 
 pub answer-setup-spec : {M : Type 1} → statement M
 answer-setup-spec =

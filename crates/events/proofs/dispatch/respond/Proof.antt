@@ -31,51 +31,41 @@ fresh-requires c κs = search needs
 done-requires : tie.Need-done-requires
 done-requires c κs = search needs
 
-enum-known-event-2 : tie.Need-enum-known-event-2
-enum-known-event-2 c = search needs
-
-cast-endpoint-at : tie.Need-cast-endpoint-at
-cast-endpoint-at c = search needs
-
-endpoint-at-requires : tie.Need-endpoint-at-requires
-endpoint-at-requires c κs = search needs
+enum-told-4 : tie.Need-enum-told-4
+enum-told-4 c = search needs
 
 halt-requires : tie.Need-halt-requires
 halt-requires c κs = search needs
 
-enum-known-event-3 : tie.Need-enum-known-event-3
-enum-known-event-3 c = search needs
-
-cast-endpoint-at-2 : tie.Need-cast-endpoint-at-2
-cast-endpoint-at-2 c = search needs
-
-endpoint-at-requires-2 : tie.Need-endpoint-at-requires-2
-endpoint-at-requires-2 c κs = search needs
+enum-told-5 : tie.Need-enum-told-5
+enum-told-5 c = search needs
 
 packet-passed-requires : tie.Need-packet-passed-requires
 packet-passed-requires c κs = search needs
 
 returns : tie.Need-returns
-returns c = λ q. rw (c .before .before .event .given .1) (c .answer-setup .ensures q)
+returns c = λ q e. rw (c .before .before .event .given .1) (c .answer-setup .ensures q (rw (c .before .before .event .given .1) at e))
 
 returns-2 : tie.Need-returns-2
-returns-2 c = λ q. rw (c .before .enum-told .given .1) (c .refused .ensures)
+returns-2 c = λ q e. rw (c .before .enum-told .given .1) (c .refused .ensures)
 
 returns-3 : tie.Need-returns-3
-returns-3 c = λ q. rw (c .before .enum-told2 .given .1) (c .status-end .ensures)
+returns-3 c = λ q e. rw (c .before .enum-told2 .given .1) (c .status-end .ensures)
 
 returns-4 : tie.Need-returns-4
-returns-4 c = λ q. rw (c .before .before .enum-told3 .given .1, c .done .ensures, c .before .fresh .ensures)
+returns-4 c = λ q e. rw (c .before .before .enum-told3 .given .1, c .done .ensures, c .before .fresh .ensures)
 
 returns-5 : tie.Need-returns-5
-returns-5 c = λ q.
-    let v = viewOf (record { set = c .before .before .before .before .before .before .before .before .args .set .now; serial = c .before .before .before .before .before .before .before .before .args .serial .now }) in
-    rw (c .before .before .before .event2 .given .1) (c .halt .ensures v (c .before .before .before .event2 .given .0 .0) (c .before .endpoint-at .ensures v q))
+returns-5 c = λ q e.
+    let a = c .before .before .before .before .before .before .args in
+    let v = viewOf (record { set = a .set .now; serial = a .serial .now }) in
+    rw (c .before .enum-told4 .given .1) (c .halt .ensures v (c .before .enum-told4 .given .0 .0) (rw (c .before .enum-told4 .given .1) at e))
 
 returns-6 : tie.Need-returns-6
-returns-6 c = λ q.
-    let v = viewOf (record { set = c .before .before .before .before .before .before .before .before .args .set .now; serial = c .before .before .before .before .before .before .before .before .args .serial .now }) in
-    rw (c .before .before .before .event3 .given .1) (c .packet-passed .ensures v (c .before .before .before .event3 .given .0 .0) (c .before .endpoint-at2 .ensures v q))
+returns-6 c = λ q e.
+    let a = c .before .before .before .before .before .before .args in
+    let v = viewOf (record { set = a .set .now; serial = a .serial .now }) in
+    rw (c .before .enum-told5 .given .1) (c .packet-passed .ensures v (c .before .enum-told5 .given .0 .0) (rw (c .before .enum-told5 .given .1) at e))
 
 pub respond-spec : {M : Type 1} → statement M
 respond-spec =
@@ -90,13 +80,9 @@ respond-spec =
     enum-told-3
     fresh-requires
     done-requires
-    enum-known-event-2
-    cast-endpoint-at
-    endpoint-at-requires
+    enum-told-4
     halt-requires
-    enum-known-event-3
-    cast-endpoint-at-2
-    endpoint-at-requires-2
+    enum-told-5
     packet-passed-requires
     returns
     returns-2

@@ -1,28 +1,33 @@
--- `sets::configuration::good_configurations` meets its contract: the configurations passed are good, and what is asked of all is asked of those left. Assumes nothing.
+-- `sets::configuration::good_configurations` meets its contract: what is asked of all configurations is asked of those left. Assumes nothing.
 use Prim.Native.Nat.{_+_, _-_, _≤_, _<_}
 use native.Mathlib.Omega.{arith}
-use mathlib.Core.List.{[], _∷_}
+use mathlib.Core.Bool.{_&&_, and-true, and-assoc}
+use mathlib.Core.List.{[], _∷_, map}
 use mathlib.Core.Path.{_≡_, refl, sym, ap, _∙_}
 use lib.ListN.{length}
 use borrow.Author.Needs.{needs}
 use borrow.Author.Tests.{not-true, not-false}
-use Rattle.octets.specs.Sentences.{only}
+use Rattle.octets.specs.Sentences.{every, only}
+use Rattle.descriptors.specs.Check.{verdict, configurationRefers}
 use Rattle.descriptors.specs.Configuration.{bConfigurationValue}
-use Rattle.sets.specs.Contents.{bodyOf, isKind}
-use Rattle.sets.specs.Indices.{has}
+use Rattle.descriptors.specs.Table.{has}
+use Rattle.descriptors.proofs.CheckReferences.{refused, told}
+use Rattle.descriptors.proofs.Tables.{allOf, with-long}
+use Rattle.sets.specs.Contents.{bodyOf, bodies, isKind}
 use Rattle.sets.specs.Checks.{goodNumbered}
 use Rattle.sets.specs.Opening.{goodConfigurations}
 use Rattle.sets.proofs.Configurations.{goodFrom, good-start, good-end, good-more}
-use Rattle.sets.proofs.Entries.{rest-start, restOf, kind-next, kind-other, kind-end}
-use Rattle.sets.proofs.Tables.{allOf, with-long}
+use Rattle.sets.proofs.Entries.{rest-start, restOf, kind-next, kind-other, kind-end, every-cons, every-empty}
 use Rattle.sets.proofs.configuration.good_configurations.Statement.{statement}
 use Rattle.sets.proofs.configuration.good_configurations.Tie as tie
 
 abbrev Inv-loop : tie.InvT-loop
-Inv-loop set limits count index₀ seen₀ i₀ index seen i = (index ≤ i) × (length (seen .words) ≡ 8) × (goodConfigurations limits set ≡ goodFrom limits set index seen (restOf 2 set i))
+Inv-loop set limits names count index₀ seen₀ refers₀ i₀ index seen refers i =
+    (index ≤ i) × (length seen ≡ 8) × (goodConfigurations limits set ≡ goodFrom limits set index seen (restOf 2 set i))
+    × (every (configurationRefers names) (bodies 2 set) ≡ (refers && every (configurationRefers names) (map (bodyOf set) (restOf 2 set i))))
 
 abbrev μ-loop : tie.MeasureT-loop
-μ-loop set limits count index₀ seen₀ i₀ index seen i = count - i
+μ-loop set limits names count index₀ seen₀ refers₀ i₀ index seen refers i = count - i
 
 -- the configurations from here on, where this entry is one, where it is not, and where no entry is left
 turn : (c : tie.After-entry-at Inv-loop μ-loop) → c .entry-at .result .kind ≡ 2
@@ -49,13 +54,14 @@ small c = rw (← c .before .body-of .ensures, ← c .peek2 .ensures) (search ne
 
 -- what was asked of the entry, of the set's own bytes
 asked : (c : tie.After-good-configuration-entry Inv-loop μ-loop)
-    → let s = c .before .before .before .before .before .before in
+    → let s = c .before .before .before .before .before .before .before in
     let a = s .before .before .before .before .before .args in
     let body = bodyOf (a .set .now) (s .entry-at .result) in
-    goodNumbered (a .limits) (s .entry-at .result) (s .before .before .loop .index) body (has (s .before .before .loop .seen) (bConfigurationValue body))
-    ≡ c .good-configuration-entry .result
+    c .good-configuration-entry .result
+    ≡ verdict (goodNumbered (a .limits) (s .entry-at .result) (s .before .before .loop .index) body (has (s .before .before .loop .seen) (bConfigurationValue body)))
+    (configurationRefers (a .names .now) body)
 asked c =
-    sym (rw (c .before .holds .ensures, c .before .before .peek2 .ensures, c .before .before .before .body-of .ensures) at (c .good-configuration-entry .ensures))
+    rw (c .before .holds .ensures, c .before .before .before .peek2 .ensures, c .before .before .before .before .body-of .ensures) at (c .good-configuration-entry .ensures)
 
 peek-requires : tie.Need-peek-requires Inv-loop μ-loop
 peek-requires c κs = search needs
@@ -66,6 +72,7 @@ loop-holds c =
       omega arith,
       refl,
       good-start (a .limits) (a .set .now) ∙ ap (λ es. goodFrom (a .limits) (a .set .now) 0 (allOf 0) (only (isKind 2) es)) (rest-start (a .set .now)),
+      ap (λ es. every (configurationRefers (a .names .now)) (map (bodyOf (a .set .now)) (only (isKind 2) es))) (rest-start (a .set .now)),
     )
 
 entry-at-requires : tie.Need-entry-at-requires Inv-loop μ-loop
@@ -86,19 +93,25 @@ holds-requires c κs = search needs
 good-configuration-entry-requires : tie.Need-good-configuration-entry-requires Inv-loop μ-loop
 good-configuration-entry-requires c κs = search needs
 
+refuse-requires : tie.Need-refuse-requires Inv-loop μ-loop
+refuse-requires c κs = search needs
+
 returns : tie.Need-returns Inv-loop μ-loop
 returns c =
-    let s = c .before .before .before .before .before .before .before in
+    let s = c .before .before .before .before .before .before .before .before .before .before in
     let a = s .before .before .before .before .before .args in
     let l = s .before .before .loop in
-    sym
+    let v = c .before .before .before in
+    c .refuse .ensures
+    ∙ refused _
+    (sym
     (l .inv .2
-    ∙ ap (goodFrom (a .limits) (a .set .now) (l .index) (l .seen)) (turn s (c .before .before .before .before .before .if1 .taken))
-    ∙ good-more (a .limits) (a .set .now) (l .index) (l .seen) (s .entry-at .result) _ (small (c .before .before .before)) (l .inv .1)
-    ∙ rw (asked (c .before), not-true (c .before .good-configuration-entry .result) (c .if2 .taken)))
+    ∙ ap (goodFrom (a .limits) (a .set .now) (l .index) (l .seen)) (turn s (c .before .before .before .before .before .before .before .before .if1 .taken))
+    ∙ good-more (a .limits) (a .set .now) (l .index) (l .seen) (s .entry-at .result) _ (small (c .before .before .before .before .before .before)) (l .inv .1)
+    ∙ rw (sym (ap (λ v. v .good) (asked v)), not-true (v .good-configuration-entry .result .good) (c .before .if2 .taken))))
 
-joined-requires : tie.Need-joined-requires Inv-loop μ-loop
-joined-requires c κs = search needs
+join-requires : tie.Need-join-requires Inv-loop μ-loop
+join-requires c κs = search needs
 
 add-index : tie.Need-add-index Inv-loop μ-loop
 add-index c = search needs
@@ -108,21 +121,21 @@ loop-less c = search needs
 
 loop-again : tie.Need-loop-again Inv-loop μ-loop
 loop-again c =
-    let s = c .before .before .before .before .before .before .before .before in
+    let v = c .before .before .before .before .before in
+    let s = v .before .before .before .before .before .before .before in
     let a = s .before .before .before .before .before .args in
-    let l = s .before .before .loop in (
+    let l = s .before .before .loop in
+    let next = turn s (c .before .before .before .before .before .before .before .before .before .before .if1 .taken) in
+    let good = not-false (v .good-configuration-entry .result .good) (c .before .before .before .if2 .left) in
+    let f = configurationRefers (a .names .now) in (
       omega arith,
-      rw (c .joined .ensures) (with-long (l .seen) _ (l .inv .1)),
+      rw (c .join .ensures) (with-long (l .seen) _ (l .inv .1)),
       l .inv .2
-          ∙ ap (goodFrom (a .limits) (a .set .now) (l .index) (l .seen)) (turn s (c .before .before .before .before .before .before .if1 .taken))
-          ∙ good-more (a .limits) (a .set .now) (l .index) (l .seen) (s .entry-at .result) _ (small (c .before .before .before .before)) (l .inv .1)
-          ∙ rw (
-            asked (c .before .before),
-            not-false (c .before .before .good-configuration-entry .result) (c .before .if2 .left),
-            c .joined .ensures,
-            c .before .before .before .before .peek2 .ensures,
-            c .before .before .before .before .before .body-of .ensures,
-          ),
+          ∙ ap (goodFrom (a .limits) (a .set .now) (l .index) (l .seen)) next
+          ∙ good-more (a .limits) (a .set .now) (l .index) (l .seen) (s .entry-at .result) _ (small (v .before .before .before)) (l .inv .1)
+          ∙ rw (sym (ap (λ v. v .good) (asked v)), good, c .join .ensures, v .before .before .before .peek2 .ensures, v .before .before .before .before .body-of .ensures),
+      rw (told (v .good-configuration-entry .result) _ (f (bodyOf (a .set .now) (s .entry-at .result))) (asked v) good)
+          (l .inv .3 ∙ ap (λ es. l .refers && every f (map (bodyOf (a .set .now)) es)) next ∙ rw every-cons (sym (and-assoc (l .refers) _ _))),
     )
 
 loop-less-2 : tie.Need-loop-less-2 Inv-loop μ-loop
@@ -133,13 +146,21 @@ loop-again-2 c =
     let s = c .before .before in
     let a = s .before .before .before .before .before .args in
     let l = s .before .before .loop in
-    (omega arith, l .inv .1, l .inv .2 ∙ ap (goodFrom (a .limits) (a .set .now) (l .index) (l .seen)) (pass s (c .if1 .left)))
+    let next = pass s (c .if1 .left) in (
+      omega arith,
+      l .inv .1,
+      l .inv .2 ∙ ap (goodFrom (a .limits) (a .set .now) (l .index) (l .seen)) next,
+      l .inv .3 ∙ ap (λ es. l .refers && every (configurationRefers (a .names .now)) (map (bodyOf (a .set .now)) es)) next,
+    )
 
 returns-2 : tie.Need-returns-2 Inv-loop μ-loop
 returns-2 c =
     let a = c .before .before .before .before .args in
     let l = c .before .loop in
-    sym (l .inv .2 ∙ ap (goodFrom (a .limits) (a .set .now) (l .index) (l .seen)) (end c) ∙ good-end (a .limits) (a .set .now) (l .index) (l .seen))
+    let f = configurationRefers (a .names .now) in
+    let good = l .inv .2 ∙ ap (goodFrom (a .limits) (a .set .now) (l .index) (l .seen)) (end c) ∙ good-end (a .limits) (a .set .now) (l .index) (l .seen) in
+    let refer = l .inv .3 ∙ ap (λ es. l .refers && every f (map (bodyOf (a .set .now)) es)) (end c) ∙ ap (λ b. l .refers && b) (every-empty f) ∙ and-true (l .refers) in
+    rw (good, refer)
 
 pub good-configurations-spec : {M : Type 1} → statement M
 good-configurations-spec =
@@ -155,8 +176,9 @@ good-configurations-spec =
     peek-requires-2
     holds-requires
     good-configuration-entry-requires
+    refuse-requires
     returns
-    joined-requires
+    join-requires
     add-index
     loop-less
     loop-again

@@ -6,12 +6,12 @@ use mathlib.Core.Path.{_≡_, sym, ap, _∙_}
 use lib.ListN.{length, drop}
 use borrow.Author.Needs.{needs}
 use Rattle.octets.specs.Sentences.{every, any}
+use Rattle.descriptors.specs.Table.{has}
+use Rattle.descriptors.proofs.Tables.{has-all}
 use Rattle.sets.specs.Contents.{entriesOf}
-use Rattle.sets.specs.Indices.{has}
 use Rattle.sets.specs.Strings.{words, isString, inEvery}
 use Rattle.sets.proofs.Entries.{every-cons, every-empty}
 use Rattle.sets.proofs.Strings.{words-more, words-end}
-use Rattle.sets.proofs.Tables.{has-all}
 use Rattle.sets.proofs.string.in_every_language.Statement.{statement}
 use Rattle.sets.proofs.string.in_every_language.Tie as tie
 
@@ -41,12 +41,12 @@ loop-less c = search needs
 
 loop-again : tie.Need-loop-again Inv-loop μ-loop
 loop-again c =
-    let s = c .before .before .before in
+    let s = c .before .before .before .before in
     let a = s .before .before .before .args in (
       omega arith,
-      λ j h. let f : ℕ → Bool = λ l. any (isString j l) (entriesOf 3 (a .set .now)) in s .loop .inv .1 j h ∙ ap (λ ls. has (s .loop .table) j && every f ls) (words-more (a .languages .now) (s .loop .at) (c .before .before .loop-test .taken)) ∙ rw
-          (every-cons, ← c .before .word .ensures, c .in-language .ensures j h)
-          (sym (and-assoc (has (s .loop .table) j) (f (c .before .word .result)) (every f (words (drop (s .loop .at + 2) (a .languages .now)))))),
+      λ j h. let f : ℕ → Bool = λ l. any (isString j l) (entriesOf 3 (a .set .now)) in s .loop .inv .1 j h ∙ ap (λ ls. has (s .loop .table) j && every f ls) (words-more (a .languages .now) (s .loop .at) (c .before .before .before .loop-test .taken)) ∙ rw
+          (every-cons, ← c .before .before .word .ensures, c .in-language .ensures j h)
+          (sym (and-assoc (has (s .loop .table) j) (f (c .before .before .word .result)) (every f (words (drop (s .loop .at + 2) (a .languages .now)))))),
     )
 
 returns : tie.Need-returns Inv-loop μ-loop

@@ -6,17 +6,17 @@ use mathlib.Core.Path.{_≡_, refl, sym, ap, _∙_}
 use lib.ListN.{length}
 use borrow.Author.Needs.{needs}
 use Rattle.octets.specs.Sentences.{any, only}
+use Rattle.descriptors.specs.Table.{has}
+use Rattle.descriptors.proofs.Tables.{has-none, with-long}
 use Rattle.sets.specs.Contents.{isKind, entriesOf}
-use Rattle.sets.specs.Indices.{has}
 use Rattle.sets.specs.Strings.{isString}
 use Rattle.sets.proofs.Entries.{rest, rest-start, next-entry, no-entry, any-empty, only-empty}
 use Rattle.sets.proofs.Strings.{entry-in, entry-past}
-use Rattle.sets.proofs.Tables.{has-none, with-long}
 use Rattle.sets.proofs.string.in_language.Statement.{statement}
 use Rattle.sets.proofs.string.in_language.Tie as tie
 
 abbrev Inv-loop : tie.InvT-loop
-Inv-loop set language table count next₀ i₀ next i = (length (next .words) ≡ 8) × ((j : ℕ) → j < 256 → (has table j && any (isString j language) (entriesOf 3 set)) ≡ (has next j || (has table j && any (isString j language) (only (isKind 3) (rest set i)))))
+Inv-loop set language table count next₀ i₀ next i = (length next ≡ 8) × ((j : ℕ) → j < 256 → (has table j && any (isString j language) (entriesOf 3 set)) ≡ (has next j || (has table j && any (isString j language) (only (isKind 3) (rest set i)))))
 
 abbrev μ-loop : tie.MeasureT-loop
 μ-loop set language table count next₀ i₀ next i = count - i
@@ -39,7 +39,7 @@ peek-requires c κs = search needs
 loop-holds : tie.Need-loop-holds Inv-loop μ-loop
 loop-holds c =
     let a = c .before .before .args in
-    (refl, λ j h. rw (has-none j) (ap (λ es. has (a .table) j && any (isString j (a .language)) (only (isKind 3) es)) (rest-start (a .set .now))))
+    (refl, λ j h. rw (has-none j) (ap (λ es. has (a .table .now) j && any (isString j (a .language)) (only (isKind 3) es)) (rest-start (a .set .now))))
 
 entry-at-requires : tie.Need-entry-at-requires Inv-loop μ-loop
 entry-at-requires c κs = search needs
@@ -47,22 +47,22 @@ entry-at-requires c κs = search needs
 add-i : tie.Need-add-i Inv-loop μ-loop
 add-i c = search needs
 
-holds-requires : tie.Need-holds-requires Inv-loop μ-loop
-holds-requires c κs = search needs
+is-listed-requires : tie.Need-is-listed-requires Inv-loop μ-loop
+is-listed-requires c κs = search needs
 
-joined-requires : tie.Need-joined-requires Inv-loop μ-loop
-joined-requires c κs = search needs
+join-requires : tie.Need-join-requires Inv-loop μ-loop
+join-requires c κs = search needs
 
 loop-less : tie.Need-loop-less Inv-loop μ-loop
 loop-less c = search needs
 
 loop-again : tie.Need-loop-again Inv-loop μ-loop
 loop-again c =
-    let s = c .before .before .before .before .before in
+    let s = c .before .before .before .before in
     let a = s .before .before .before .before .before .args in
     let l = s .before .before .loop in (
-      rw (c .joined .ensures) (with-long (l .next) _ (l .inv .0)),
-      λ j h. l .inv .1 j h ∙ ap (λ es. has (l .next) j || (has (a .table) j && any (isString j (a .language)) (only (isKind 3) es))) (turn s) ∙ entry-in (a .table) (l .next) (a .language) (s .entry-at .result) _ j (l .inv .0) (search needs) (rw (c .before .before .holds .ensures) at (c .before .if1 .taken)) ∙ rw (c .joined .ensures),
+      rw (c .join .ensures) (with-long (l .next) _ (l .inv .0)),
+      λ j h. l .inv .1 j h ∙ ap (λ es. has (l .next) j || (has (a .table .now) j && any (isString j (a .language)) (only (isKind 3) es))) (turn s) ∙ entry-in (a .table .now) (l .next) (a .language) (s .entry-at .result) _ j (l .inv .0) (search needs) (sym (c .before .before .before .is-listed .ensures) ∙ c .before .before .if1 .taken) ∙ rw (c .join .ensures),
     )
 
 loop-less-2 : tie.Need-loop-less-2 Inv-loop μ-loop
@@ -70,12 +70,12 @@ loop-less-2 c = search needs
 
 loop-again-2 : tie.Need-loop-again-2 Inv-loop μ-loop
 loop-again-2 c =
-    let s = c .before .before .before .before in
+    let s = c .before .before in
     let a = s .before .before .before .before .before .args in
     let l = s .before .before .loop in (
       l .inv .0,
-      λ j h. l .inv .1 j h ∙ ap (λ es. has (l .next) j || (has (a .table) j && any (isString j (a .language)) (only (isKind 3) es))) (turn s) ∙ entry-past (a .table) (l .next) (a .language) (s .entry-at .result) _ j
-          (rw (c .before .holds .ensures) at (c .if1 .left)),
+      λ j h. l .inv .1 j h ∙ ap (λ es. has (l .next) j || (has (a .table .now) j && any (isString j (a .language)) (only (isKind 3) es))) (turn s) ∙ entry-past (a .table .now) (l .next) (a .language) (s .entry-at .result) _ j
+          (sym (c .before .is-listed .ensures) ∙ c .if1 .left),
     )
 
 returns : tie.Need-returns Inv-loop μ-loop
@@ -84,7 +84,7 @@ returns c =
     let a = s .before .before .before .args in
     λ j h. sym
     (s .loop .inv .1 j h
-    ∙ ap (λ es. has (s .loop .next) j || (has (a .table) j && any (isString j (a .language)) es))
+    ∙ ap (λ es. has (s .loop .next) j || (has (a .table .now) j && any (isString j (a .language)) es))
     (ap (only (isKind 3)) (end c) ∙ only-empty (isKind 3))
     ∙ rw (any-empty, and-false, or-false))
 
@@ -98,8 +98,8 @@ in-language-spec =
     loop-holds
     entry-at-requires
     add-i
-    holds-requires
-    joined-requires
+    is-listed-requires
+    join-requires
     loop-less
     loop-again
     loop-less-2

@@ -1,0 +1,77 @@
+-- `descriptors::survey::alternates_exist` meets its contract: the interfaces from the last on that are passed have good alternates. Assumes nothing.
+use Prim.Native.Nat.{_-_, _≤_}
+use native.Mathlib.Omega.{arith}
+use mathlib.Core.Path.{_≡_, refl}
+use borrow.Author.Tests.{not-true, not-false}
+use borrow.Author.Needs.{needs}
+use Rattle.octets.specs.Sentences.{below}
+use Rattle.descriptors.specs.Configuration.{Configuration}
+use Rattle.descriptors.specs.Survey.{TellsInterfaces, goodAlternate}
+use Rattle.descriptors.proofs.Alternates.{told, below-not, below-on, below-none}
+use Rattle.descriptors.proofs.survey.alternates_exist.Statement.{statement}
+use Rattle.descriptors.proofs.survey.alternates_exist.Tie as tie
+
+abbrev Inv-loop : tie.InvT-loop
+Inv-loop existing current alternates j₀ j =
+    (j ≤ 16) × ((c : Configuration) → TellsInterfaces c alternates existing current → below 16 (goodAlternate c alternates) ≡ below j (goodAlternate c alternates))
+
+abbrev μ-loop : tie.MeasureT-loop
+μ-loop existing current alternates j₀ j = j
+
+loop-holds : tie.Need-loop-holds Inv-loop μ-loop
+loop-holds c = (omega arith, λ g t. refl)
+
+sub-j : tie.Need-sub-j Inv-loop μ-loop
+sub-j c = omega arith
+
+slice-aggregate-peek : tie.Need-slice-aggregate-peek Inv-loop μ-loop
+slice-aggregate-peek c = search needs
+
+cast-peek : tie.Need-cast-peek Inv-loop μ-loop
+cast-peek c = search needs
+
+peek-requires : tie.Need-peek-requires Inv-loop μ-loop
+peek-requires c κs = search needs
+
+good-alternate-requires : tie.Need-good-alternate-requires Inv-loop μ-loop
+good-alternate-requires c κs = search needs
+
+returns : tie.Need-returns Inv-loop μ-loop
+returns c = λ g t.
+    let a = c .before .before .before .before .before .before .args in
+    let j = c .before .before .before .before .before .loop .j in
+    let e = told g (a .t3) (j - 1) _ t (omega arith) (c .before .before .peek .ensures) (c .before .good-alternate .ensures) in
+    below-not (goodAlternate g (a .t3)) j (c .before .before .before .before .loop-test .taken) (c .before .before .before .before .before .loop .inv .1 g t) e (not-true _ (c .if1 .taken))
+
+loop-less : tie.Need-loop-less Inv-loop μ-loop
+loop-less c = omega arith
+
+loop-again : tie.Need-loop-again Inv-loop μ-loop
+loop-again c = (
+  omega arith,
+  λ g t.
+      let a = c .before .before .before .before .before .before .args in
+      let j = c .before .before .before .before .before .loop .j in
+      let e = told g (a .t3) (j - 1) _ t (omega arith) (c .before .before .peek .ensures) (c .before .good-alternate .ensures) in
+      below-on (goodAlternate g (a .t3)) j (c .before .before .before .before .loop-test .taken) (c .before .before .before .before .before .loop .inv .1 g t) e (not-false _ (c .if1 .left)),
+)
+
+returns-2 : tie.Need-returns-2 Inv-loop μ-loop
+returns-2 c = λ g t. below-none (goodAlternate g (c .before .before .args .t3)) _ (c .loop-test .left) (c .before .loop .inv .1 g t)
+
+pub alternates-exist-spec : {M : Type 1} → statement M
+alternates-exist-spec =
+    tie.close
+    (tie.spec
+    Inv-loop
+    μ-loop
+    loop-holds
+    sub-j
+    slice-aggregate-peek
+    cast-peek
+    peek-requires
+    good-alternate-requires
+    returns
+    loop-less
+    loop-again
+    returns-2)
