@@ -8,7 +8,7 @@ use Rattle.octets.specs.Bit.{bit}
 use Rattle.octets.specs.Sentences.{pick, _⇒_, any, below}
 use Rattle.descriptors.specs.declared.Endpoint.{Endpoint}
 use Rattle.descriptors.specs.Configuration.{Configuration, hasInterface, hasSetting, canHalt, bitOf}
-use Rattle.sets.specs.View.{View, wakes}
+use Rattle.sets.specs.View.{View, hasValue, wakes}
 use Rattle.records.specs.declared.Device.{Device}
 use Rattle.records.specs.Device.{inDefault, inAddress, inConfigured, nothing}
 use Rattle.records.specs.Current.{selected, currentEndpoints}
@@ -27,7 +27,7 @@ abbrev pub goodState : View → Device → Bool
 goodState v d =
     (eqb (d .state) inDefault ⇒ (eqb (d .address) 0 && eqb (d .configuration) 0)) &&
     (eqb (d .state) inAddress ⇒ (leb 1 (d .address) && leb (d .address) 127 && eqb (d .configuration) 0)) &&
-    (eqb (d .state) inConfigured ⇒ (leb 1 (d .address) && leb (d .address) 127 && any (λ c. eqb (c .value) (d .configuration)) (v .configurations) && eqb (d .waiting) nothing))
+    (eqb (d .state) inConfigured ⇒ (leb 1 (d .address) && leb (d .address) 127 && hasValue (record { 0 = d .configuration }) (v .configurations) && eqb (d .waiting) nothing))
 
 -- "alternates exist, and are 0 for interfaces that do not"
 abbrev pub goodAlternates : Configuration → Device → Bool

@@ -3,12 +3,11 @@ use descriptors::survey::Survey;
 ghost use mathlib.Core.Path.{_≡_};
 ghost use Prim.Native.Nat.{ℕ, _<_};
 ghost use lib.ListN.{length};
-ghost use lib.Dec.{eqb};
-ghost use Rattle.octets.specs.Sentences.{any};
 ghost use Rattle.descriptors.specs.Survey.{Surveys};
-ghost use Rattle.sets.specs.View.{View, wakes};
+ghost use Rattle.sets.specs.View.{View, hasValue, wakes};
 ghost use Rattle.records.specs.Device.{fresh};
 ghost use Rattle.records.specs.Image.{fourBytes, bytesOfFour, deviceOf, imageOf};
+ghost use Rattle.records.specs.Change.{settingsAfter, changed, kept};
 ghost use Rattle.records.specs.Current.{selected};
 ghost use Rattle.records.specs.Fits.{inRange, goodWaiting, goodState, fits};
 
@@ -29,6 +28,28 @@ pub struct Device {
     pub toggles: u32,
 }
 
+// What becomes of the alternate settings: they are kept, they become 0, or one interface gets another.
+pub enum Settings {
+    Kept,
+    Cleared,
+    Put { interface: u8, alternate: u8 },
+}
+
+// A record after an event, by what becomes of its alternate settings: no array, so that it travels in registers.
+pub struct Change {
+    pub state: u8,
+    pub address: u8,
+    pub waiting: u8,
+    pub configuration: u8,
+    pub wakeup: u8,
+    pub power: u8,
+    pub suspended: u8,
+    pub speed: u8,
+    pub settings: Settings,
+    pub halts: u32,
+    pub toggles: u32,
+}
+
 pub fn fresh() -> Device
     ensures { λ r. ⌜ r ≡ fresh ⌝ }
 {
@@ -44,6 +65,67 @@ pub fn fresh() -> Device
         alternates: [0; 16],
         halts: 0,
         toggles: 0,
+    }
+}
+
+// Nothing changes.
+pub fn kept(device: Device) -> Change
+    ensures { λ r. ⌜ r ≡ kept device ⌝ }
+{
+    Change {
+        state: device.state,
+        address: device.address,
+        waiting: device.waiting,
+        configuration: device.configuration,
+        wakeup: device.wakeup,
+        power: device.power,
+        suspended: device.suspended,
+        speed: device.speed,
+        settings: Settings::Kept,
+        halts: device.halts,
+        toggles: device.toggles,
+    }
+}
+
+// The alternate settings after a change.
+fn settings_after(settings: Settings, alternates: [u8; 16]) -> [u8; 16]
+    ensures { λ r. ⌜ r ≡ settingsAfter settings alternates ⌝ }
+{
+    match settings {
+        Settings::Kept => alternates,
+        Settings::Cleared => [0; 16],
+        Settings::Put {
+            interface,
+            alternate,
+        } => {
+            let mut next = alternates;
+            if interface < 16 {
+                next[interface as usize] = alternate;
+            }
+            next
+        }
+    }
+}
+
+// The record after a change.
+pub fn changed(change: Change, device: Device) -> Device
+    ensures { λ r. ⌜ r ≡ changed change device ⌝ }
+{
+    let settings = change.settings;
+    let was = device.alternates;
+    let alternates = settings_after(settings, was);
+    Device {
+        state: change.state,
+        address: change.address,
+        waiting: change.waiting,
+        configuration: change.configuration,
+        wakeup: change.wakeup,
+        power: change.power,
+        suspended: change.suspended,
+        speed: change.speed,
+        alternates,
+        halts: change.halts,
+        toggles: change.toggles,
     }
 }
 
@@ -132,7 +214,7 @@ fn good_waiting(device: Device) -> bool
 
 // What each state asks of the address, the configuration and what waits; `there`: the set has a configuration with the record's value.
 fn good_state(there: bool, device: Device) -> bool
-    ensures { λ r. ⌜ ((v : View) → there ≡ any (λ c. eqb (c .value) (device .configuration)) (v .configurations) → r ≡ goodState v device) ⌝ }
+    ensures { λ r. ⌜ ((v : View) → there ≡ hasValue (record { 0 = device .configuration }) (v .configurations) → r ≡ goodState v device) ⌝ }
 {
     let in_use = (1 <= device.address) & (device.address <= 127);
     (!(device.state == 0) | ((device.address == 0) & (device.configuration == 0)))
@@ -144,7 +226,7 @@ fn good_state(there: bool, device: Device) -> bool
 // record's value; `waking`: some configuration supports remote wakeup.
 pub fn fits(survey: Survey, there: bool, waking: bool, device: Device) -> bool
     ensures { λ r. ⌜ ((v : View) (a : ℕ) → Surveys (selected v device) (device .alternates) a survey
-        → there ≡ any (λ c. eqb (c .value) (device .configuration)) (v .configurations)
+        → there ≡ hasValue (record { 0 = device .configuration }) (v .configurations)
         → waking ≡ wakes v → r ≡ fits v device) ⌝ }
 {
     let alternates = device.alternates;

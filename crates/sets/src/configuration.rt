@@ -11,12 +11,12 @@ use descriptors::check::Verdict;
 use descriptors::table::holds;
 use descriptors::table::join;
 ghost use mathlib.Core.Path.{_≡_};
-ghost use lib.ListN.{getElem?};
 ghost use Rattle.octets.specs.Sentences.{first, any, every};
 ghost use Rattle.descriptors.specs.Check.{verdict, configurationRefers};
-ghost use Rattle.sets.specs.Contents.{entriesOf, bodies};
+ghost use Rattle.sets.specs.Contents.{entries, entriesOf, bodies};
 ghost use Rattle.sets.specs.Found.{found, valued, canWake};
 ghost use Rattle.sets.specs.Opening.{goodConfigurations};
+ghost use Rattle.sets.specs.View.{entryByIndex};
 ghost use Rattle.sets.specs.Checks.{goodNumbered};
 
 // A configuration entry: the index that it has to have, its body, and whether its value was there before.
@@ -73,7 +73,7 @@ pub fn good_configurations(set: &[u8], limits: Limits, names: &[u32; 8]) -> Verd
 
 // The entry of the configuration at an index.
 pub fn by_index(set: &[u8], index: ConfigurationIndex) -> EntryFound
-    ensures { λ r. ⌜ r ≡ found (getElem? (entriesOf 2 (now (set .entry))) (index .0)) ⌝ }
+    ensures { λ r. ⌜ r ≡ found (entryByIndex index (entries (now (set .entry)))) ⌝ }
 {
     entry_of(set, 2, index.0)
 }

@@ -6,7 +6,7 @@ pub mod string;
 
 use descriptors::Limits;
 ghost use mathlib.Core.Path.{_≡_};
-ghost use Rattle.sets.specs.Opening.{opening};
+ghost use Rattle.sets.specs.Opening.{lent, opening};
 
 // One entry of the contents: what a body is, and where it lies.
 pub struct Entry {
@@ -25,7 +25,7 @@ pub enum EntryFound {
 
 // Opening: 0, or the number of the first group that is broken.
 pub fn opening(set: &[u8], serial: &[u8], limits: Limits) -> u8
-    ensures { λ r. ⌜ r ≡ opening limits (record { set = now (set .entry); serial = now (serial .entry) }) ⌝ }
+    ensures { λ r. ⌜ r ≡ opening limits (lent (now (set .entry)) (now (serial .entry))) ⌝ }
 {
     if !contents::good_frame(set) {
         return 1;
