@@ -5,6 +5,7 @@ ghost use Prim.Native.Nat.{ℕ, _<_};
 ghost use lib.ListN.{length};
 ghost use lib.Dec.{eqb};
 ghost use Rattle.octets.specs.Sentences.{any};
+ghost use Rattle.descriptors.specs.declared.survey.Asked.{Asked};
 ghost use Rattle.descriptors.specs.Survey.{Surveys};
 ghost use Rattle.sets.specs.View.{View, wakes};
 ghost use Rattle.records.specs.Device.{fresh};
@@ -143,7 +144,7 @@ fn good_state(there: bool, device: Device) -> bool
 // Whether a record fits. `survey` is the selected configuration's, of no descriptors if none is; `there`: the set has a configuration with the
 // record's value; `waking`: some configuration supports remote wakeup.
 pub fn fits(survey: Survey, there: bool, waking: bool, device: Device) -> bool
-    ensures { λ r. ⌜ ((v : View) (a : ℕ) → Surveys (selected v device) (device .alternates) a survey
+    ensures { λ r. ⌜ ((v : View) (a : Asked) → Surveys (selected v device) (device .alternates) a survey
         → there ≡ any (λ c. eqb (c .value) (device .configuration)) (v .configurations)
         → waking ≡ wakes v → r ≡ fits v device) ⌝ }
 {
@@ -152,7 +153,7 @@ pub fn fits(survey: Survey, there: bool, waking: bool, device: Device) -> bool
         & good_waiting(device)
         & good_state(there, device)
         & descriptors::survey::alternates_exist(survey.existing, survey.current, alternates)
-        & descriptors::lookup::stands_at(device.halts, survey.halting)
-        & descriptors::lookup::stands_at(device.toggles, survey.halting)
+        & octets::has_only(device.halts, survey.halting)
+        & octets::has_only(device.toggles, survey.halting)
         & (!(device.wakeup == 1) | waking)
 }
