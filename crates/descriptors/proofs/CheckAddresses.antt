@@ -20,10 +20,10 @@ use Rattle.descriptors.specs.declared.Endpoint.{Endpoint}
 use Rattle.descriptors.specs.declared.check.Progress.{Progress}
 use Rattle.descriptors.specs.Limits.{named}
 use Rattle.descriptors.specs.Descriptor.{bDescriptorType, isInterface, isEndpoint, bInterfaceNumber, bEndpointAddress, bmAttributes, wMaxPacketSize, bInterval, transferType, goodAddress, goodAttributes, goodSize, goodInterval, goodEndpoint, goodDescriptor}
-use Rattle.descriptors.specs.Interfaces.{Group, Groups, grouped, settingOf, endpointOf, endpointsOf, follows, apart}
+use Rattle.descriptors.specs.Interfaces.{Group, Groups, grouped, begun, settingOf, endpointOf, endpointsOf, follows, apart}
 use Rattle.descriptors.specs.Configuration.{bitOf}
 use Rattle.descriptors.specs.Walk.{before}
-use Rattle.descriptors.specs.Check.{begun, placed, fresh, unshared, passed, beginning}
+use Rattle.descriptors.specs.Check.{placed, fresh, unshared, passed, beginning}
 use Rattle.descriptors.proofs.CheckOrder.{at, chain, kinds}
 
 -- no address is shared where it may not be, from the state w on

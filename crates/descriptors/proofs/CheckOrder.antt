@@ -14,9 +14,9 @@ use Rattle.descriptors.specs.declared.Setting.{Setting}
 use Rattle.descriptors.specs.declared.Stand.{Stand}
 use Rattle.descriptors.specs.declared.check.Progress.{Progress}
 use Rattle.descriptors.specs.Descriptor.{bDescriptorType, isInterface, isEndpoint, bNumEndpoints}
-use Rattle.descriptors.specs.Interfaces.{Groups, grouped, settingOf, follows, startsAtZero, endsAt, goodSettings, counted}
+use Rattle.descriptors.specs.Interfaces.{Groups, grouped, begun, settingOf, follows, startsAtZero, endsAt, goodSettings, counted}
 use Rattle.descriptors.specs.Walk.{before}
-use Rattle.descriptors.specs.Check.{begun, placed, inOrder, passed, ended, beginning}
+use Rattle.descriptors.specs.Check.{placed, inOrder, passed, ended, beginning}
 
 -- the descriptors come in order from the state w on, for n interfaces
 unfoldable pub ordered : ℕ → Progress → List (List ℕ) → Bool

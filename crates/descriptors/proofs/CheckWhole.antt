@@ -15,7 +15,7 @@ use Rattle.octets.proofs.Sentences.{cases}
 use Rattle.descriptors.specs.declared.Limits.{Limits}
 use Rattle.descriptors.specs.declared.Step.{Step}
 use Rattle.descriptors.specs.declared.check.Progress.{Progress}
-use Rattle.descriptors.specs.Cut.{Cuts, whole, broken, descriptor, cut, descriptorsOf, wellCut}
+use Rattle.descriptors.specs.Cut.{Cutting, whole, broken, descriptor, cut, descriptorsOf, wellCut}
 use Rattle.descriptors.specs.Descriptor.{goodDescriptor}
 use Rattle.descriptors.specs.Interfaces.{grouped, settingOf, endpointsOf, goodSettings, counted, apart, goodInterfaces}
 use Rattle.descriptors.specs.Configuration.{bNumInterfaces, goodHead, goodDescriptors, goodConfiguration}
@@ -32,7 +32,7 @@ apart-by x true true false g o u = rw (and-false (g && o)) (sym (and-false x))
 apart-by x true false c g o u = rw (and-false g) (sym (and-false x))
 apart-by x false b c g o u = sym (and-false x)
 
-rules : (limits : Limits) (n : ℕ) (w : Progress) (cs : Cuts)
+rules : (limits : Limits) (n : ℕ) (w : Progress) (cs : Cutting)
     → walked (checking limits n) w cs ≡ (wellCut cs && (every (goodDescriptor limits) (descriptorsOf cs) && ordered n w (descriptorsOf cs) && unsharedAll w (descriptorsOf cs)))
 unfolding walked wellCut descriptorsOf every ordered unsharedAll
 rules limits n w whole = sym (and-true (ended n w))
@@ -49,7 +49,7 @@ gathered true true false count a h = refl
 gathered true false empty count a h = rw (and-false empty)
 gathered false set empty count a h = refl
 
-rest-same : (limits : Limits) (n : ℕ) (cs : Cuts)
+rest-same : (limits : Limits) (n : ℕ) (cs : Cutting)
     → walked (checking limits n) beginning cs ≡ (wellCut cs && (every (goodDescriptor limits) (descriptorsOf cs) && goodInterfaces n (grouped (descriptorsOf cs))))
 rest-same limits n cs =
     let ds = descriptorsOf cs in

@@ -6,5 +6,5 @@ pub mod Ahead
 pub mod CheckReferences
 pub mod EndpointBits
 pub mod Alternates
-pub mod Tables
 pub mod Surveying
+pub mod FullSpeed

@@ -1,33 +1,36 @@
 -- A survey of a body: what each descriptor adds to it, and what it tells once the walk is over. Assumes nothing.
-use Prim.Native.Nat.{ℕ, _<_, _≤_}
+use Prim.Native.Nat.{ℕ, _%_, _<_, _≤_}
 use native.Mathlib.Omega.{arith}
 use mathlib.Core.Path.{_≡_, refl, sym, ap, _∙_}
-use mathlib.Core.List.{List}
+use mathlib.Core.List.{List, [], _∷_}
 use mathlib.Core.Bool.{Bool, true, false, _&&_, _||_, or-assoc, or-false, and-true, and-false}
 use mathlib.Core.Option.{Option, some}
 use lib.ListN.{length, getD}
-use lib.Dec.{eqb, ltb}
+use lib.Dec.{eqb, leb, ltb}
 use borrow.Author.Tests.{eqb-true, ne-eqb, ltb-false}
-use Rattle.octets.specs.Bit.{bit, setBit}
+use Rattle.octets.specs.Bit.{bit}
 use Rattle.octets.specs.Sentences.{pick, any, only, first}
-use Rattle.octets.proofs.Sentences.{cases}
+use Rattle.octets.proofs.Sentences.{cases, first-only, only-only}
 use Rattle.octets.proofs.Bits.{bit-zero}
+use Rattle.octets.proofs.Words.{set-digit}
+use Rattle.descriptors.specs.declared.Setting.{Setting}
 use Rattle.descriptors.specs.declared.Endpoint.{Endpoint}
 use Rattle.descriptors.specs.declared.Stand.{Stand}
 use Rattle.descriptors.specs.declared.Step.{Step}
 use Rattle.descriptors.specs.declared.lookup.EndpointFound.{EndpointFound}
 use Rattle.descriptors.specs.declared.lookup.EndpointFound.the-variants.{At, Nothing}
+use Rattle.descriptors.specs.declared.survey.Asked.{Asked}
 use Rattle.descriptors.specs.declared.survey.Survey.{Survey}
-use Rattle.descriptors.specs.Descriptor.{isInterface, isEndpoint, bInterfaceNumber, bAlternateSetting, bEndpointAddress}
-use Rattle.descriptors.specs.Configuration.{configurationOf, hasInterface, hasSetting, isCurrent, currentOf, addressed, canHalt, bitOf}
-use Rattle.descriptors.specs.Walk.{before}
-use Rattle.descriptors.specs.Lookup.{found, beginsInterface, beginsSetting, lists, listed, listsOne, bitsFrom, bitsOf}
-use Rattle.descriptors.specs.Survey.{noting, earlier, onward, nothingSeen, currentAt, currentHalting, Surveys}
+use Rattle.descriptors.specs.Descriptor.{bDescriptorType, isInterface, isEndpoint, bEndpointAddress, bmAttributes}
+use Rattle.descriptors.specs.Interfaces.{begun}
+use Rattle.descriptors.specs.Configuration.{configurationOf, isCurrent, canHalt}
+use Rattle.descriptors.specs.Walk.{before, standOf}
+use Rattle.descriptors.specs.Lookup.{found, beginsOne, lists, listed, listsOne, withBit, bitsFrom, bitsOf}
+use Rattle.descriptors.specs.Survey.{isSetting, currentAt, currentHalting, changing, noting, earlier, foundHere, nothingSeen, onward, surveyed, Surveys}
 use Rattle.descriptors.proofs.Walk.{spanned}
-use Rattle.descriptors.proofs.Ahead.{Place, Turn, Begun, ahead, not-both, before-others, settings-begin, any-turn, any-end, endpointsUnder, endpoints-begin, endpoints-turn, endpoints-end, first-only, only-only, gathered, gathered-all}
-use Rattle.descriptors.proofs.EndpointBits.{set-digit}
+use Rattle.descriptors.proofs.Ahead.{Turn, Begun, ahead, ahead-end, settings-begin, endpointsUnder, endpoints-begin}
 
--- ---- what a descriptor adds
+-- ---- the words of interfaces
 noting-digit : (w n k : ℕ) → k < 32 → bit (noting w n) k ≡ (bit w k || eqb n k)
 noting-digit w n k h = cases (ltb n 32)
     (λ p. rw p (set-digit w n k))
@@ -47,131 +50,143 @@ current-digit alternates w n a k h = cases (eqb n k)
     other p true = rw p at (noting-digit w n k h)
     other p false = sym (or-false (bit w k))
 
-earlier-none : (f : EndpointFound) → earlier f Nothing ≡ f
-earlier-none (At e) = refl
-earlier-none Nothing = refl
+-- whether a descriptor begins a setting for which a test holds
+abbrev opens : (Setting → Bool) → List ℕ → Bool
+opens t d = isInterface d && t (begun d)
 
-module _ (alternates : List ℕ) (address : ℕ) (s : Survey) (stand : Stand) (d : List ℕ) where
-  abbrev after : Survey
-  after = onward alternates address s stand d
+opens-here : (t : Setting → Bool) (stand : Stand) (d : List ℕ) → beginsOne t (standOf stand d) d ≡ opens t d
+opens-here t stand d = cases (isInterface d) (λ p. rw p) (λ p. rw p)
 
-  -- the words of interfaces: an interface descriptor alone changes them
-  unchanged : isInterface d ≡ false → (after .existing ≡ s .existing) × (after .current ≡ s .current)
-  unchanged p = go (isEndpoint d) (stand .inside && isCurrent alternates (listed stand d)) refl refl
-    where
-      go : (e c : Bool) → isEndpoint d ≡ e → (stand .inside && isCurrent alternates (listed stand d)) ≡ c → (after .existing ≡ s .existing) × (after .current ≡ s .current)
-      go true true q r = (rw (p, q, r), rw (p, q, r))
-      go true false q r = (rw (p, q, r), rw (p, q, r))
-      go false c q r = (rw (p, q), rw (p, q))
+-- ---- endpoints ahead: an endpoint is put before the others, if it is listed
+abbrev before-others : Bool → Endpoint → List Endpoint → List Endpoint
+before-others b e es = pick b (e ∷ es) es
 
-  exists-on : (k : ℕ) → k < 32 → bit (after .existing) k ≡ (bit (s .existing) k || beginsInterface k d)
-  exists-on k h = cases (isInterface d)
-      (λ p. rw p (noting-digit (s .existing) (bInterfaceNumber d) k h))
-      (λ p. rw (unchanged p .0, p) (sym (or-false (bit (s .existing) k))))
+only-step : (t : Endpoint → Bool) (b : Bool) (e : Endpoint) (es : List Endpoint) → only t (before-others b e es) ≡ before-others (b && t e) e (only t es)
+unfolding only
+only-step t true e es = refl
+only-step t false e es = refl
 
-  stands-on : (k : ℕ) → k < 32 → bit (after .current) k ≡ (bit (s .current) k || beginsSetting k (getD alternates k 0) d)
-  stands-on k h = cases (isInterface d)
-      (λ p. rw p (current-digit alternates (s .current) (bInterfaceNumber d) (bAlternateSetting d) k h))
-      (λ p. rw (unchanged p .1, p) (sym (or-false (bit (s .current) k))))
+bits-step : (bits : ℕ) (b : Bool) (d : List ℕ) (stand : Stand) (es : List Endpoint) → bitsFrom bits (before-others b (listed stand d) es) ≡ bitsFrom (withBit bits b d) es
+unfolding bitsFrom
+bits-step bits true d stand es = refl
+bits-step bits false d stand es = refl
 
-  -- an endpoint descriptor alone changes what is known of endpoints
-  halts-on : after .halting ≡ pick (listsOne (currentHalting alternates) stand d) (setBit (s .halting) (bitOf (bEndpointAddress d))) (s .halting)
-  halts-on = go (isInterface d) (isEndpoint d) (stand .inside) (isCurrent alternates (listed stand d)) refl refl refl refl
-    where
-      go : (i e n c : Bool) → isInterface d ≡ i → isEndpoint d ≡ e → stand .inside ≡ n → isCurrent alternates (listed stand d) ≡ c
-          → after .halting ≡ pick (listsOne (currentHalting alternates) stand d) (setBit (s .halting) (bitOf (bEndpointAddress d))) (s .halting)
-      go true e n c p q r t = rw (p, not-both d p, and-false (stand .inside))
-      go false false n c p q r t = rw (p, q, and-false (stand .inside))
-      go false true false c p q r t = rw (p, q, r)
-      go false true true true p q r t = rw (p, q, r, t)
-      go false true true false p q r t = rw (p, q, r, t)
-
-  asked-on : after .endpoint ≡ earlier (s .endpoint) (pick (listsOne (currentAt alternates address) stand d) (At (listed stand d)) Nothing)
-  asked-on = go (isInterface d) (isEndpoint d) (stand .inside) (isCurrent alternates (listed stand d)) refl refl refl refl
-    where
-      by-address : (b : Bool) → pick b (earlier (s .endpoint) (At (listed stand d))) (s .endpoint) ≡ earlier (s .endpoint) (pick b (At (listed stand d)) Nothing)
-      by-address true = refl
-      by-address false = sym (earlier-none (s .endpoint))
-
-      go : (i e n c : Bool) → isInterface d ≡ i → isEndpoint d ≡ e → stand .inside ≡ n → isCurrent alternates (listed stand d) ≡ c
-          → after .endpoint ≡ earlier (s .endpoint) (pick (listsOne (currentAt alternates address) stand d) (At (listed stand d)) Nothing)
-      go true e n c p q r t = rw (p, not-both d p, and-false (stand .inside)) (sym (earlier-none (s .endpoint)))
-      go false false n c p q r t = rw (p, q, and-false (stand .inside)) (sym (earlier-none (s .endpoint)))
-      go false true false c p q r t = rw (p, q, r) (sym (earlier-none (s .endpoint)))
-      go false true true true p q r t = rw (p, q, r, t) (by-address (eqb (bEndpointAddress d) address))
-      go false true true false p q r t = rw (p, q, r, t) (sym (earlier-none (s .endpoint)))
-
--- ---- the first endpoint: one that was found, or the first ahead
 first-step : (t : Endpoint → Bool) (b : Bool) (e : Endpoint) (es : List Endpoint) → first t (before-others b e es) ≡ pick (b && t e) (some e) (first t es)
 unfolding first
 first-step t true e es = refl
 first-step t false e es = refl
 
-earlier-step : (f : EndpointFound) (b : Bool) (e : Endpoint) (o : Option Endpoint) → earlier f (found (pick b (some e) o)) ≡ earlier (earlier f (pick b (At e) Nothing)) (found o)
-earlier-step (At x) b e o = refl
-earlier-step Nothing true e o = refl
-earlier-step Nothing false e o = refl
+pub earlier-none : (f : EndpointFound) → earlier f Nothing ≡ f
+earlier-none (At e) = refl
+earlier-none Nothing = refl
 
-module _ (t : Endpoint → Bool) (f : EndpointFound) {body : List ℕ} {at : ℕ} {stand : Stand} {step : Step} {total : EndpointFound}
-    (turn : Turn body at stand step) (inv : total ≡ earlier f (found (first t (endpointsUnder stand (ahead body at))))) where
-  sought : {g : EndpointFound} → g ≡ earlier f (pick (listsOne t (step .stand) (spanned body at (step .end))) (At (listed (step .stand) (spanned body at (step .end)))) Nothing)
-      → total ≡ earlier g (found (first t (endpointsUnder (step .stand) (ahead body (step .end)))))
-  sought q =
-      let d = spanned body at (step .end) in
-      let es = endpointsUnder (step .stand) (ahead body (step .end)) in
-      inv ∙ ap (λ (es : List Endpoint). earlier f (found (first t es))) (endpoints-turn turn) ∙
-      ap (λ (o : Option Endpoint). earlier f (found o)) (first-step t (lists (step .stand) d) (listed (step .stand) d) es) ∙
-      earlier-step f (listsOne t (step .stand) d) (listed (step .stand) d) (first t es) ∙ rw q
+earlier-step : (f : EndpointFound) (b : Bool) (stand : Stand) (d : List ℕ) (o : Option Endpoint)
+    → earlier f (found (pick b (some (listed stand d)) o)) ≡ earlier (earlier f (foundHere b stand d)) (found o)
+earlier-step (At x) b stand d o = refl
+earlier-step Nothing true stand d o = refl
+earlier-step Nothing false stand d o = refl
 
-sought-all : (t : Endpoint → Bool) (f : EndpointFound) (body : List ℕ) (at : ℕ) (stand : Stand) {total : EndpointFound} → length body ≤ at
-    → total ≡ earlier f (found (first t (endpointsUnder stand (ahead body at)))) → f ≡ total
-unfolding first
-sought-all t f body at stand h inv = sym (inv ∙ ap (λ (es : List Endpoint). earlier f (found (first t es))) (endpoints-end body at stand h) ∙ earlier-none f)
+-- what an endpoint descriptor adds. Of the asked interface it lists an endpoint of either setting if that is current, or the asked one
+module _ (alternates : List ℕ) (asked : Asked) (s : Survey) (stand : Stand) (d : List ℕ) where
+  either-setting : (eqb (stand .interface) (asked .interface) && (isCurrent alternates (listed stand d) || eqb (stand .alternate) (asked .alternate)))
+      ≡ changing alternates asked (listed stand d)
+  either-setting = cases (eqb (stand .interface) (asked .interface))
+      (λ p. rw (p, eqb-true (stand .interface) (asked .interface) p))
+      (λ p. rw p)
 
--- ---- the walk: what was seen before a place, and what is still ahead, tell of the whole
-pub record Seen (body alternates : List ℕ) (address : ℕ) (s : Survey) (stand : Stand) (at : ℕ) : Type 0 where
-  pub place : Place body at
-  pub exists : (k : ℕ) → k < 32 → hasInterface (configurationOf body) k ≡ (bit (s .existing) k || any (beginsInterface k) (ahead body at))
-  pub stands : (k : ℕ) → k < 32 → hasSetting (configurationOf body) k (getD alternates k 0) ≡ (bit (s .current) k || any (beginsSetting k (getD alternates k 0)) (ahead body at))
-  pub halts : bitsOf (only canHalt (currentOf alternates (configurationOf body))) ≡ bitsFrom (s .halting) (only (currentHalting alternates) (endpointsUnder stand (ahead body at)))
-  pub asked : found (addressed address (currentOf alternates (configurationOf body))) ≡ earlier (s .endpoint) (found (first (currentAt alternates address) (endpointsUnder stand (ahead body at))))
+  pub endpoint-adds : isEndpoint d ≡ true → record {
+    existing = s .existing;
+    current = s .current;
+    halting = withBit (s .halting) (stand .inside && (isCurrent alternates (listed stand d) && leb 2 (bmAttributes d % 4))) d;
+    endpoint = earlier (s .endpoint) (foundHere (stand .inside && (isCurrent alternates (listed stand d) && eqb (bEndpointAddress d) (asked .address))) stand d);
+    there = s .there;
+    bits = withBit (s .bits) (stand .inside && (eqb (stand .interface) (asked .interface) && (isCurrent alternates (listed stand d) || eqb (stand .alternate) (asked .alternate)))) d;
+  } ≡ onward alternates asked s stand d
+  endpoint-adds p = rw (eqb-true (bDescriptorType d) 5 p, or-false (s .there), either-setting)
 
-pub seen-begin : {body : List ℕ} (alternates : List ℕ) (address : ℕ) {s : Survey} {stand : Stand} {at : ℕ} → Begun body at → s ≡ nothingSeen → stand ≡ before
-    → Seen body alternates address s stand at
-seen-begin alternates address b e f = rw (e, f) (record {
-  place = b .place;
-  exists = λ k h. settings-begin (λ s. eqb (s .interface) k) b ∙ rw (bit-zero k);
-  stands = λ k h. settings-begin (λ s. eqb (s .interface) k && eqb (s .alternate) (getD alternates k 0)) b ∙ rw (bit-zero k);
-  halts = ap bitsOf (only-only canHalt _ _ ∙ ap (only (currentHalting alternates)) (endpoints-begin b));
-  asked = ap found (first-only (λ e. eqb (e .address) address) _ _ ∙ ap (first (currentAt alternates address)) (endpoints-begin b));
-})
+-- ---- a part of the survey, q, is what `total` says of the descriptors, if one descriptor adds to it what `total` says
+module _ (alternates : List ℕ) (asked : Asked) where
+  abbrev after : Survey → Stand → List ℕ → Survey
+  after s stand d = onward alternates asked s (standOf stand d) d
 
-pub seen-end : {body alternates : List ℕ} {address : ℕ} {s : Survey} {stand : Stand} {at : ℕ} → length body ≤ at → Seen body alternates address s stand at
-    → Surveys (configurationOf body) alternates address s
-seen-end {body} {alternates} {address} {s} {stand} {at} l n = record {
-  interfaces = record {
-    exists = λ k h. n .exists k h ∙ rw (any-end (beginsInterface k) body at l) (or-false (bit (s .existing) k));
-    stands = λ k h. n .stands k h ∙ rw (any-end (beginsSetting k (getD alternates k 0)) body at l) (or-false (bit (s .current) k));
-  };
-  halts = gathered-all (currentHalting alternates) body at stand l (n .halts);
-  asked = sought-all (currentAt alternates address) (s .endpoint) body at stand l (n .asked);
-}
+  module _ {X : Type 0} (q : Survey → X) (total : X → Stand → List (List ℕ) → X)
+      (none : (x : X) (stand : Stand) → total x stand [] ≡ x)
+      (more : (s : Survey) (stand : Stand) (d : List ℕ) (ds : List (List ℕ)) → total (q s) stand (d ∷ ds) ≡ total (q (after s stand d)) (standOf stand d) ds) where
+    tells : (s : Survey) (stand : Stand) (ds : List (List ℕ)) → q (surveyed alternates asked s stand ds) ≡ total (q s) stand ds
+    unfolding surveyed
+    tells s stand [] = sym (none (q s) stand)
+    tells s stand (d ∷ ds) = tells (after s stand d) (standOf stand d) ds ∙ sym (more s stand d ds)
 
-module _ {body alternates : List ℕ} {address : ℕ} {s : Survey} {at : ℕ} {stand : Stand} {step : Step}
-    (turn : Turn body at stand step) (n : Seen body alternates address s stand at) where
-  abbrev here : List ℕ
-  here = spanned body at (step .end)
+  -- the loop: what is surveyed from here on is what is surveyed from the next descriptor on, with what this one adds
+  pub surveyed-on : {body : List ℕ} {at : ℕ} (s : Survey) {next total : Survey} {stand : Stand} {step : Step} → Turn body at stand step
+      → total ≡ surveyed alternates asked s stand (ahead body at) → next ≡ onward alternates asked s (step .stand) (spanned body at (step .end))
+      → total ≡ surveyed alternates asked next (step .stand) (ahead body (step .end))
+  unfolding surveyed
+  surveyed-on s {stand = stand} t inv e = inv ∙ ap (surveyed alternates asked s stand) (t .next) ∙ rw (e, t .stands)
 
-  seen-on : Seen body alternates address (onward alternates address s (step .stand) here) (step .stand) (step .end)
-  seen-on = record {
-    place = turn .place;
-    exists = λ k h. n .exists k h ∙ rw (any-turn (beginsInterface k) turn, exists-on alternates address s (step .stand) here k h)
-        (sym (or-assoc (bit (s .existing) k) (beginsInterface k here) (any (beginsInterface k) (ahead body (step .end)))));
-    stands = λ k h. n .stands k h ∙ rw (any-turn (beginsSetting k (getD alternates k 0)) turn, stands-on alternates address s (step .stand) here k h)
-        (sym (or-assoc (bit (s .current) k) (beginsSetting k (getD alternates k 0) here) (any (beginsSetting k (getD alternates k 0)) (ahead body (step .end)))));
-    halts = gathered (currentHalting alternates) (s .halting) turn (n .halts) refl (halts-on alternates address s (step .stand) here);
-    asked = sought (currentAt alternates address) (s .endpoint) turn (n .asked) (asked-on alternates address s (step .stand) here);
-  }
+  pub surveyed-end : (body : List ℕ) (at : ℕ) (s : Survey) (stand : Stand) {total : Survey} → length body ≤ at
+      → total ≡ surveyed alternates asked s stand (ahead body at) → s ≡ total
+  unfolding surveyed
+  surveyed-end body at s stand h inv = sym (inv ∙ ap (surveyed alternates asked s stand) (ahead-end body at h))
 
-  pub seen-turn : {next : Survey} → next ≡ onward alternates address s (step .stand) here → Seen body alternates address next (step .stand) (step .end)
-  seen-turn e = rw e seen-on
+  -- whether a setting was begun
+  tells-any : (t : Setting → Bool) (q : Survey → Bool) → ((s : Survey) (stand : Stand) (d : List ℕ) → q (after s stand d) ≡ (q s || opens t d))
+      → (s : Survey) (stand : Stand) (ds : List (List ℕ)) → q (surveyed alternates asked s stand ds) ≡ (q s || any (opens t) ds)
+  unfolding any
+  tells-any t q adds = tells q (λ b stand ds. b || any (opens t) ds) (λ b stand. or-false b)
+      (λ s stand d ds. rw (adds s stand d) (sym (or-assoc (q s) (opens t d) (any (opens t) ds))))
+
+  -- the bits of endpoints
+  tells-bits : (t : Endpoint → Bool) (q : Survey → ℕ)
+      → ((s : Survey) (stand : Stand) (d : List ℕ) → q (after s stand d) ≡ withBit (q s) (listsOne t (standOf stand d) d) d)
+      → (s : Survey) (stand : Stand) (ds : List (List ℕ)) → q (surveyed alternates asked s stand ds) ≡ bitsFrom (q s) (only t (endpointsUnder stand ds))
+  unfolding endpointsUnder only bitsFrom
+  tells-bits t q adds = tells q (λ bits stand ds. bitsFrom bits (only t (endpointsUnder stand ds))) (λ bits stand. refl)
+      (λ s stand d ds.
+      let here = standOf stand d in
+      let es = endpointsUnder here ds in
+      ap (bitsFrom (q s)) (only-step t (lists here d) (listed here d) es) ∙ bits-step (q s) (listsOne t here d) d here (only t es) ∙ rw (adds s stand d))
+
+  -- the first of some endpoints
+  tells-first : (t : Endpoint → Bool) (q : Survey → EndpointFound)
+      → ((s : Survey) (stand : Stand) (d : List ℕ) → q (after s stand d) ≡ earlier (q s) (foundHere (listsOne t (standOf stand d) d) (standOf stand d) d))
+      → (s : Survey) (stand : Stand) (ds : List (List ℕ)) → q (surveyed alternates asked s stand ds) ≡ earlier (q s) (found (first t (endpointsUnder stand ds)))
+  unfolding endpointsUnder first
+  tells-first t q adds = tells q (λ f stand ds. earlier f (found (first t (endpointsUnder stand ds)))) (λ f stand. earlier-none f)
+      (λ s stand d ds.
+      let here = standOf stand d in
+      let es = endpointsUnder here ds in
+      ap (λ (o : Option Endpoint). earlier (q s) (found o)) (first-step t (lists here d) (listed here d) es) ∙
+      earlier-step (q s) (listsOne t here d) here d (first t es) ∙ rw (adds s stand d))
+
+  -- ---- what a descriptor adds to the words of interfaces
+  exists-on : (k : ℕ) → k < 32 → (s : Survey) (stand : Stand) (d : List ℕ) → bit (after s stand d .existing) k ≡ (bit (s .existing) k || opens (λ t. eqb (t .interface) k) d)
+  exists-on k h s stand d = cases (isInterface d)
+      (λ p. rw p (noting-digit (s .existing) (begun d .interface) k h))
+      (λ p. rw p (sym (or-false (bit (s .existing) k))))
+
+  stands-on : (k : ℕ) → k < 32 → (s : Survey) (stand : Stand) (d : List ℕ)
+      → bit (after s stand d .current) k ≡ (bit (s .current) k || opens (isSetting k (getD alternates k 0)) d)
+  stands-on k h s stand d = cases (isInterface d)
+      (λ p. rw p (current-digit alternates (s .current) (begun d .interface) (begun d .alternate) k h))
+      (λ p. rw p (sym (or-false (bit (s .current) k))))
+
+  -- ---- the whole: from nothing seen, over all descriptors behind the first
+  pub surveys : {body : List ℕ} {at : ℕ} {s : Survey} → Begun body at → s ≡ surveyed alternates asked nothingSeen before (ahead body at)
+      → Surveys (configurationOf body) alternates asked s
+  surveys {body} {at} b e =
+      let ds = ahead body at in
+      rw e (record {
+        interfaces = record {
+          exists = λ k h. settings-begin (λ t. eqb (t .interface) k) b ∙ sym (tells-any (λ t. eqb (t .interface) k) (λ s. bit (s .existing) k) (exists-on k h) nothingSeen before ds ∙ rw (bit-zero k));
+          stands = λ k h. settings-begin (isSetting k (getD alternates k 0)) b ∙ sym (tells-any (isSetting k (getD alternates k 0)) (λ s. bit (s .current) k) (stands-on k h) nothingSeen before ds ∙ rw (bit-zero k));
+        };
+        halts = tells-bits (currentHalting alternates) (λ s. s .halting) (λ s stand d. refl) nothingSeen before ds
+            ∙ sym (ap bitsOf (only-only canHalt _ _ ∙ ap (only (currentHalting alternates)) (endpoints-begin b)));
+        asked = tells-first (currentAt alternates (asked .address)) (λ s. s .endpoint) (λ s stand d. refl) nothingSeen before ds
+            ∙ sym (ap found (first-only (λ e. eqb (e .address) (asked .address)) _ _ ∙ ap (first (currentAt alternates (asked .address))) (endpoints-begin b)));
+        there = tells-any (isSetting (asked .interface) (asked .alternate)) (λ s. s .there) (λ s stand d. rw (opens-here (isSetting (asked .interface) (asked .alternate)) stand d)) nothingSeen before ds
+            ∙ sym (settings-begin (isSetting (asked .interface) (asked .alternate)) b);
+        bits = tells-bits (changing alternates asked) (λ s. s .bits) (λ s stand d. refl) nothingSeen before ds
+            ∙ sym (ap bitsOf (ap (only (changing alternates asked)) (endpoints-begin b)));
+      })

@@ -16,7 +16,7 @@ use Rattle.octets.specs.Sentences.{pick}
 use Rattle.octets.proofs.Sentences.{both}
 use Rattle.descriptors.specs.declared.Stand.{Stand}
 use Rattle.descriptors.specs.declared.Step.{Step}
-use Rattle.descriptors.specs.Cut.{Cuts, whole, broken, descriptor, cut, cutAfter, wellCut}
+use Rattle.descriptors.specs.Cut.{Cutting, whole, broken, descriptor, cut, cutAfter, wellCut}
 use Rattle.descriptors.specs.Walk.{standOf, stepsOn, stepOf, Walk, orElse, walked}
 
 -- ---- cutting
@@ -62,7 +62,7 @@ module _ (body : List ℕ) (at : ℕ) where
         ap cut here ∙ cut-cons _ _ ∙ rw (le-leb 2 _ l, after-drop _ _ e, drop-drop, q, here)
 
 -- ---- what `advance` tells
-well-descriptor : (d : List ℕ) (ds : Cuts) → wellCut (descriptor d ds) ≡ wellCut ds
+well-descriptor : (d : List ℕ) (ds : Cutting) → wellCut (descriptor d ds) ≡ wellCut ds
 unfolding wellCut
 well-descriptor d ds = refl
 
@@ -134,7 +134,7 @@ module _ {W A : Type 0} (R : Walk W A) where
   unfolding walked
   walked-whole w = refl
 
-  walked-descriptor : (w : W) (d : List ℕ) (ds : Cuts) → walked R w (descriptor d ds) ≡ orElse (R .stop w d) (walked R (R .on w d) ds)
+  walked-descriptor : (w : W) (d : List ℕ) (ds : Cutting) → walked R w (descriptor d ds) ≡ orElse (R .stop w d) (walked R (R .on w d) ds)
   unfolding walked
   walked-descriptor w d ds = refl
 

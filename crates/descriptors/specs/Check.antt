@@ -13,23 +13,16 @@ use Rattle.descriptors.specs.declared.Stand.{Stand}
 use Rattle.descriptors.specs.declared.check.Progress.{Progress}
 use Rattle.descriptors.specs.declared.check.Verdict.{Verdict}
 use Rattle.descriptors.specs.Limits.{named}
-use Rattle.descriptors.specs.Descriptor.{isInterface, isEndpoint, bInterfaceNumber, bAlternateSetting, bNumEndpoints, iInterface, bEndpointAddress, goodEndpoint, goodDescriptor}
-use Rattle.descriptors.specs.Interfaces.{follows}
+use Rattle.descriptors.specs.Descriptor.{isInterface, isEndpoint, bInterfaceNumber, bNumEndpoints, iInterface, bEndpointAddress, goodEndpoint, goodDescriptor}
+use Rattle.descriptors.specs.Interfaces.{begun, follows}
 use Rattle.descriptors.specs.Configuration.{bitOf, configurationReferences}
-use Rattle.descriptors.specs.Walk.{before, standOf, Walk}
-use Rattle.descriptors.specs.Table.{has}
-
--- the setting that a descriptor stands under, and the one that an interface descriptor begins
-abbrev pub under : Stand → Setting
-under stand = record { interface = stand .interface; alternate = stand .alternate }
-
-abbrev pub begun : List ℕ → Setting
-begun d = record { interface = bInterfaceNumber d; alternate = bAlternateSetting d }
+use Rattle.descriptors.specs.Walk.{settingAt, before, standOf, Walk}
+use Rattle.octets.specs.Table.{has}
 
 -- a setting may come next: the first is number 0, alternate 0; a later one follows the one before it; alternates end at 15
 abbrev pub placed : Stand → Setting → Bool
 placed stand t =
-    ((stand .inside && follows (under stand) t) || (not (stand .inside) && eqb (t .interface) 0 && eqb (t .alternate) 0)) &&
+    ((stand .inside && follows (settingAt stand) t) || (not (stand .inside) && eqb (t .interface) 0 && eqb (t .alternate) 0)) &&
     leb (t .alternate) 15
 
 -- an address that was seen before stands in this interface, and not in this setting

@@ -7,7 +7,7 @@ use lib.Dec.{eqb, leb}
 use Rattle.octets.specs.Sentences.{pick, _⇒_, every, pairs, neighbours, isEmpty}
 use Rattle.descriptors.specs.declared.Setting.{Setting}
 use Rattle.descriptors.specs.declared.Endpoint.{Endpoint}
-use Rattle.descriptors.specs.Descriptor.{isInterface, isEndpoint, bInterfaceNumber, bAlternateSetting, bNumEndpoints, bEndpointAddress, bmAttributes, wMaxPacketSize}
+use Rattle.descriptors.specs.Descriptor.{isInterface, isEndpoint, bInterfaceNumber, bAlternateSetting, bNumEndpoints, bEndpointAddress, bmAttributes}
 
 -- an interface descriptor, and the endpoints after it, before the next
 pub record Group : Type 0 where
@@ -26,11 +26,15 @@ grouped (d ∷ ds) =
     pick (isInterface d) (record { loose = []; groups = record { head = d; endpoints = rest .loose } ∷ rest .groups })
     (pick (isEndpoint d) (record { loose = d ∷ rest .loose; groups = rest .groups }) rest)
 
+-- the setting that an interface descriptor begins, and that of its group
+abbrev pub begun : List ℕ → Setting
+begun d = record { interface = bInterfaceNumber d; alternate = bAlternateSetting d }
+
 abbrev pub settingOf : Group → Setting
-settingOf g = record { interface = bInterfaceNumber (g .head); alternate = bAlternateSetting (g .head) }
+settingOf g = begun (g .head)
 
 abbrev pub endpointOf : Setting → List ℕ → Endpoint
-endpointOf s d = record { interface = s .interface; alternate = s .alternate; address = bEndpointAddress d; attributes = bmAttributes d; size = wMaxPacketSize d }
+endpointOf s d = record { interface = s .interface; alternate = s .alternate; address = bEndpointAddress d; attributes = bmAttributes d }
 
 -- every endpoint of every setting, in the body's order
 unfoldable pub endpointsOf : List Group → List Endpoint

@@ -7,4 +7,3 @@ pub mod Walk
 pub mod Check
 pub mod Lookup
 pub mod Survey
-pub mod Table

@@ -10,7 +10,8 @@ abbrev pub range : ℕ → ℕ → Range
 range a b = record { least = a; most = b }
 
 -- 8, 16, 32 or 64 for bMaxPacketSize0 and for bulk; interrupt 0–64, bInterval 1–255; isochronous 0–1,023, bInterval 1–16;
--- entries of types 1, 2 and 3; in a configuration body, after its first descriptor, types 1, 2, 3, 6 and 7 are refused
+-- entries of types 1, 2 and 3; in a configuration body, after its first descriptor, types 1, 2, 3, 6 and 7 are refused.
+-- proofs/FullSpeed says each field so, for every number
 abbrev pub fullSpeed : Limits
 fullSpeed = record {
   control = range 8 64;

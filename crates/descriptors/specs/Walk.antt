@@ -7,10 +7,15 @@ use lib.ListN.{length}
 use lib.Dec.{leb, ltb}
 use Rattle.octets.specs.Octets.{byte, part}
 use Rattle.octets.specs.Sentences.{pick}
+use Rattle.descriptors.specs.declared.Setting.{Setting}
 use Rattle.descriptors.specs.declared.Stand.{Stand}
 use Rattle.descriptors.specs.declared.Step.{Step}
-use Rattle.descriptors.specs.Cut.{Cuts, whole, broken, descriptor}
+use Rattle.descriptors.specs.Cut.{Cutting, whole, broken, descriptor}
 use Rattle.descriptors.specs.Descriptor.{isInterface, bInterfaceNumber, bAlternateSetting}
+
+-- the setting of a stand
+abbrev pub settingAt : Stand → Setting
+settingAt stand = record { interface = stand .interface; alternate = stand .alternate }
 
 abbrev pub before : Stand
 before = record { inside = false; interface = 0; alternate = 0 }
@@ -38,7 +43,7 @@ abbrev pub orElse : {A : Type 0} → Option A → A → A
 orElse none b = b
 orElse (some a) b = a
 
-unfoldable pub walked : {W A : Type 0} → Walk W A → W → Cuts → A
+unfoldable pub walked : {W A : Type 0} → Walk W A → W → Cutting → A
 walked R w whole = R .finish w
 walked R w broken = R .astray w
 walked R w (descriptor d ds) = orElse (R .stop w d) (walked R (R .on w d) ds)

@@ -4,7 +4,7 @@ use crate::Range;
 use crate::Setting;
 use crate::Stand;
 use crate::lookup::bit_of;
-use crate::table::holds;
+use octets::table::holds;
 ghost use mathlib.Core.Path.{_≡_};
 ghost use mathlib.Core.Bool.{false, _&&_};
 ghost use Rattle.descriptors.specs.Limits.{within, doubled, named};

@@ -2,7 +2,6 @@
 pub mod check;
 pub mod lookup;
 pub mod survey;
-pub mod table;
 
 ghost use mathlib.Core.Path.{_≡_};
 ghost use mathlib.Core.Bool.{true};
@@ -70,7 +69,6 @@ pub struct Endpoint {
     pub alternate: u8,
     pub address: u8,
     pub attributes: u8,
-    pub size: u16,
 }
 
 // Where a descriptor stands: under which setting, or (not `inside`) before the first interface.

@@ -11,17 +11,28 @@ ghost use lib.Dec.{eqb};
 ghost use Rattle.octets.specs.Bit.{bit};
 ghost use Rattle.octets.specs.Sentences.{pick, below};
 ghost use Rattle.descriptors.specs.Cut.{cut, wellCut};
+ghost use Rattle.descriptors.specs.Descriptor.{isInterface, isEndpoint};
 ghost use Rattle.descriptors.specs.Configuration.{Configuration, configurationOf};
 ghost use Rattle.descriptors.specs.Lookup.{listed};
-ghost use Rattle.descriptors.specs.Survey.{noting, firstAt, atInterface, atEndpoint, onward, nothingSeen, TellsInterfaces, Surveys, goodAlternate};
+ghost use Rattle.descriptors.specs.Survey.{noting, earlier, foundHere, onward, nothingSeen, TellsInterfaces, Surveys, goodAlternate};
+
+// What an event asks of the selected configuration: an endpoint, by its address, and a setting of an interface.
+pub struct Asked {
+    pub address: u16,
+    pub interface: u16,
+    pub alternate: u16,
+}
 
 // Bit k of `existing` and `current`: whether interface k exists, and whether its current setting does. Of the endpoints of the current settings,
-// `halting` has the bits of the bulk and interrupt ones, and `endpoint` is the one with the address that is asked for.
+// `halting` has the bits of the bulk and interrupt ones, and `endpoint` is the one that is asked for. `there`: the setting that is asked for
+// exists; `bits` has those of its endpoints and of the endpoints of the interface's current setting.
 pub struct Survey {
     pub existing: u32,
     pub current: u32,
     pub halting: u32,
     pub endpoint: EndpointFound,
+    pub there: bool,
+    pub bits: u32,
 }
 
 // Before the first descriptor.
@@ -33,6 +44,8 @@ fn nothing_seen() -> Survey
         current: 0,
         halting: 0,
         endpoint: EndpointFound::Nothing,
+        there: false,
+        bits: 0,
     }
 }
 
@@ -46,19 +59,33 @@ fn with_interface(word: u32, number: u8) -> u32
     word
 }
 
-// What is known after an interface descriptor.
-fn at_interface(seen: Survey, d: &[u8], alternates: &[u8]) -> Survey
-    ensures { λ r. ⌜ r ≡ atInterface (now (alternates .entry)) seen (now (d .entry)) ⌝ }
+// The same, if its setting is current.
+fn with_current(word: u32, number: u8, current: bool) -> u32
+    ensures { λ r. ⌜ r ≡ pick current (noting word number) word ⌝ }
 {
-    let number = octets::peek(d, 2);
-    let alternate = octets::peek(alternates, number as usize);
-    let mut next = seen;
-    next.existing = with_interface(seen.existing, number);
-    if octets::peek(d, 3) == alternate {
-        next.current = with_interface(seen.current, number);
-        return next;
+    if current {
+        return with_interface(word, number);
     }
-    next
+    word
+}
+
+// What is known after an interface descriptor, which stands at `stand`.
+fn at_interface(seen: Survey, d: &[u8], stand: Stand, alternates: &[u8], asked: Asked) -> Survey
+    requires { ⌜ isInterface (now d) ≡ true ⌝ }
+    ensures { λ r. ⌜ r ≡ onward (now (alternates .entry)) asked seen stand (now (d .entry)) ⌝ }
+{
+    let current = stand.alternate == octets::peek(alternates, stand.interface as usize);
+    let wanted = (stand.interface as u16 == asked.interface)
+        & (stand.alternate as u16 == asked.alternate);
+    let endpoint = seen.endpoint;
+    Survey {
+        existing: with_interface(seen.existing, stand.interface),
+        current: with_current(seen.current, stand.interface, current),
+        halting: seen.halting,
+        endpoint,
+        there: seen.there | wanted,
+        bits: seen.bits,
+    }
 }
 
 // The endpoint that a descriptor lists.
@@ -70,15 +97,14 @@ fn endpoint_of(d: &[u8], stand: Stand) -> Endpoint
         alternate: stand.alternate,
         address: octets::peek(d, 2),
         attributes: octets::peek(d, 3),
-        size: octets::word(d, 4),
     }
 }
 
-// The first endpoint with the address: the one that was found before, or the one that a descriptor lists.
-fn first_at(endpoint: EndpointFound, d: &[u8], stand: Stand, address: u16) -> EndpointFound
-    ensures { λ r. ⌜ r ≡ firstAt address endpoint stand (now (d .entry)) ⌝ }
+// The endpoint that was found before, or else the one that a descriptor lists, if it is `wanted`.
+fn first_found(endpoint: EndpointFound, d: &[u8], stand: Stand, wanted: bool) -> EndpointFound
+    ensures { λ r. ⌜ r ≡ earlier endpoint (foundHere wanted stand (now (d .entry))) ⌝ }
 {
-    if octets::peek(d, 2) as u16 == address {
+    if wanted {
         return match endpoint {
             EndpointFound::At(e) => EndpointFound::At(e),
             EndpointFound::Nothing => EndpointFound::At(endpoint_of(d, stand)),
@@ -87,41 +113,45 @@ fn first_at(endpoint: EndpointFound, d: &[u8], stand: Stand, address: u16) -> En
     endpoint
 }
 
-// What is known after an endpoint descriptor.
-fn at_endpoint(seen: Survey, d: &[u8], stand: Stand, alternates: &[u8], address: u16) -> Survey
-    ensures { λ r. ⌜ r ≡ atEndpoint (now (alternates .entry)) address seen stand (now (d .entry)) ⌝ }
+// What is known after an endpoint descriptor, which stands at `stand`.
+fn at_endpoint(seen: Survey, d: &[u8], stand: Stand, alternates: &[u8], asked: Asked) -> Survey
+    requires { ⌜ isEndpoint (now d) ≡ true ⌝ }
+    ensures { λ r. ⌜ r ≡ onward (now (alternates .entry)) asked seen stand (now (d .entry)) ⌝ }
 {
-    let alternate = octets::peek(alternates, stand.interface as usize);
-    let was = seen.endpoint;
-    if stand.inside & (stand.alternate == alternate) {
-        return Survey {
-            existing: seen.existing,
-            current: seen.current,
-            halting: with_bit(seen.halting, d, 2 <= octets::peek(d, 3) % 4),
-            endpoint: first_at(was, d, stand, address),
-        };
+    let current = stand.alternate == octets::peek(alternates, stand.interface as usize);
+    let halting = stand.inside & (current & (2 <= octets::peek(d, 3) % 4));
+    let wanted = stand.inside & (current & (octets::peek(d, 2) as u16 == asked.address));
+    let either = current | (stand.alternate as u16 == asked.alternate);
+    let changing = stand.inside & ((stand.interface as u16 == asked.interface) & either);
+    let endpoint = seen.endpoint;
+    Survey {
+        existing: seen.existing,
+        current: seen.current,
+        halting: with_bit(seen.halting, d, halting),
+        endpoint: first_found(endpoint, d, stand, wanted),
+        there: seen.there,
+        bits: with_bit(seen.bits, d, changing),
     }
-    seen
 }
 
 // What is known after any descriptor, which stands at `stand`.
-fn move_on(seen: Survey, d: &[u8], stand: Stand, alternates: &[u8], address: u16) -> Survey
-    ensures { λ r. ⌜ r ≡ onward (now (alternates .entry)) address seen stand (now (d .entry)) ⌝ }
+fn move_on(seen: Survey, d: &[u8], stand: Stand, alternates: &[u8], asked: Asked) -> Survey
+    ensures { λ r. ⌜ r ≡ onward (now (alternates .entry)) asked seen stand (now (d .entry)) ⌝ }
 {
     let t = octets::peek(d, 1);
     if t == 4 {
-        return at_interface(seen, d, alternates);
+        return at_interface(seen, d, stand, alternates, asked);
     }
     if t == 5 {
-        return at_endpoint(seen, d, stand, alternates, address);
+        return at_endpoint(seen, d, stand, alternates, asked);
     }
     seen
 }
 
-// The walk, given the alternate setting of each interface and the address that is asked for.
-pub fn walk(body: &[u8], alternates: [u8; 16], address: u16) -> Survey
+// The walk, given the alternate setting of each interface and what is asked for.
+pub fn walk(body: &[u8], alternates: [u8; 16], asked: Asked) -> Survey
     requires { ⌜ wellCut (cut (now body)) ≡ true ⌝ }
-    ensures { λ r. ⌜ Surveys (configurationOf (now (body .entry))) alternates address r ⌝ }
+    ensures { λ r. ⌜ Surveys (configurationOf (now (body .entry))) alternates asked r ⌝ }
 {
     let mut seen = nothing_seen();
     let mut stand = crate::outside();
@@ -130,7 +160,7 @@ pub fn walk(body: &[u8], alternates: [u8; 16], address: u16) -> Survey
         let step = crate::step_over(body, at, stand);
         let end = step.end;
         stand = step.stand;
-        seen = move_on(seen, &body[at..end], stand, &alternates[..], address);
+        seen = move_on(seen, &body[at..end], stand, &alternates[..], asked);
         at = end;
     }
     seen

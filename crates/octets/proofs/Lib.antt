@@ -1,2 +1,4 @@
 pub mod Sentences
 pub mod Bits
+pub mod Words
+pub mod Tables

@@ -279,3 +279,31 @@ pub below-alike : (f g : ℕ → Bool) (n : ℕ) → ((k : ℕ) → k < n → f 
 unfolding below
 below-alike f g zero h = refl
 below-alike f g (suc n) h = rw (h n (omega arith), below-alike f g n (λ k l. h k (omega arith)))
+
+-- ---- of those for which a test holds
+pub any-only : {A : Type 0} (t f : A → Bool) (xs : List A) → any t (only f xs) ≡ any (λ x. f x && t x) xs
+unfolding any only
+any-only t f [] = refl
+any-only t f (x ∷ xs) = go (f x) (any-only t f xs)
+  where
+    go : (b : Bool) → any t (only f xs) ≡ any (λ x. f x && t x) xs → any t (pick b (x ∷ only f xs) (only f xs)) ≡ (b && t x) || any (λ x. f x && t x) xs
+    go true rest = ap (λ (b : Bool). t x || b) rest
+    go false rest = rest
+
+pub first-only : {A : Type 0} (t f : A → Bool) (xs : List A) → first t (only f xs) ≡ first (λ x. f x && t x) xs
+unfolding first only
+first-only t f [] = refl
+first-only t f (x ∷ xs) = go (f x) (first-only t f xs)
+  where
+    go : (b : Bool) → first t (only f xs) ≡ first (λ x. f x && t x) xs → first t (pick b (x ∷ only f xs) (only f xs)) ≡ pick (b && t x) (some x) (first (λ x. f x && t x) xs)
+    go true rest = ap (pick (t x) (some x)) rest
+    go false rest = rest
+
+pub only-only : {A : Type 0} (t f : A → Bool) (xs : List A) → only t (only f xs) ≡ only (λ x. f x && t x) xs
+unfolding only
+only-only t f [] = refl
+only-only t f (x ∷ xs) = go (f x) (only-only t f xs)
+  where
+    go : (b : Bool) → only t (only f xs) ≡ only (λ x. f x && t x) xs → only t (pick b (x ∷ only f xs) (only f xs)) ≡ pick (b && t x) (x ∷ only (λ x. f x && t x) xs) (only (λ x. f x && t x) xs)
+    go true rest = ap (λ (ys : List _). pick (t x) (x ∷ ys) ys) rest
+    go false rest = rest

@@ -1,3 +1,4 @@
 pub mod Octets
 pub mod Sentences
 pub mod Bit
+pub mod Table

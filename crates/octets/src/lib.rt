@@ -1,8 +1,12 @@
 // Bytes and little-endian numbers of a slice, and the bits of a u32.
+pub mod table;
+
 ghost use mathlib.Core.Path.{_≡_};
-ghost use Prim.Native.Nat.{_<_};
+ghost use mathlib.Core.Bool.{_&&_, not};
+ghost use Prim.Native.Nat.{ℕ, _<_};
 ghost use Rattle.octets.specs.Octets.{byte, word};
 ghost use Rattle.octets.specs.Bit.{bit, setBit, clearBit, flipBit};
+ghost use Rattle.octets.specs.Sentences.{below, _⇒_};
 
 // The byte at k, or 0 past the end.
 pub fn peek(bytes: &[u8], k: usize) -> u8
@@ -56,4 +60,18 @@ pub fn flip_bit(word: u32, e: u32) -> u32
     ensures { λ r. ⌜ r ≡ flipBit word e ⌝ }
 {
     word ^ (1 << e)
+}
+
+// The number without the bits of another.
+pub fn without(word: u32, bits: u32) -> u32
+    ensures { λ r. ⌜ ((k : ℕ) → k < 32 → bit r k ≡ (bit word k && not (bit bits k))) ⌝ }
+{
+    word & !bits
+}
+
+// Whether a number has only bits that are allowed.
+pub fn has_only(word: u32, allowed: u32) -> bool
+    ensures { λ r. ⌜ r ≡ below 32 (λ k. bit word k ⇒ bit allowed k) ⌝ }
+{
+    (word & !allowed) == 0
 }

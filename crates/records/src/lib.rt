@@ -1,8 +1,9 @@
 // The device record: what a board keeps between events.
 use descriptors::survey::Survey;
 ghost use mathlib.Core.Path.{_≡_};
-ghost use Prim.Native.Nat.{ℕ, _<_};
+ghost use Prim.Native.Nat.{_<_};
 ghost use lib.ListN.{length};
+ghost use Rattle.descriptors.specs.declared.survey.Asked.{Asked};
 ghost use Rattle.descriptors.specs.Survey.{Surveys};
 ghost use Rattle.sets.specs.View.{View, hasValue, wakes};
 ghost use Rattle.records.specs.Device.{fresh};
@@ -225,7 +226,7 @@ fn good_state(there: bool, device: Device) -> bool
 // Whether a record fits. `survey` is the selected configuration's, of no descriptors if none is; `there`: the set has a configuration with the
 // record's value; `waking`: some configuration supports remote wakeup.
 pub fn fits(survey: Survey, there: bool, waking: bool, device: Device) -> bool
-    ensures { λ r. ⌜ ((v : View) (a : ℕ) → Surveys (selected v device) (device .alternates) a survey
+    ensures { λ r. ⌜ ((v : View) (a : Asked) → Surveys (selected v device) (device .alternates) a survey
         → there ≡ hasValue (record { 0 = device .configuration }) (v .configurations)
         → waking ≡ wakes v → r ≡ fits v device) ⌝ }
 {
@@ -234,7 +235,7 @@ pub fn fits(survey: Survey, there: bool, waking: bool, device: Device) -> bool
         & good_waiting(device)
         & good_state(there, device)
         & descriptors::survey::alternates_exist(survey.existing, survey.current, alternates)
-        & descriptors::lookup::stands_at(device.halts, survey.halting)
-        & descriptors::lookup::stands_at(device.toggles, survey.halting)
+        & octets::has_only(device.halts, survey.halting)
+        & octets::has_only(device.toggles, survey.halting)
         & (!(device.wakeup == 1) | waking)
 }

@@ -10,7 +10,7 @@ use lib.Dec.{eqb, leb}
 use borrow.Author.Tests.{eqb-true, eqb-false, ne-eqb, lt-leb, le-leb}
 use Rattle.octets.specs.Sentences.{pick, _⇒_, every, any, isEmpty}
 use Rattle.octets.proofs.Sentences.{cases, member-every, first-some}
-use Rattle.descriptors.specs.Table.{has}
+use Rattle.octets.specs.Table.{has}
 use Rattle.descriptors.specs.Check.{configurationRefers}
 use Rattle.sets.specs.declared.Entry.{Entry}
 use Rattle.sets.specs.Contents.{bodyOf, bodies, entriesOf}

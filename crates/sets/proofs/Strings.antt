@@ -12,10 +12,9 @@ use lib.Dec.{eqb, leb, ltb}
 use borrow.Author.Tests.{leb-true, ltb-true, eqb-true, eqb-false, eq-eqb, ne-eqb, le-leb, lt-leb}
 use Rattle.octets.specs.Octets.{byte, word}
 use Rattle.octets.specs.Sentences.{pick, every, any, only, first, neighbours}
-use Rattle.octets.proofs.Sentences.{cases, both, joined, same-test, first-alike}
-use Rattle.descriptors.specs.Table.{has, with}
-use Rattle.descriptors.proofs.Ahead.{first-only}
-use Rattle.descriptors.proofs.Tables.{with-long, has-with, allOf, has-none}
+use Rattle.octets.proofs.Sentences.{cases, both, joined, same-test, first-alike, first-only}
+use Rattle.octets.specs.Table.{has, with}
+use Rattle.octets.proofs.Tables.{with-long, has-with, allOf, has-none}
 use Rattle.sets.specs.declared.Entry.{Entry}
 use Rattle.sets.specs.declared.EntryFound.the-variants.{At, Nothing}
 use Rattle.sets.specs.Contents.{isKind, entries}

@@ -9,7 +9,7 @@ use Rattle.octets.specs.Sentences.{pick, every}
 use Rattle.descriptors.specs.declared.Limits.{Limits}
 use Rattle.descriptors.specs.Limits.{named}
 use Rattle.descriptors.specs.Configuration.{bConfigurationValue, goodConfiguration}
-use Rattle.descriptors.specs.Table.{has}
+use Rattle.octets.specs.Table.{has}
 use Rattle.descriptors.specs.Check.{configurationRefers}
 use Rattle.sets.specs.declared.Entry.{Entry}
 use Rattle.sets.specs.Contents.{bodyOf, bodies, entriesOf, before}

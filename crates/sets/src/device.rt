@@ -4,7 +4,7 @@ use crate::contents::body_of;
 use crate::contents::count_of;
 use crate::contents::entry_of;
 use descriptors::Limits;
-use descriptors::table::holds;
+use octets::table::holds;
 ghost use mathlib.Core.Path.{_≡_};
 ghost use Rattle.sets.specs.Device.{goodDevice, deviceBody, iSerialNumber};
 ghost use Rattle.sets.specs.Opening.{goodDevices, goodSerial};

@@ -7,8 +7,8 @@ use crate::contents::entry_at;
 use crate::contents::find_entry;
 use crate::device::device_refers;
 use crate::device::serial_index;
-use descriptors::table::holds;
-use descriptors::table::join;
+use octets::table::holds;
+use octets::table::join;
 ghost use mathlib.Core.Path.{_≡_};
 ghost use Prim.Native.Nat.{ℕ, _<_};
 ghost use mathlib.Core.Bool.{_&&_, _||_};
@@ -17,7 +17,7 @@ ghost use lib.Dec.{eqb};
 ghost use Rattle.octets.specs.Sentences.{any, every, member};
 ghost use Rattle.sets.specs.Contents.{entriesOf};
 ghost use Rattle.sets.specs.Strings.{words, isString, isStringZero, goodString, languageZero, notSerial, goodLanguages, languages, inEvery, goodStrings};
-ghost use Rattle.descriptors.specs.Table.{has};
+ghost use Rattle.octets.specs.Table.{has};
 ghost use Rattle.sets.specs.Checks.{goodStringEntry, goodListed, mayName, Read};
 
 // String 0 lists one to four languages, nonzero and ascending.

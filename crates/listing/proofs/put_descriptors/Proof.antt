@@ -5,7 +5,7 @@ use mathlib.Core.List.{flatMap}
 use lib.ListN.{length}
 use borrow.Author.Needs.{needs}
 use Rattle.descriptors.proofs.Walk.{spanned}
-use Rattle.descriptors.proofs.Ahead.{Place, Turn, ahead, begun, turn}
+use Rattle.descriptors.proofs.Ahead.{Place, Turn, ahead, at-first, turn}
 use Rattle.listing.specs.Written.{descriptorLine, descriptorLines}
 use Rattle.listing.proofs.Written.{Going, room-for, next, done, same}
 use Rattle.listing.proofs.Lines.{lines-begin, next-lines, no-lines}
@@ -30,7 +30,7 @@ cast-from c = search needs
 loop-holds : tie.Need-loop-holds Inv-loop μ-loop
 loop-holds c =
     let s = c .before .before .before .before in
-    let b = begun (s .args .body .now) _ (s .pre .0) (c .peek .ensures) in
+    let b = at-first (s .args .body .now) _ (s .pre .0) (c .peek .ensures) in
     (b .place, lines-begin b (s .args .out .now) _ (s .pre .1))
 
 advance-requires : tie.Need-advance-requires Inv-loop μ-loop

@@ -17,16 +17,16 @@ good-state-requires c κs = search needs
 alternates-exist-requires : tie.Need-alternates-exist-requires
 alternates-exist-requires c κs = search needs
 
-stands-at-requires : tie.Need-stands-at-requires
-stands-at-requires c κs = search needs
+has-only-requires : tie.Need-has-only-requires
+has-only-requires c κs = search needs
 
-stands-at-requires-2 : tie.Need-stands-at-requires-2
-stands-at-requires-2 c κs = search needs
+has-only-requires-2 : tie.Need-has-only-requires-2
+has-only-requires-2 c κs = search needs
 
 returns : tie.Need-returns
 returns c = λ v a t q w.
     let d = c .before .before .before .before .before .before .before .before .args .device in
-    fitting v d (c .before .before .before .before .before .before .in-range .ensures) (c .before .before .before .before .before .good-waiting .ensures) (c .before .before .before .before .good-state .ensures v q) (c .before .before .before .alternates-exist .ensures (selected v d) (t .interfaces)) (t .halts) (c .before .before .stands-at .ensures) (c .before .stands-at2 .ensures) w
+    fitting v d (c .before .before .before .before .before .before .in-range .ensures) (c .before .before .before .before .before .good-waiting .ensures) (c .before .before .before .before .good-state .ensures v q) (c .before .before .before .alternates-exist .ensures (selected v d) (t .interfaces)) (t .halts) (c .before .before .has-only .ensures) (c .before .has-only2 .ensures) w
 
 pub fits-spec : {M : Type 1} → statement M
 fits-spec =
@@ -36,6 +36,6 @@ fits-spec =
     good-waiting-requires
     good-state-requires
     alternates-exist-requires
-    stands-at-requires
-    stands-at-requires-2
+    has-only-requires
+    has-only-requires-2
     returns)

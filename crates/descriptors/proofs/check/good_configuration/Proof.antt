@@ -6,7 +6,7 @@ use mathlib.Core.Path.{_≡_, sym, _∙_}
 use lib.ListN.{take, drop}
 use lib.Seq.{length-take-le}
 use Rattle.octets.specs.Sentences.{every}
-use Rattle.descriptors.specs.Table.{has}
+use Rattle.octets.specs.Table.{has}
 use Rattle.descriptors.specs.Cut.{cut}
 use Rattle.descriptors.specs.Walk.{before, stepOf, walked}
 use Rattle.descriptors.specs.Check.{beginning, checking, interfaceRefers}

@@ -10,7 +10,8 @@ use Rattle.descriptors.specs.declared.Limits.{Limits}
 use Rattle.descriptors.specs.declared.check.Progress.{Progress}
 use Rattle.descriptors.specs.Limits.{named}
 use Rattle.descriptors.specs.Descriptor.{bDescriptorType, isInterface, isEndpoint}
-use Rattle.descriptors.specs.Check.{begun, placed, allowed, mayBegin, mayList}
+use Rattle.descriptors.specs.Interfaces.{begun}
+use Rattle.descriptors.specs.Check.{placed, allowed, mayBegin, mayList}
 use borrow.Author.Needs.{needs}
 use Rattle.descriptors.proofs.check.is_allowed.Statement.{statement}
 use Rattle.descriptors.proofs.check.is_allowed.Tie as tie

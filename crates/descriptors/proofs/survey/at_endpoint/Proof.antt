@@ -1,4 +1,5 @@
--- `descriptors::survey::at_endpoint` meets its contract: by whether its setting is current. Assumes nothing.
+-- `descriptors::survey::at_endpoint` meets its contract: an endpoint descriptor adds nothing to what is known of settings. Assumes nothing.
+use Rattle.descriptors.proofs.Surveying.{endpoint-adds}
 use borrow.Author.Needs.{needs}
 use Rattle.descriptors.proofs.survey.at_endpoint.Statement.{statement}
 use Rattle.descriptors.proofs.survey.at_endpoint.Tie as tie
@@ -12,17 +13,41 @@ peek-requires c κs = search needs
 peek-requires-2 : tie.Need-peek-requires-2
 peek-requires-2 c κs = search needs
 
+peek-requires-3 : tie.Need-peek-requires-3
+peek-requires-3 c κs = search needs
+
+cast-wanted : tie.Need-cast-wanted
+cast-wanted c = search needs
+
+cast-either : tie.Need-cast-either
+cast-either c = search needs
+
+cast-changing : tie.Need-cast-changing
+cast-changing c = search needs
+
 with-bit-requires : tie.Need-with-bit-requires
 with-bit-requires c κs = search needs
 
-first-at-requires : tie.Need-first-at-requires
-first-at-requires c κs = search needs
+first-found-requires : tie.Need-first-found-requires
+first-found-requires c κs = search needs
+
+with-bit-requires-2 : tie.Need-with-bit-requires-2
+with-bit-requires-2 c κs = search needs
 
 returns : tie.Need-returns
-returns c = rw (← c .before .before .before .before .before .before .peek .ensures, c .before .before .before .if1 .taken) (cc)
-
-returns-2 : tie.Need-returns-2
-returns-2 c = rw (← c .before .before .before .peek .ensures, c .if1 .left)
+returns c =
+    let third = c .before .before .before .before .before .before .before .before .before .before in
+    let entry = third .before .before .before .before .before .before .before .before in
+    let a = entry .args in
+    rw (
+      c .with-bit2 .ensures,
+      c .before .first-found .ensures,
+      c .before .before .with-bit .ensures,
+      third .peek3 .ensures,
+      third .before .before .peek2 .ensures,
+      third .before .before .before .before .peek .ensures,
+    )
+    (endpoint-adds (a .alternates .now) (a .asked) (a .seen) (a .stand) (a .d .now) (entry .pre))
 
 pub at-endpoint-spec : {M : Type 1} → statement M
 at-endpoint-spec =
@@ -31,7 +56,11 @@ at-endpoint-spec =
     cast-peek
     peek-requires
     peek-requires-2
+    peek-requires-3
+    cast-wanted
+    cast-either
+    cast-changing
     with-bit-requires
-    first-at-requires
-    returns
-    returns-2)
+    first-found-requires
+    with-bit-requires-2
+    returns)

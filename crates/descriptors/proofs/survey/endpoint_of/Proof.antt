@@ -9,11 +9,8 @@ peek-requires c κs = search needs
 peek-requires-2 : tie.Need-peek-requires-2
 peek-requires-2 c κs = search needs
 
-word-requires : tie.Need-word-requires
-word-requires c κs = search needs
-
 returns : tie.Need-returns
 returns c = cc
 
 pub endpoint-of-spec : {M : Type 1} → statement M
-endpoint-of-spec = tie.close (tie.spec peek-requires peek-requires-2 word-requires returns)
+endpoint-of-spec = tie.close (tie.spec peek-requires peek-requires-2 returns)

@@ -1,7 +1,9 @@
--- `descriptors::survey::move_on` meets its contract: by the descriptor's type. Assumes nothing.
+-- `descriptors::survey::move_on` meets its contract: by the descriptor's type; one of another type adds nothing. Assumes nothing.
 use mathlib.Core.Path.{sym, _∙_}
+use mathlib.Core.Bool.{or-false}
 use borrow.Author.Tests.{eq-eqb, ne-eqb}
 use borrow.Author.Needs.{needs}
+use Rattle.descriptors.proofs.Surveying.{earlier-none}
 use Rattle.descriptors.proofs.survey.move_on.Statement.{statement}
 use Rattle.descriptors.proofs.survey.move_on.Tie as tie
 
@@ -9,19 +11,25 @@ peek-requires : tie.Need-peek-requires
 peek-requires c κs = search needs
 
 at-interface-requires : tie.Need-at-interface-requires
-at-interface-requires c κs = search needs
+at-interface-requires c κs = eq-eqb _ _ (sym (c .before .peek .ensures) ∙ c .if1 .taken)
 
 returns : tie.Need-returns
-returns c = simp (eq-eqb _ _ (sym (c .before .before .peek .ensures) ∙ c .before .if1 .taken)) (c .at-interface .ensures)
+returns c = search needs
 
 at-endpoint-requires : tie.Need-at-endpoint-requires
-at-endpoint-requires c κs = search needs
+at-endpoint-requires c κs = eq-eqb _ _ (sym (c .before .before .peek .ensures) ∙ c .if2 .taken)
 
 returns-2 : tie.Need-returns-2
-returns-2 c = simp (ne-eqb _ _ (λ e. c .before .before .if1 .left (c .before .before .before .peek .ensures ∙ e)), eq-eqb _ _ (sym (c .before .before .before .peek .ensures) ∙ c .before .if2 .taken)) (c .at-endpoint .ensures)
+returns-2 c = search needs
 
 returns-3 : tie.Need-returns-3
-returns-3 c = simp (ne-eqb _ _ (λ e. c .before .if1 .left (c .before .before .peek .ensures ∙ e)), ne-eqb _ _ (λ e. c .if2 .left (c .before .before .peek .ensures ∙ e)))
+returns-3 c =
+    rw (
+      ne-eqb _ _ (λ e. c .before .if1 .left (c .before .before .peek .ensures ∙ e)),
+      ne-eqb _ _ (λ e. c .if2 .left (c .before .before .peek .ensures ∙ e)),
+      earlier-none (c .before .before .before .before .before .args .seen .endpoint),
+      or-false (c .before .before .before .before .before .args .seen .there),
+    )
 
 pub move-on-spec : {M : Type 1} → statement M
 move-on-spec =

@@ -10,9 +10,9 @@ use borrow.Author.Tests.{not-true, not-false}
 use Rattle.octets.specs.Sentences.{every, only}
 use Rattle.descriptors.specs.Check.{verdict, configurationRefers}
 use Rattle.descriptors.specs.Configuration.{bConfigurationValue}
-use Rattle.descriptors.specs.Table.{has}
+use Rattle.octets.specs.Table.{has}
 use Rattle.descriptors.proofs.CheckReferences.{refused, told}
-use Rattle.descriptors.proofs.Tables.{allOf, with-long}
+use Rattle.octets.proofs.Tables.{allOf, with-long}
 use Rattle.sets.specs.Contents.{bodyOf, bodies, isKind}
 use Rattle.sets.specs.Checks.{goodNumbered}
 use Rattle.sets.specs.Opening.{goodConfigurations}

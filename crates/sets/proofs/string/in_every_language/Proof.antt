@@ -6,8 +6,8 @@ use mathlib.Core.Path.{_≡_, sym, ap, _∙_}
 use lib.ListN.{length, drop}
 use borrow.Author.Needs.{needs}
 use Rattle.octets.specs.Sentences.{every, any}
-use Rattle.descriptors.specs.Table.{has}
-use Rattle.descriptors.proofs.Tables.{has-all}
+use Rattle.octets.specs.Table.{has}
+use Rattle.octets.proofs.Tables.{has-all}
 use Rattle.sets.specs.Contents.{entriesOf}
 use Rattle.sets.specs.Strings.{words, isString, inEvery}
 use Rattle.sets.proofs.Entries.{every-cons, every-empty}

@@ -6,8 +6,8 @@ use mathlib.Core.Path.{_≡_, refl, sym, ap, _∙_}
 use lib.ListN.{length}
 use borrow.Author.Needs.{needs}
 use Rattle.octets.specs.Sentences.{any, only}
-use Rattle.descriptors.specs.Table.{has}
-use Rattle.descriptors.proofs.Tables.{has-none, with-long}
+use Rattle.octets.specs.Table.{has}
+use Rattle.octets.proofs.Tables.{has-none, with-long}
 use Rattle.sets.specs.Contents.{isKind, entriesOf}
 use Rattle.sets.specs.Strings.{isString}
 use Rattle.sets.proofs.Entries.{rest, rest-start, next-entry, no-entry, any-empty, only-empty}

@@ -1,7 +1,7 @@
--- `descriptors::table::join` meets its contract. Assumes nothing.
+-- `octets::table::join` meets its contract. Assumes nothing.
 use borrow.Author.Needs.{needs}
-use Rattle.descriptors.proofs.table.join.Statement.{statement}
-use Rattle.descriptors.proofs.table.join.Tie as tie
+use Rattle.octets.proofs.table.join.Statement.{statement}
+use Rattle.octets.proofs.table.join.Tie as tie
 
 cast-at : tie.Need-cast-at
 cast-at c = search needs

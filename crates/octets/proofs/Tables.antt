@@ -8,11 +8,11 @@ use lib.ListN.{length, getD, replicate, getD-replicate, length-set, List·getD-e
 use lib.Seq.{getD-set-same, getD-set-other}
 use lib.Dec.{eqb, ltb}
 use borrow.Author.Tests.{eqb-true, eqb-false, eq-eqb, ne-eqb, ltb-true, ltb-false}
 use Rattle.octets.specs.Bit.{bit, setBit}
 use Rattle.octets.specs.Sentences.{below}
 use Rattle.octets.proofs.Bits.{set-same, set-other, bit-zero}
 use Rattle.octets.proofs.Sentences.{cases, below-at}
-use Rattle.descriptors.specs.Table.{has, with}
+use Rattle.octets.specs.Table.{has, with}
 
 -- ---- one more number
 pub with-long : (table : List ℕ) (k : ℕ) → length table ≡ 8 → length (with table k) ≡ 8
