@@ -12,10 +12,6 @@ use Rattle.events.specs.Places.{inBlock, bytesIn}
 use Rattle.events.specs.Step.{opened, event, setupEvent}
 use Rattle.packets.specs.Packets.{packet}
 
--- the set and the serial block that are lent
-abbrev pub lent : List ℕ → List ℕ → Board
-lent set serial = record { set = set; serial = serial }
-
 -- hk_open: its number, and the image left
 pub record Opens (b : Board) (image : List ℕ) (answer : ℕ) (left : List ℕ) : Type 0 where
   pub number : answer ≡ opened b image .number

@@ -3,12 +3,12 @@ use events::Answer;
 use events::Event;
 use records::Device;
 ghost use mathlib.Core.Path.{_≡_};
-ghost use Rattle.descriptors.specs.Limits.{fullSpeed};
-ghost use Rattle.sets.specs.Opening.{opening};
+ghost use Rattle.sets.specs.Opening.{lent};
+ghost use Rattle.sets.specs.View.{openingOf};
 ghost use Rattle.events.specs.Step.{event};
 ghost use Rattle.events.specs.declared.Event.the-variants.{StatusEnd, BusReset, Halt, PacketPassed};
 ghost use Rattle.board.specs.Lent.{numbered, Answers};
-ghost use Rattle.board.specs.Statements.{lent, Opens, Happens, Replies, Cuts, spotOf};
+ghost use Rattle.board.specs.Statements.{Opens, Happens, Replies, Cuts, spotOf};
 
 mod numbers;
 
@@ -21,12 +21,12 @@ pub extern "C" fn hk_open(set: &[u8], serial: &[u8], image: &mut [u8]) -> u8
         return 8;
     }
     records::store(records::fresh(), image);
-    events::opening(set, serial)
+    steps::opening(set, serial)
 }
 
 // An event, on an image of any length. `number` is what opening gives: it is asked before this frame stands, to spare the stack.
 fn event(number: u8, set: &[u8], serial: &[u8], image: &mut [u8], what: Event) -> Answer
-    requires { ⌜ number ≡ opening fullSpeed (lent (now set) (now serial)) ⌝ }
+    requires { ⌜ number ≡ openingOf (lent (now set) (now serial)) ⌝ }
     ensures answer { λ r. ⌜ r ≡ event (lent (now (set .entry)) (now (serial .entry))) (now (image .entry)) what .answer ⌝ }
     ensures image { λ _. ⌜ now (image .exit) ≡ event (lent (now (set .entry)) (now (serial .entry))) (now (image .entry)) what .image ⌝ }
 {
@@ -37,7 +37,7 @@ fn event(number: u8, set: &[u8], serial: &[u8], image: &mut [u8], what: Event) -
         return Answer::Refused(7);
     }
     let was = records::load(image);
-    let outcome = events::step_opened(number, set, serial, was, what);
+    let outcome = steps::step_opened(number, set, serial, was, what);
     let next = outcome.device;
     records::store(next, image);
     outcome.answer
@@ -57,7 +57,7 @@ pub extern "C" fn hk_setup<'a>(
     ensures { λ r. ⌜ Replies (lent (now (set .entry)) (now (serial .entry))) (spotOf ((set .entry) .ptr)) (spotOf ((serial .entry) .ptr)) (now (image .entry)) (now (setup .entry))
         r (now (image .exit)) (now (bytes .exit)) (now (count .exit)) (now (now (part .exit))) (spotOf ((now (part .exit)) .ptr)) ⌝ }
 {
-    let number = events::opening(set, serial);
+    let number = steps::opening(set, serial);
     let answer = event(number, set, serial, image, events::setup_event(setup));
     numbers::hand_out(set, serial, answer, bytes, count, part)
 }
@@ -67,7 +67,7 @@ pub extern "C" fn hk_setup<'a>(
 pub extern "C" fn hk_status_end(set: &[u8], serial: &[u8], image: &mut [u8]) -> u8
     ensures { λ r. ⌜ Happens (lent (now (set .entry)) (now (serial .entry))) (now (image .entry)) StatusEnd r (now (image .exit)) ⌝ }
 {
-    let number = events::opening(set, serial);
+    let number = steps::opening(set, serial);
     events::reply::number(event(number, set, serial, image, Event::StatusEnd))
 }
 
@@ -76,7 +76,7 @@ pub extern "C" fn hk_status_end(set: &[u8], serial: &[u8], image: &mut [u8]) -> 
 pub extern "C" fn hk_bus_reset(set: &[u8], serial: &[u8], image: &mut [u8]) -> u8
     ensures { λ r. ⌜ Happens (lent (now (set .entry)) (now (serial .entry))) (now (image .entry)) BusReset r (now (image .exit)) ⌝ }
 {
-    let number = events::opening(set, serial);
+    let number = steps::opening(set, serial);
     events::reply::number(event(number, set, serial, image, Event::BusReset))
 }
 
@@ -85,7 +85,7 @@ pub extern "C" fn hk_bus_reset(set: &[u8], serial: &[u8], image: &mut [u8]) -> u
 pub extern "C" fn hk_halt(set: &[u8], serial: &[u8], image: &mut [u8], endpoint: u8) -> u8
     ensures { λ r. ⌜ Happens (lent (now (set .entry)) (now (serial .entry))) (now (image .entry)) (Halt endpoint) r (now (image .exit)) ⌝ }
 {
-    let number = events::opening(set, serial);
+    let number = steps::opening(set, serial);
     events::reply::number(event(number, set, serial, image, Event::Halt(endpoint)))
 }
 
@@ -94,7 +94,7 @@ pub extern "C" fn hk_halt(set: &[u8], serial: &[u8], image: &mut [u8], endpoint:
 pub extern "C" fn hk_packet_passed(set: &[u8], serial: &[u8], image: &mut [u8], endpoint: u8) -> u8
     ensures { λ r. ⌜ Happens (lent (now (set .entry)) (now (serial .entry))) (now (image .entry)) (PacketPassed endpoint) r (now (image .exit)) ⌝ }
 {
-    let number = events::opening(set, serial);
+    let number = steps::opening(set, serial);
     events::reply::number(event(number, set, serial, image, Event::PacketPassed(endpoint)))
 }
 
@@ -130,8 +130,8 @@ pub extern "C" fn hk_record_event<'a>(
     ensures { λ r. ⌜ Answers (lent (now (set .entry)) (now (serial .entry))) (spotOf ((set .entry) .ptr)) (spotOf ((serial .entry) .ptr)) (now (device .entry)) (numbered kind endpoint (now (setup .entry)))
         r (now (device .exit)) (now (bytes .exit)) (now (count .exit)) (now (now (part .exit))) (spotOf ((now (part .exit)) .ptr)) ⌝ }
 {
-    let number = events::opening(set, serial);
+    let number = steps::opening(set, serial);
     let event = numbers::event_of(kind, endpoint, setup);
-    let answer = events::step_lent(number, device, set, serial, event);
+    let answer = steps::step_lent(number, device, set, serial, event);
     numbers::hand_out(set, serial, answer, bytes, count, part)
 }

@@ -5,7 +5,8 @@ use events::reply;
 ghost use mathlib.Core.Path.{_≡_};
 ghost use Rattle.events.specs.Answer.{partOf};
 ghost use Rattle.events.specs.Places.{Inside};
-ghost use Rattle.board.specs.Statements.{lent, spotOf, Hands};
+ghost use Rattle.sets.specs.Opening.{lent};
+ghost use Rattle.board.specs.Statements.{spotOf, Hands};
 ghost use Rattle.board.specs.Lent.{numbered};
 
 // The event of a number.
@@ -34,8 +35,9 @@ pub fn hand_out<'a>(
     requires { ⌜ Inside (now set) (now serial) (partOf answer) ⌝ }
     ensures { λ r. ⌜ Hands (lent (now (set .entry)) (now (serial .entry))) (spotOf ((set .entry) .ptr)) (spotOf ((serial .entry) .ptr)) answer r (now (bytes .exit)) (now (count .exit)) (now (now (part .exit))) (spotOf ((now (part .exit)) .ptr)) ⌝ }
 {
-    *bytes = [reply::first_byte(answer), reply::second_byte(answer)];
-    *count = reply::count(answer);
+    let handed = reply::bytes_of(answer);
+    *bytes = [handed.first, handed.second];
+    *count = handed.count;
     *part = reply::part(set, serial, answer);
     reply::number(answer)
 }

@@ -1,4 +1,2 @@
 pub mod Lookups
-pub mod Configurations
 pub mod Rows
-pub mod Steps

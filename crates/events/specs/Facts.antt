@@ -1,77 +1,47 @@
 -- Working definitions for the contracts of the requests' functions; no promise cites them.
 use Prim.Native.Nat.{ℕ, _/_, _%_, _<_}
 use mathlib.Core.Path.{_≡_}
-use mathlib.Core.List.{List, [], map}
-use mathlib.Core.Bool.{Bool, true, false, _&&_, _||_}
+use mathlib.Core.Bool.{Bool, true, false, _&&_}
 use mathlib.Core.Option.{Option, some, none}
-use lib.ListN.{getD, getElem?}
 use lib.Dec.{eqb, leb}
-use Rattle.octets.specs.Sentences.{pick, only, first, member}
-use Rattle.descriptors.specs.Cut.{cut, wellCut}
-use Rattle.descriptors.specs.Configuration.{Configuration, configurationOf, hasSetting, cleared, ofEither}
+use Rattle.octets.specs.Bit.{bit}
+use Rattle.octets.specs.Sentences.{pick, first, member}
+use Rattle.descriptors.specs.Configuration.{hasInterface, hasSetting}
+use Rattle.descriptors.specs.declared.survey.Asked.{Asked}
+use Rattle.descriptors.specs.Survey.{Surveys}
 use Rattle.sets.specs.declared.Entry.{Entry}
-use Rattle.sets.specs.declared.EntryFound.{EntryFound}
-use Rattle.sets.specs.declared.EntryFound.the-variants.{At, Nothing}
-use Rattle.sets.specs.Contents.{bodyOf, bodies, entriesOf}
-use Rattle.sets.specs.Found.{found, valued}
-use Rattle.sets.specs.View.{View}
+use Rattle.sets.specs.View.{View, entryByIndex, hasValue, wakes}
 use Rattle.records.specs.declared.Device.{Device}
+use Rattle.records.specs.Change.{changed}
 use Rattle.records.specs.Current.{selected}
 use Rattle.requests.specs.declared.Setup.{Setup}
 use Rattle.events.specs.declared.Event.{Event}
 use Rattle.events.specs.declared.Event.the-variants.{Request, Malformed, StatusEnd, BusReset, Halt, PacketPassed}
-use Rattle.events.specs.declared.Located.{Located}
-use Rattle.events.specs.declared.Located.the-variants.{Body, Serial, Nowhere}
+use Rattle.events.specs.declared.facts.Facts.{Facts}
+use Rattle.events.specs.declared.facts.Located.{Located}
+use Rattle.events.specs.declared.facts.Located.the-variants.{Body, Serial, Nowhere}
+use Rattle.events.specs.declared.reaction.Reaction.{Reaction}
 use Rattle.events.specs.declared.Outcome.{Outcome}
-use Rattle.events.specs.Requests.{byRecipient, digit, deviceFeature, interfaceFeature, endpointFeature, clearHalt, setHalt, isEntry, languageFor}
+use Rattle.events.specs.Answer.{gives}
+use Rattle.events.specs.Requests.{byRecipient, digit, powering, deviceFeature, interfaceFeature, endpointFeature, clearHalt, setHalt, isEntry, languageFor}
 
--- the address of the endpoint that an event asks for
-abbrev pub asked : Event → ℕ
-asked (Request s) = s .index
-asked Malformed = 0
-asked StatusEnd = 0
-asked BusReset = 0
-asked (Halt a) = a
-asked (PacketPassed a) = a
+-- ---- a reaction to an event at a record
+abbrev pub outcomeOf : Reaction → Device → Outcome
+outcomeOf r d = gives (r .answer) (changed (r .next) d)
 
 -- an endpoint halted, or its halt and toggle cleared
-abbrev pub changed : Bool → Device → ℕ → Device
-changed true = setHalt
-changed false = clearHalt
+abbrev pub withHalt : Bool → Device → ℕ → Device
+withHalt true = setHalt
+withHalt false = clearHalt
 
 -- a feature of the recipient, set or cleared
 abbrev pub feature : Bool → View → Device → Setup → Outcome
-feature on v d s = byRecipient s (deviceFeature (digit on) v d s) (interfaceFeature v d s) (endpointFeature (changed on) v d s)
-
--- ---- the configurations of a set
-abbrev pub configurationsIn : List ℕ → List Configuration
-configurationsIn set = map configurationOf (bodies 2 set)
-
--- the body of an entry that was looked up; empty where there is none
-abbrev pub bodyFound : List ℕ → EntryFound → List ℕ
-bodyFound set Nothing = []
-bodyFound set (At e) = bodyOf set e
-
--- the body of the configuration with a value, and of the one at index 0
-abbrev pub selectedBody : List ℕ → ℕ → List ℕ
-selectedBody set value = bodyFound set (found (first (valued set value) (entriesOf 2 set)))
-
-abbrev pub firstBody : List ℕ → List ℕ
-firstBody set = bodyFound set (found (getElem? (entriesOf 2 set) 0))
-
--- what requests rest on in the selected configuration's body: it is well cut, and its numbers are small
-pub record Usable (body : List ℕ) : Type 0 where
-  pub whole : wellCut (cut body) ≡ true
-  pub small : (j a : ℕ) → hasSetting (configurationOf body) j a ≡ true → (j < 16) × (a < 16)
+feature on v d s = byRecipient s (deviceFeature (digit on) v d s) (interfaceFeature v d s) (endpointFeature (withHalt on) v d s)
 
 -- ---- where a descriptor lies
 abbrev pub bodyAt : Option Entry → Located
 bodyAt none = Nowhere
 bodyAt (some e) = Body (e .offset) (e .length)
-
-abbrev pub located : EntryFound → Located
-located Nothing = Nowhere
-located (At e) = Body (e .offset) (e .length)
 
 -- the string with an index, in a language
 abbrev pub locateString : View → ℕ → ℕ → Located
@@ -83,11 +53,34 @@ locateString v index language =
 abbrev pub locate : View → Setup → Located
 locate v s =
     pick (eqb (s .value / 256) 3) (locateString v (s .value % 256) (s .index))
-    (pick (eqb (s .value / 256) 1 || eqb (s .value / 256) 2)
-    (bodyAt (first (isEntry (s .value / 256) (s .value % 256) 0) (v .entries)))
-    Nowhere)
+    (pick (eqb (s .value / 256) 2) (bodyAt (entryByIndex (record { 0 = s .value % 256 }) (v .entries)))
+    (pick (eqb (s .value / 256) 1) (bodyAt (first (isEntry 1 (s .value % 256) 0) (v .entries)))
+    Nowhere))
 
--- ---- the record
--- a word of the record without the endpoints of an interface's old and new setting
-abbrev pub withoutSetting : View → Device → ℕ → ℕ → ℕ → ℕ
-withoutSetting v d j a word = cleared (only (ofEither j (getD (d .alternates) j 0) a) (selected v d .endpoints)) word
+-- ---- what is asked of a board
+-- an event's question, put as a setup: that of a function event names its endpoint, that of other events nothing
+abbrev pub naming : ℕ → Setup
+naming address = record { kind = 0; code = 0; value = 0; index = address; length = 0 }
+
+abbrev pub questionOf : Event → Setup
+questionOf (Request s) = s
+questionOf Malformed = naming 0
+questionOf StatusEnd = naming 0
+questionOf BusReset = naming 0
+questionOf (Halt a) = naming a
+questionOf (PacketPassed a) = naming a
+
+-- what it asks of the selected configuration
+abbrev pub askedBy : Setup → Asked
+askedBy s = record { address = s .index; interface = s .index; alternate = s .value }
+
+-- facts are true of a view, at a record, for a question; two are told only to the request that asks
+pub record Tells (v : View) (d : Device) (s : Setup) (f : Facts) : Type 0 where
+  pub configured : f .configured ≡ hasValue (record { 0 = d .configuration }) (v .configurations)
+  pub waking : f .waking ≡ wakes v
+  pub powered : f .powered ≡ bit (powering v d .attributes) 6
+  pub surveyed : Surveys (selected v d) (d .alternates) (askedBy s) (f .survey)
+  pub interface : f .interface ≡ hasInterface (selected v d) (s .index)
+  pub small : hasSetting (selected v d) (s .index) (s .value) ≡ true → (s .index < 16) × (s .value < 16)
+  pub configuration : s .code ≡ 0x09 → s .value < 256 → f .configuration ≡ hasValue (record { 0 = s .value }) (v .configurations)
+  pub located : s .code ≡ 0x06 → f .located ≡ locate v s

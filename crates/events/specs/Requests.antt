@@ -7,12 +7,11 @@ use mathlib.Core.Option.{Option, some, none}
 use lib.ListN.{getD, set}
 use lib.Dec.{eqb, leb}
 use Rattle.octets.specs.Bit.{bit, setBit, clearBit}
-use Rattle.octets.specs.Sentences.{pick, any, only, first, member}
+use Rattle.octets.specs.Sentences.{pick, only, first, member}
 use Rattle.descriptors.specs.declared.Endpoint.{Endpoint}
-use Rattle.descriptors.specs.declared.ConfigurationIndex.{ConfigurationIndex}
 use Rattle.descriptors.specs.Configuration.{Configuration, hasInterface, hasSetting, canHalt, bitOf, cleared, ofEither}
 use Rattle.sets.specs.declared.Entry.{Entry}
-use Rattle.sets.specs.View.{View, byIndex, wakes}
+use Rattle.sets.specs.View.{View, entryByIndex, byIndex, hasValue, wakes}
 use Rattle.records.specs.declared.Device.{Device}
 use Rattle.records.specs.Device.{inAddress, inConfigured, withWaiting, withWakeup, withConfiguration, withEndpoints}
 use Rattle.records.specs.Current.{selected, endpointAt}
@@ -118,9 +117,9 @@ getString v d index language asked =
 unfoldable pub getDescriptor : View → Device → Setup → Outcome
 getDescriptor v d s =
     pick (eqb (s .value / 256) 3) (getString v d (s .value % 256) (s .index) (s .length))
-    (pick (eqb (s .value / 256) 1 || eqb (s .value / 256) 2)
-    (setPart d (s .length) (first (isEntry (s .value / 256) (s .value % 256) 0) (v .entries)))
-    (refused 13 d))
+    (pick (eqb (s .value / 256) 2) (setPart d (s .length) (entryByIndex (record { 0 = s .value % 256 }) (v .entries)))
+    (pick (eqb (s .value / 256) 1) (setPart d (s .length) (first (isEntry 1 (s .value % 256) 0) (v .entries)))
+    (refused 13 d)))
 
 -- ---- GET_CONFIGURATION
 unfoldable pub getConfiguration : View → Device → Setup → Outcome
@@ -130,7 +129,7 @@ getConfiguration v d s = gives (OneByte (d .configuration)) d
 unfoldable pub setConfiguration : View → Device → Setup → Outcome
 setConfiguration v d s =
     pick (eqb (s .value) 0) (done (withConfiguration inAddress 0 d))
-    (pick (any (λ c. eqb (c .value) (s .value)) (v .configurations)) (done (withConfiguration inConfigured (s .value) d)) (refused 13 d))
+    (pick (hasValue (record { 0 = s .value }) (v .configurations)) (done (withConfiguration inConfigured (s .value) d)) (refused 13 d))
 
 -- ---- GET_INTERFACE
 unfoldable pub getInterface : View → Device → Setup → Outcome

@@ -24,54 +24,36 @@ pub fn number(answer: Answer) -> u8
     }
 }
 
-// How many bytes are handed back.
-pub fn count(answer: Answer) -> u8
-    ensures { λ r. ⌜ r ≡ length (bytesOf answer) ⌝ }
+// The bytes handed back: how many, and the first and the second, or 0.
+pub struct Handed {
+    pub count: u8,
+    pub first: u8,
+    pub second: u8,
+}
+
+fn hands(count: u8, first: u8, second: u8) -> Handed
+    ensures { λ r. ⌜ r ≡ record { count = count; first = first; second = second } ⌝ }
 {
-    match answer {
-        Answer::Done => 0,
-        Answer::OneByte(_) => 1,
-        Answer::TwoBytes(_, _) => 2,
-        Answer::SetPart {
-            offset: _,
-            length: _,
-        } => 0,
-        Answer::SerialPart { length: _ } => 0,
-        Answer::Refused(_) => 0,
+    Handed {
+        count,
+        first,
+        second,
     }
 }
 
-// The first of them, or 0.
-pub fn first_byte(answer: Answer) -> u8
-    ensures { λ r. ⌜ r ≡ byte (bytesOf answer) 0 ⌝ }
+pub fn bytes_of(answer: Answer) -> Handed
+    ensures { λ r. ⌜ r ≡ record { count = length (bytesOf answer); first = byte (bytesOf answer) 0; second = byte (bytesOf answer) 1 } ⌝ }
 {
     match answer {
-        Answer::Done => 0,
-        Answer::OneByte(first) => first,
-        Answer::TwoBytes(first, _) => first,
+        Answer::Done => hands(0, 0, 0),
+        Answer::OneByte(first) => hands(1, first, 0),
+        Answer::TwoBytes(first, second) => hands(2, first, second),
         Answer::SetPart {
             offset: _,
             length: _,
-        } => 0,
-        Answer::SerialPart { length: _ } => 0,
-        Answer::Refused(_) => 0,
-    }
-}
-
-// The second of them, or 0.
-pub fn second_byte(answer: Answer) -> u8
-    ensures { λ r. ⌜ r ≡ byte (bytesOf answer) 1 ⌝ }
-{
-    match answer {
-        Answer::Done => 0,
-        Answer::OneByte(_) => 0,
-        Answer::TwoBytes(_, second) => second,
-        Answer::SetPart {
-            offset: _,
-            length: _,
-        } => 0,
-        Answer::SerialPart { length: _ } => 0,
-        Answer::Refused(_) => 0,
+        } => hands(0, 0, 0),
+        Answer::SerialPart { length: _ } => hands(0, 0, 0),
+        Answer::Refused(_) => hands(0, 0, 0),
     }
 }
 

@@ -1,133 +1,234 @@
-// The standard requests: each gathers what it has to know of the board and gives the outcome. `body` is the selected configuration's, and
-// `endpoint` the one of its current settings that the setup's index names.
-use crate::Outcome;
-use crate::facts;
-use crate::outcomes;
-use descriptors::ConfigurationValue;
-use descriptors::lookup;
+// The standard requests, past the table's refusals: each is a function of the facts, the record and the setup, and its contract says that for every
+// view of which the facts are true the outcome is the definition's.
+use crate::Answer;
+use crate::endpoint;
+use crate::facts::Facts;
+use crate::facts::Located;
+use crate::reaction::Reaction;
+use crate::reaction::done;
+use crate::reaction::gives;
+use crate::reaction::refused;
 use descriptors::lookup::EndpointFound;
+use records::Change;
 use records::Device;
+use records::Settings;
 use requests::Setup;
 ghost use mathlib.Core.Path.{_≡_};
-ghost use mathlib.Core.Bool.{true};
-ghost use Prim.Native.Nat.{_<_};
-ghost use Rattle.descriptors.specs.Cut.{cut, wellCut};
-ghost use Rattle.descriptors.specs.Configuration.{configurationOf};
-ghost use Rattle.descriptors.specs.Lookup.{found};
-ghost use Rattle.sets.specs.View.{View, viewOf};
-ghost use Rattle.records.specs.Current.{selected, endpointAt};
-ghost use Rattle.events.specs.Requests.{getStatus, clearFeature, setFeature, getDescriptor, setConfiguration, getInterface, setInterface};
-ghost use Rattle.events.specs.Facts.{configurationsIn, Usable, feature};
+ghost use Prim.Native.Nat.{_<_, min};
+ghost use Rattle.sets.specs.View.{View, hasValue, wakes};
+ghost use Rattle.records.specs.Device.{withConfiguration};
+ghost use Rattle.records.specs.Change.{changed};
+ghost use Rattle.events.specs.Requests.{digit, getStatus, deviceFeature, endpointFeature, clearFeature, setFeature, setAddress, getDescriptor, getConfiguration, setConfiguration, getInterface, setInterface};
+ghost use Rattle.events.specs.Facts.{Tells, withHalt, feature, locate, outcomeOf};
 
-// GET_STATUS
-pub fn get_status(
-    set: &[u8],
-    body: &[u8],
-    endpoint: EndpointFound,
-    device: Device,
-    setup: Setup,
-) -> Outcome
-    requires { ⌜ wellCut (cut (now body)) ≡ true ⌝ }
+// GET_STATUS: of the device its supply and wakeup, of an interface 0, of an endpoint its halt.
+pub fn get_status(facts: Facts, device: Device, setup: Setup) -> Reaction
     requires { ⌜ device .wakeup < 2 ⌝ }
-    ensures { λ r. ⌜ ((v : View) → v .configurations ≡ configurationsIn (now (set .entry)) → configurationOf (now (body .entry)) ≡ selected v device
-        → endpoint ≡ found (endpointAt v device (setup .index)) → r ≡ getStatus v device setup) ⌝ }
+    ensures { λ r. ⌜ ((v : View) → Tells v device setup facts → outcomeOf r device ≡ getStatus v device setup) ⌝ }
 {
     let recipient = setup.kind % 32;
     if recipient == 0 {
-        return outcomes::get_device_status(device, facts::powered(set, body, device));
+        return gives(
+            Answer::TwoBytes(facts.powered as u8 + 2 * device.wakeup, 0),
+            device,
+        );
     }
     if recipient == 1 {
-        return outcomes::get_interface_status(device, lookup::has_interface(body, setup.index));
+        if facts.interface {
+            return gives(Answer::TwoBytes(0, 0), device);
+        }
+        return refused(13, device);
     }
-    outcomes::get_endpoint_status(device, setup.index, endpoint)
+    if endpoint::is_zero(setup.index) {
+        return gives(Answer::TwoBytes(0, 0), device);
+    }
+    let survey = facts.survey;
+    let asked = survey.endpoint;
+    match asked {
+        EndpointFound::Nothing => refused(13, device),
+        EndpointFound::At(e) => gives(
+            Answer::TwoBytes(endpoint::is_halted(device, e) as u8, 0),
+            device,
+        ),
+    }
 }
 
-// A feature of the recipient, set or cleared.
-fn feature(
-    on: bool,
-    set: &[u8],
-    body: &[u8],
-    endpoint: EndpointFound,
-    device: Device,
-    setup: Setup,
-) -> Outcome
-    requires { ⌜ wellCut (cut (now body)) ≡ true ⌝ }
-    ensures { λ r. ⌜ ((v : View) → v .configurations ≡ configurationsIn (now (set .entry)) → configurationOf (now (body .entry)) ≡ selected v device
-        → endpoint ≡ found (endpointAt v device (setup .index)) → r ≡ feature on v device setup) ⌝ }
+// The device's feature: wakeup, if the device can wake the host.
+fn device_feature(on: bool, facts: Facts, device: Device, setup: Setup) -> Reaction
+    ensures { λ r. ⌜ ((v : View) → facts .waking ≡ wakes v → outcomeOf r device ≡ deviceFeature (digit on) v device setup) ⌝ }
+{
+    if (setup.value == 1) & facts.waking {
+        let mut next = records::kept(device);
+        next.wakeup = on as u8;
+        return done(next);
+    }
+    refused(14, device)
+}
+
+// An endpoint's feature: its halt.
+fn endpoint_feature(on: bool, facts: Facts, device: Device, setup: Setup) -> Reaction
+    ensures { λ r. ⌜ ((v : View) → Tells v device setup facts → outcomeOf r device ≡ endpointFeature (withHalt on) v device setup) ⌝ }
+{
+    if endpoint::is_zero(setup.index) {
+        return refused(14, device);
+    }
+    let survey = facts.survey;
+    let asked = survey.endpoint;
+    match asked {
+        EndpointFound::Nothing => refused(13, device),
+        EndpointFound::At(e) => {
+            if (setup.value == 0) & endpoint::can_halt(e) {
+                return done(endpoint::with_halt(on, device, e));
+            }
+            refused(14, device)
+        }
+    }
+}
+
+// A feature of the recipient, set or cleared; an interface has none.
+fn feature(on: bool, facts: Facts, device: Device, setup: Setup) -> Reaction
+    ensures { λ r. ⌜ ((v : View) → Tells v device setup facts → outcomeOf r device ≡ feature on v device setup) ⌝ }
 {
     let recipient = setup.kind % 32;
     if recipient == 0 {
-        return outcomes::device_feature(on, device, setup, sets::configuration::wakes(set));
+        return device_feature(on, facts, device, setup);
     }
     if recipient == 1 {
-        return outcomes::interface_feature(device, setup, lookup::has_interface(body, setup.index));
+        if facts.interface {
+            return refused(14, device);
+        }
+        return refused(13, device);
     }
-    outcomes::endpoint_feature(on, device, setup, endpoint)
+    endpoint_feature(on, facts, device, setup)
 }
 
 // CLEAR_FEATURE
-pub fn clear_feature(
-    set: &[u8],
-    body: &[u8],
-    endpoint: EndpointFound,
-    device: Device,
-    setup: Setup,
-) -> Outcome
-    requires { ⌜ wellCut (cut (now body)) ≡ true ⌝ }
-    ensures { λ r. ⌜ ((v : View) → v .configurations ≡ configurationsIn (now (set .entry)) → configurationOf (now (body .entry)) ≡ selected v device
-        → endpoint ≡ found (endpointAt v device (setup .index)) → r ≡ clearFeature v device setup) ⌝ }
+pub fn clear_feature(facts: Facts, device: Device, setup: Setup) -> Reaction
+    ensures { λ r. ⌜ ((v : View) → Tells v device setup facts → outcomeOf r device ≡ clearFeature v device setup) ⌝ }
 {
-    feature(false, set, body, endpoint, device, setup)
+    feature(false, facts, device, setup)
 }
 
 // SET_FEATURE
-pub fn set_feature(
-    set: &[u8],
-    body: &[u8],
-    endpoint: EndpointFound,
-    device: Device,
-    setup: Setup,
-) -> Outcome
-    requires { ⌜ wellCut (cut (now body)) ≡ true ⌝ }
-    ensures { λ r. ⌜ ((v : View) → v .configurations ≡ configurationsIn (now (set .entry)) → configurationOf (now (body .entry)) ≡ selected v device
-        → endpoint ≡ found (endpointAt v device (setup .index)) → r ≡ setFeature v device setup) ⌝ }
+pub fn set_feature(facts: Facts, device: Device, setup: Setup) -> Reaction
+    ensures { λ r. ⌜ ((v : View) → Tells v device setup facts → outcomeOf r device ≡ setFeature v device setup) ⌝ }
 {
-    feature(true, set, body, endpoint, device, setup)
+    feature(true, facts, device, setup)
 }
 
-// GET_DESCRIPTOR
-pub fn get_descriptor(set: &[u8], serial: &[u8], device: Device, setup: Setup) -> Outcome
-    ensures { λ r. ⌜ r ≡ getDescriptor (viewOf (record { set = now (set .entry); serial = now (serial .entry) })) device setup ⌝ }
-{
-    outcomes::get_descriptor(device, setup, facts::locate(set, serial, setup))
-}
-
-// SET_CONFIGURATION
-pub fn set_configuration(set: &[u8], device: Device, setup: Setup) -> Outcome
+// SET_ADDRESS: the address waits for the status end.
+pub fn set_address(device: Device, setup: Setup) -> Reaction
     requires { ⌜ setup .value < 256 ⌝ }
-    ensures { λ r. ⌜ ((v : View) → v .configurations ≡ configurationsIn (now (set .entry)) → r ≡ setConfiguration v device setup) ⌝ }
+    ensures { λ r. ⌜ ((v : View) → outcomeOf r device ≡ setAddress v device setup) ⌝ }
 {
-    let there = facts::has_configuration(set, ConfigurationValue(setup.value as u8));
-    outcomes::set_configuration(device, setup, there)
+    let mut next = records::kept(device);
+    next.waiting = setup.value as u8;
+    done(next)
+}
+
+fn least(a: usize, b: u16) -> usize
+    ensures { λ r. ⌜ r ≡ min a b ⌝ }
+{
+    if a < b as usize {
+        return a;
+    }
+    b as usize
+}
+
+// GET_DESCRIPTOR: never more than wLength bytes, from the start of the body.
+pub fn get_descriptor(facts: Facts, device: Device, setup: Setup) -> Reaction
+    ensures { λ r. ⌜ ((v : View) → facts .located ≡ locate v setup → outcomeOf r device ≡ getDescriptor v device setup) ⌝ }
+{
+    let located = facts.located;
+    match located {
+        Located::Body { offset, length } => {
+            let length = least(length, setup.length);
+            gives(Answer::SetPart { offset, length }, device)
+        }
+        Located::Serial { length } => {
+            let length = least(length, setup.length);
+            gives(Answer::SerialPart { length }, device)
+        }
+        Located::Nowhere => refused(13, device),
+    }
+}
+
+// GET_CONFIGURATION
+pub fn get_configuration(device: Device) -> Reaction
+    ensures { λ r. ⌜ ((v : View) (s : Setup) → outcomeOf r device ≡ getConfiguration v device s) ⌝ }
+{
+    gives(Answer::OneByte(device.configuration), device)
+}
+
+// Another state and configuration, with every setting, halt and toggle 0.
+fn with_configuration(state: u8, value: u8, device: Device) -> Change
+    ensures { λ r. ⌜ changed r device ≡ withConfiguration state value device ⌝ }
+{
+    Change {
+        state,
+        address: device.address,
+        waiting: device.waiting,
+        configuration: value,
+        wakeup: device.wakeup,
+        power: device.power,
+        suspended: device.suspended,
+        speed: device.speed,
+        settings: Settings::Cleared,
+        halts: 0,
+        toggles: 0,
+    }
+}
+
+// SET_CONFIGURATION by value; 0 leads to Address.
+pub fn set_configuration(facts: Facts, device: Device, setup: Setup) -> Reaction
+    requires { ⌜ setup .value < 256 ⌝ }
+    ensures { λ r. ⌜ ((v : View) → facts .configuration ≡ hasValue (record { 0 = setup .value }) (v .configurations) → outcomeOf r device ≡ setConfiguration v device setup) ⌝ }
+{
+    let value = setup.value as u8;
+    if value == 0 {
+        return done(with_configuration(1, 0, device));
+    }
+    if facts.configuration {
+        return done(with_configuration(2, value, device));
+    }
+    refused(13, device)
 }
 
 // GET_INTERFACE
-pub fn get_interface(body: &[u8], device: Device, setup: Setup) -> Outcome
-    requires { ⌜ wellCut (cut (now body)) ≡ true ⌝ }
-    ensures { λ r. ⌜ ((v : View) → configurationOf (now (body .entry)) ≡ selected v device → r ≡ getInterface v device setup) ⌝ }
+pub fn get_interface(facts: Facts, device: Device, setup: Setup) -> Reaction
+    ensures { λ r. ⌜ ((v : View) → Tells v device setup facts → outcomeOf r device ≡ getInterface v device setup) ⌝ }
 {
-    outcomes::get_interface(device, setup, lookup::has_interface(body, setup.index))
+    if facts.interface {
+        let alternates = device.alternates;
+        let alternate = octets::peek(&alternates[..], setup.index as usize);
+        return gives(Answer::OneByte(alternate), device);
+    }
+    refused(13, device)
 }
 
-// SET_INTERFACE
-pub fn set_interface(body: &[u8], device: Device, setup: Setup) -> Outcome
-    requires { ⌜ Usable (now body) ⌝ }
-    ensures { λ r. ⌜ ((v : View) → configurationOf (now (body .entry)) ≡ selected v device → r ≡ setInterface v device setup) ⌝ }
+// SET_INTERFACE: halts and toggles of the endpoints of the old and the new setting are cleared. A setting that is there has small numbers.
+pub fn set_interface(facts: Facts, device: Device, setup: Setup) -> Reaction
+    ensures { λ r. ⌜ ((v : View) → Tells v device setup facts → outcomeOf r device ≡ setInterface v device setup) ⌝ }
 {
-    let alternates = device.alternates;
-    let old = octets::peek(&alternates[..], setup.index as usize);
-    let change = lookup::setting_change(body, setup.index, old, setup.value);
-    let halts = lookup::without(device.halts, change.bits);
-    let toggles = lookup::without(device.toggles, change.bits);
-    outcomes::set_interface(device, setup, change.there, halts, toggles)
+    let survey = facts.survey;
+    if survey.there {
+        let settings = Settings::Put {
+            interface: (setup.index % 16) as u8,
+            alternate: (setup.value % 16) as u8,
+        };
+        return done(Change {
+            state: device.state,
+            address: device.address,
+            waiting: device.waiting,
+            configuration: device.configuration,
+            wakeup: device.wakeup,
+            power: device.power,
+            suspended: device.suspended,
+            speed: device.speed,
+            settings,
+            halts: endpoint::without(device.halts, survey.bits),
+            toggles: endpoint::without(device.toggles, survey.bits),
+        });
+    }
+    refused(13, device)
 }

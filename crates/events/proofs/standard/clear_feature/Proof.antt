@@ -1,15 +1,15 @@
--- `events::standard::clear_feature` meets its contract: the feature is cleared. Assumes nothing.
+-- `events::standard::clear_feature` meets its contract: a feature that is cleared. Assumes nothing.
 use borrow.Author.Needs.{needs}
 use Rattle.events.specs.Requests.{clearFeature}
-use Rattle.events.proofs.standard.clear_feature.Statement.{statement}
 use Rattle.events.proofs.standard.clear_feature.Tie as tie
+use Rattle.events.proofs.standard.clear_feature.Statement.{statement}
 
 feature-requires : tie.Need-feature-requires
 feature-requires c κs = search needs
 
 returns : tie.Need-returns
 unfolding clearFeature
-returns c = c .feature .ensures
+returns c = λ v t. c .feature .ensures v t
 
 pub clear-feature-spec : {M : Type 1} → statement M
 clear-feature-spec = tie.close (tie.spec feature-requires returns)

@@ -1,17 +1,54 @@
 -- `events::standard::get_descriptor` meets its contract: by where the descriptor lies. Assumes nothing.
 use borrow.Author.Needs.{needs}
-use Rattle.sets.specs.View.{viewOf}
+use Rattle.events.proofs.Lookups.{described}
 use Rattle.events.proofs.standard.get_descriptor.Statement.{statement}
 use Rattle.events.proofs.standard.get_descriptor.Tie as tie
 
-locate-requires : tie.Need-locate-requires
-locate-requires c κs = search needs
+enum-known-located : tie.Need-enum-known-located
+enum-known-located c = search needs
 
-get-descriptor-requires : tie.Need-get-descriptor-requires
-get-descriptor-requires c κs = search needs
+least-requires : tie.Need-least-requires
+least-requires c κs = search needs
+
+gives-requires : tie.Need-gives-requires
+gives-requires c κs = search needs
+
+enum-known-located-2 : tie.Need-enum-known-located-2
+enum-known-located-2 c = search needs
+
+least-requires-2 : tie.Need-least-requires-2
+least-requires-2 c κs = search needs
+
+gives-requires-2 : tie.Need-gives-requires-2
+gives-requires-2 c κs = search needs
+
+enum-told : tie.Need-enum-told
+enum-told c = search needs
+
+refused-requires : tie.Need-refused-requires
+refused-requires c κs = search needs
 
 returns : tie.Need-returns
-returns c = c .get-descriptor .ensures (viewOf (record { set = c .before .before .before .before .args .set .now; serial = c .before .before .before .before .args .serial .now })) (c .before .locate .ensures)
+returns c = λ v e. rw (c .gives .ensures, c .before .least .ensures, described v, ← e, c .before .before .before .located .given .1)
+
+returns-2 : tie.Need-returns-2
+returns-2 c = λ v e. rw (c .gives2 .ensures, c .before .least2 .ensures, described v, ← e, c .before .before .before .located2 .given .1)
+
+returns-3 : tie.Need-returns-3
+returns-3 c = λ v e. rw (c .refused .ensures, described v, ← e, c .before .enum-told .given .1)
 
 pub get-descriptor-spec : {M : Type 1} → statement M
-get-descriptor-spec = tie.close (tie.spec locate-requires get-descriptor-requires returns)
+get-descriptor-spec =
+    tie.close
+    (tie.spec
+    enum-known-located
+    least-requires
+    gives-requires
+    enum-known-located-2
+    least-requires-2
+    gives-requires-2
+    enum-told
+    refused-requires
+    returns
+    returns-2
+    returns-3)

@@ -1,23 +1,50 @@
--- `events::standard::set_configuration` meets its contract: by whether a configuration has the value. Assumes nothing.
-use mathlib.Core.Path.{sym, ap, _∙_}
+-- `events::standard::set_configuration` meets its contract: by the value, and whether a configuration has it. Assumes nothing.
 use borrow.Author.Needs.{needs}
-use lib.Dec.{eqb}
-use Rattle.octets.specs.Sentences.{any}
-use Rattle.events.proofs.standard.set_configuration.Statement.{statement}
+use borrow.Author.Tests.{eq-eqb, ne-eqb}
+use Rattle.events.specs.Requests.{setConfiguration}
 use Rattle.events.proofs.standard.set_configuration.Tie as tie
+use Rattle.events.proofs.standard.set_configuration.Statement.{statement}
 
-cast-t5 : tie.Need-cast-t5
-cast-t5 c = search needs
+cast-value : tie.Need-cast-value
+cast-value c = search needs
 
-has-configuration-requires : tie.Need-has-configuration-requires
-has-configuration-requires c κs = search needs
+with-configuration-requires : tie.Need-with-configuration-requires
+with-configuration-requires c κs = search needs
 
-set-configuration-requires : tie.Need-set-configuration-requires
-set-configuration-requires c κs = search needs
+done-requires : tie.Need-done-requires
+done-requires c κs = search needs
 
 returns : tie.Need-returns
-returns c = λ v p. c .set-configuration .ensures v (c .before .has-configuration .ensures ∙ ap (any (λ x. eqb (x .value) (c .before .before .before .before .args .setup .value))) (sym p))
+unfolding setConfiguration
+returns c = λ v e. rw (c .done .ensures, c .before .with-configuration .ensures, eq-eqb _ _ (c .before .before .if1 .taken))
+
+with-configuration-requires-2 : tie.Need-with-configuration-requires-2
+with-configuration-requires-2 c κs = search needs
+
+done-requires-2 : tie.Need-done-requires-2
+done-requires-2 c κs = search needs
+
+returns-2 : tie.Need-returns-2
+unfolding setConfiguration
+returns-2 c = λ v e. rw (c .done2 .ensures, c .before .with-configuration2 .ensures, ne-eqb _ _ (c .before .before .before .if1 .left), ← e, c .before .before .if2 .taken)
+
+refused-requires : tie.Need-refused-requires
+refused-requires c κs = search needs
+
+returns-3 : tie.Need-returns-3
+unfolding setConfiguration
+returns-3 c = λ v e. rw (c .refused .ensures, ne-eqb _ _ (c .before .before .if1 .left), ← e, c .before .if2 .left)
 
 pub set-configuration-spec : {M : Type 1} → statement M
 set-configuration-spec =
-    tie.close (tie.spec cast-t5 has-configuration-requires set-configuration-requires returns)
+    tie.close
+    (tie.spec
+    cast-value
+    with-configuration-requires
+    done-requires
+    returns
+    with-configuration-requires-2
+    done-requires-2
+    returns-2
+    refused-requires
+    returns-3)

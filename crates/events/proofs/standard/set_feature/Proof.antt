@@ -1,15 +1,15 @@
--- `events::standard::set_feature` meets its contract: the feature is set. Assumes nothing.
+-- `events::standard::set_feature` meets its contract: a feature that is set. Assumes nothing.
 use borrow.Author.Needs.{needs}
 use Rattle.events.specs.Requests.{setFeature}
-use Rattle.events.proofs.standard.set_feature.Statement.{statement}
 use Rattle.events.proofs.standard.set_feature.Tie as tie
+use Rattle.events.proofs.standard.set_feature.Statement.{statement}
 
 feature-requires : tie.Need-feature-requires
 feature-requires c κs = search needs
 
 returns : tie.Need-returns
 unfolding setFeature
-returns c = c .feature .ensures
+returns c = λ v t. c .feature .ensures v t
 
 pub set-feature-spec : {M : Type 1} → statement M
 set-feature-spec = tie.close (tie.spec feature-requires returns)

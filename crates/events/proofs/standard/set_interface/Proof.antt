@@ -1,25 +1,21 @@
--- `events::standard::set_interface` meets its contract: by whether the setting is there, with the words cleared of its endpoints. Assumes nothing.
-use mathlib.Core.Path.{sym, _∙_}
-use native.Mathlib.Omega.{arith}
-use lib.ListN.{getD}
-use Rattle.octets.specs.Sentences.{only}
-use Rattle.descriptors.specs.Configuration.{ofEither}
-use Rattle.records.specs.Current.{selected}
+-- `events::standard::set_interface` meets its contract: by whether the setting is there; its numbers are small. Assumes nothing.
 use borrow.Author.Needs.{needs}
-use Rattle.events.proofs.standard.set_interface.Statement.{statement}
+use borrow.Author.Tests.{lt-ltb}
+use mathlib.Core.Path.{sym, _∙_}
+use lib.ListN.{getD}
+use Rattle.descriptors.specs.Configuration.{ofEither}
+use Rattle.octets.specs.Sentences.{only}
+use Rattle.records.specs.Current.{selected}
+use Rattle.events.specs.Requests.{setInterface}
+use Rattle.events.proofs.Lookups.{small-mod}
 use Rattle.events.proofs.standard.set_interface.Tie as tie
+use Rattle.events.proofs.standard.set_interface.Statement.{statement}
 
-slice-aggregate-peek : tie.Need-slice-aggregate-peek
-slice-aggregate-peek c = search needs
+cast-t8 : tie.Need-cast-t8
+cast-t8 c = search needs
 
-cast-peek : tie.Need-cast-peek
-cast-peek c = search needs
-
-peek-requires : tie.Need-peek-requires
-peek-requires c κs = search needs
-
-setting-change-requires : tie.Need-setting-change-requires
-setting-change-requires c κs = search needs
+cast-t10 : tie.Need-cast-t10
+cast-t10 c = search needs
 
 without-requires : tie.Need-without-requires
 without-requires c κs = search needs
@@ -27,25 +23,33 @@ without-requires c κs = search needs
 without-requires-2 : tie.Need-without-requires-2
 without-requires-2 c κs = search needs
 
-set-interface-requires : tie.Need-set-interface-requires
-set-interface-requires c κs = λ t. let (i, a) = c .before .before .before .before .before .before .before .before .pre .small (c .before .before .before .before .before .before .before .before .args .setup .index) (c .before .before .before .before .before .before .before .before .args .setup .value) (sym (c .before .before .setting-change .ensures .there) ∙ t) in (i, omega arith)
+done-requires : tie.Need-done-requires
+done-requires c κs = search needs
 
 returns : tie.Need-returns
-returns c = λ v q.
-    let a = c .before .before .before .before .before .before .before .before .before .args in
+unfolding setInterface
+returns c = λ v t.
+    let a = c .before .before .before .before .before .before .before .args in
+    let (j, n) = t .small (sym (t .surveyed .there) ∙ c .before .before .before .before .before .if1 .taken) in
     let es = only (ofEither (a .setup .index) (getD (a .device .alternates) (a .setup .index) 0) (a .setup .value)) (selected v (a .device) .endpoints) in
-    let change = rw (c .before .before .before .before .peek .ensures, q) at (c .before .before .before .setting-change .ensures) in
-    c .set-interface .ensures v (change .there) (c .before .before .without .ensures es (change .bits)) (c .before .without2 .ensures es (change .bits))
+    rw (c .done .ensures, c .before .before .without .ensures es (t .surveyed .bits), c .before .without2 .ensures es (t .surveyed .bits), ← t .surveyed .there, c .before .before .before .before .before .if1 .taken, small-mod j, small-mod n, lt-ltb _ _ j)
+
+refused-requires : tie.Need-refused-requires
+refused-requires c κs = search needs
+
+returns-2 : tie.Need-returns-2
+unfolding setInterface
+returns-2 c = λ v t. rw (c .refused .ensures, ← t .surveyed .there, c .before .if1 .left)
 
 pub set-interface-spec : {M : Type 1} → statement M
 set-interface-spec =
     tie.close
     (tie.spec
-    slice-aggregate-peek
-    cast-peek
-    peek-requires
-    setting-change-requires
+    cast-t8
+    cast-t10
     without-requires
     without-requires-2
-    set-interface-requires
-    returns)
+    done-requires
+    returns
+    refused-requires
+    returns-2)

@@ -1,0 +1,15 @@
+-- `events::standard::get_configuration` meets its contract: the record's value. Assumes nothing.
+use borrow.Author.Needs.{needs}
+use Rattle.events.specs.Requests.{getConfiguration}
+use Rattle.events.proofs.standard.get_configuration.Tie as tie
+use Rattle.events.proofs.standard.get_configuration.Statement.{statement}
+
+gives-requires : tie.Need-gives-requires
+gives-requires c κs = search needs
+
+returns : tie.Need-returns
+unfolding getConfiguration
+returns c = λ v s. c .gives .ensures
+
+pub get-configuration-spec : {M : Type 1} → statement M
+get-configuration-spec = tie.close (tie.spec gives-requires returns)

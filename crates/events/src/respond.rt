@@ -1,0 +1,105 @@
+// From an event on a record that fits to its reaction.
+use crate::Event;
+use crate::endpoint;
+use crate::facts::Facts;
+use crate::reaction::Reaction;
+use crate::reaction::done;
+use crate::reaction::refused;
+use crate::standard;
+use records::Change;
+use records::Device;
+use records::Settings;
+use requests::Setup;
+ghost use mathlib.Core.Path.{_≡_};
+ghost use Prim.Native.Nat.{_<_};
+ghost use Rattle.sets.specs.View.{View};
+ghost use Rattle.records.specs.Device.{fresh};
+ghost use Rattle.requests.specs.Table.{refusal};
+ghost use Rattle.events.specs.Answer.{done};
+ghost use Rattle.events.specs.Step.{request, answerSetup, statusEnd, respond};
+ghost use Rattle.events.specs.Facts.{questionOf, Tells, outcomeOf};
+
+// The request by its code, past the table's refusals.
+fn request(facts: Facts, device: Device, setup: Setup) -> Reaction
+    requires { ⌜ device .wakeup < 2 ⌝ }
+    requires { ⌜ refusal (device .state) setup ≡ 0 ⌝ }
+    ensures { λ r. ⌜ ((v : View) → Tells v device setup facts → outcomeOf r device ≡ request v device setup) ⌝ }
+{
+    let code = setup.code;
+    match code {
+        0x00 => standard::get_status(facts, device, setup),
+        0x01 => standard::clear_feature(facts, device, setup),
+        0x03 => standard::set_feature(facts, device, setup),
+        0x05 => standard::set_address(device, setup),
+        0x06 => standard::get_descriptor(facts, device, setup),
+        0x08 => standard::get_configuration(device),
+        0x09 => standard::set_configuration(facts, device, setup),
+        0x0a => standard::get_interface(facts, device, setup),
+        _ => standard::set_interface(facts, device, setup),
+    }
+}
+
+// A setup: what waits is dropped; then the table's refusal, or the request.
+fn answer_setup(facts: Facts, device: Device, setup: Setup) -> Reaction
+    requires { ⌜ device .wakeup < 2 ⌝ }
+    ensures { λ r. ⌜ ((v : View) → Tells v device setup facts → outcomeOf r device ≡ answerSetup v device setup) ⌝ }
+{
+    let number = requests::refusal(device.state, setup);
+    let mut settled = device;
+    settled.waiting = 255;
+    if number == 0 {
+        return request(facts, settled, setup);
+    }
+    refused(number, settled)
+}
+
+// The status stage of a request has ended: a waiting address is taken.
+fn status_end(device: Device) -> Reaction
+    ensures { λ r. ⌜ outcomeOf r device ≡ statusEnd device ⌝ }
+{
+    let waiting = device.waiting;
+    let mut next = records::kept(device);
+    if waiting == 255 {
+        return done(next);
+    }
+    next.state = (1 <= waiting) as u8;
+    next.address = waiting;
+    next.waiting = 255;
+    done(next)
+}
+
+// The bus was reset.
+fn bus_reset() -> Reaction
+    ensures { λ r. ⌜ ((d : Device) → outcomeOf r d ≡ done fresh) ⌝ }
+{
+    done(Change {
+        state: 0,
+        address: 0,
+        waiting: 255,
+        configuration: 0,
+        wakeup: 0,
+        power: 0,
+        suspended: 0,
+        speed: 0,
+        settings: Settings::Cleared,
+        halts: 0,
+        toggles: 0,
+    })
+}
+
+// Every event.
+pub fn respond(facts: Facts, device: Device, event: Event) -> Reaction
+    requires { ⌜ device .wakeup < 2 ⌝ }
+    ensures { λ r. ⌜ ((v : View) → Tells v device (questionOf event) facts → outcomeOf r device ≡ respond v device event) ⌝ }
+{
+    let survey = facts.survey;
+    let endpoint = survey.endpoint;
+    match event {
+        Event::Request(setup) => answer_setup(facts, device, setup),
+        Event::Malformed => refused(9, device),
+        Event::StatusEnd => status_end(device),
+        Event::BusReset => bus_reset(),
+        Event::Halt(_) => endpoint::halt(endpoint, device),
+        Event::PacketPassed(_) => endpoint::packet_passed(endpoint, device),
+    }
+}

@@ -1,0 +1,106 @@
+-- The configurations of a set, from what is looked up in it; and what an accepted board tells of the selected one's body. Assumes nothing.
+use Prim.Native.Nat.{ℕ, _%_, _<_}
+use native.Mathlib.Omega.{arith}
+use mathlib.Core.Path.{_≡_, refl, sym, _∙_}
+use mathlib.Core.Bool.{Bool, true, false, _&&_, not, false≢true}
+use mathlib.Core.List.{List, [], _∷_, List·Memᴰ}
+use mathlib.Core.Option.{Option, some, none}
+use lib.ListN.{length}
+use lib.Dec.{eqb, leb, ltb}
+use borrow.Author.Tests.{eqb-true, ltb-true, ltb-false}
+use Rattle.octets.specs.Bit.{bit}
+use Rattle.octets.specs.Sentences.{pick, every, any, first, pairs}
+use Rattle.octets.proofs.Sentences.{both, conjunct, every-map, every-member, any-member, first-some}
+use Rattle.descriptors.specs.Limits.{fullSpeed}
+use Rattle.descriptors.specs.Cut.{cut, cutAfter, descriptorsOf, wellCut}
+use Rattle.descriptors.specs.Interfaces.{grouped, endpointsOf}
+use Rattle.descriptors.specs.Configuration.{Configuration, hasInterface, bConfigurationValue, configurationAttributes, goodDescriptors, goodConfiguration, groupsOf, configurationOf}
+use Rattle.descriptors.specs.Survey.{TellsInterfaces}
+use Rattle.sets.specs.declared.Entry.{Entry}
+use Rattle.sets.specs.declared.EntryFound.{EntryFound}
+use Rattle.sets.specs.declared.EntryFound.the-variants.{At, Nothing}
+use Rattle.sets.specs.Contents.{bodyOf, bodies, entries, entriesOf}
+use Rattle.sets.specs.Opening.{Board, numberedFrom, goodConfigurations}
+use Rattle.sets.specs.Found.{found, valued, configurationFound}
+use Rattle.sets.specs.View.{entryByIndex, byIndex, byValue, openingOf}
+use Rattle.sets.proofs.Sound.{Bytes}
+use Rattle.sets.proofs.Groups.{groups}
+use Rattle.sets.proofs.Bodies.{bytes-part, soundConfiguration}
+use Rattle.sets.proofs.Strings.{found-some}
+use Rattle.sets.proofs.Lookups.{value-found, index-found}
+use Rattle.steps.specs.Gathering.{configurationsIn, bodyFound, selectedBody, firstBody, Usable, located}
+use Rattle.events.specs.Facts.{bodyAt}
+
+-- ---- an entry that was looked up
+pub located-found : (o : Option Entry) → located (found o) ≡ bodyAt o
+located-found none = refl
+located-found (some e) = refl
+
+-- ---- a byte is its own remainder
+pub byte-mod : {n : ℕ} → n < 256 → n % 256 ≡ n
+byte-mod p = omega (arith, p)
+
+-- ---- an interface, by the survey's word
+pub among : {c : Configuration} {alternates : List ℕ} {existing current : ℕ} → ((j : ℕ) → hasInterface c j ≡ true → j < 16)
+    → TellsInterfaces c alternates existing current → (n : ℕ) → pick (ltb n 16) (bit existing n) false ≡ hasInterface c n
+among {c = c} {existing = existing} few tells n = go (ltb n 16) refl (hasInterface c n) refl
+  where
+    go : (t : Bool) → ltb n 16 ≡ t → (h : Bool) → hasInterface c n ≡ h → pick t (bit existing n) false ≡ hasInterface c n
+    go true p h q = sym (tells .exists n (omega (arith, ltb-true n 16 p)))
+    go false p true q = absurd (omega (arith, ltb-false n 16 p, few n q))
+    go false p false q = sym q
+
+pub attributes-of : (body : List ℕ) → configurationOf body .attributes ≡ configurationAttributes body
+unfolding configurationOf
+attributes-of body = refl
+
+module _ (set : List ℕ) where
+  body-found : (f : EntryFound) → configurationOf (bodyFound set f) ≡ configurationFound set f
+  unfolding configurationOf groupsOf grouped cutAfter descriptorsOf endpointsOf
+  body-found Nothing = refl
+  body-found (At e) = refl
+
+  pub selected-by-value : (value : ℕ) → configurationOf (selectedBody set value) ≡ byValue (record { 0 = value }) (configurationsIn set)
+  selected-by-value value = body-found (found (first (valued set value) (entriesOf 2 set))) ∙ sym (value-found set (record { 0 = value }))
+
+  pub first-by-index : byIndex (record { 0 = 0 }) (configurationsIn set) ≡ configurationOf (firstBody set)
+  first-by-index = index-found set (record { 0 = 0 }) ∙ sym (body-found (found (entryByIndex (record { 0 = 0 }) (entries set))))
+
+-- ---- the selected configuration's body of an accepted board
+module _ (b : Board) (h : Bytes (b .set)) (p : openingOf b ≡ 0) (value : ℕ) where
+  good : every (goodConfiguration fullSpeed) (bodies 2 (b .set)) ≡ true
+  unfolding goodConfigurations
+  good =
+      let set = b .set in
+      let rules = numberedFrom 0 (entriesOf 2 set) ∷ every (goodConfiguration fullSpeed) (bodies 2 set) ∷ every (λ x. leb 1 (bConfigurationValue x)) (bodies 2 set)
+      ∷ pairs (λ x y. not (eqb (bConfigurationValue x) (bConfigurationValue y))) (bodies 2 set) ∷ [] in
+      conjunct 1 rules (groups fullSpeed b p .configurations)
+
+  none-usable : Usable []
+  unfolding wellCut configurationOf groupsOf grouped cutAfter descriptorsOf any
+  none-usable = record { whole = refl; few = λ j t. absurd (false≢true t); small = λ j a t. absurd (false≢true t) }
+
+  entry-usable : (e : Entry) → List·Memᴰ e (entriesOf 2 (b .set)) → Usable (bodyOf (b .set) e)
+  unfolding goodConfiguration
+  entry-usable e m =
+      let set = b .set in
+      let body = bodyOf set e in
+      let rules = every-member (λ e. goodConfiguration fullSpeed (bodyOf set e)) (sym (every-map (goodConfiguration fullSpeed) (bodyOf set) (entriesOf 2 set)) ∙ good) m in
+      let sound = soundConfiguration fullSpeed body (bytes-part set (e .offset) (e .length) h) rules in
+      record {
+        whole = both (wellCut (cut body)) (goodDescriptors fullSpeed (length body) (descriptorsOf (cut body))) rules .0;
+        few = λ j t.
+            let (s, n, u) = any-member (λ s. eqb (s .interface) j) (configurationOf body .settings) t in
+            rw (eqb-true (s .interface) j u) at (sound .interfaces s n);
+        small = λ j a t.
+            let (s, n, u) = any-member (λ s. eqb (s .interface) j && eqb (s .alternate) a) (configurationOf body .settings) t in
+            let (i, k) = both (eqb (s .interface) j) (eqb (s .alternate) a) u in
+            (rw (eqb-true (s .interface) j i) at (sound .interfaces s n), rw (eqb-true (s .alternate) a k) at (sound .alternates s n));
+      }
+
+  pub usable : Usable (selectedBody (b .set) value)
+  usable = go (found (first (valued (b .set) value) (entriesOf 2 (b .set)))) refl
+    where
+      go : (f : EntryFound) → found (first (valued (b .set) value) (entriesOf 2 (b .set))) ≡ f → Usable (bodyFound (b .set) f)
+      go Nothing q = none-usable
+      go (At e) q = entry-usable e (first-some (valued (b .set) value) (entriesOf 2 (b .set)) (found-some (first (valued (b .set) value) (entriesOf 2 (b .set))) q) .0)

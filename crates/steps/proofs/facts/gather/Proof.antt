@@ -1,0 +1,81 @@
+-- `steps::facts::gather` meets its contract: fact by fact. Assumes nothing.
+use native.Mathlib.Omega.{arith}
+use borrow.Author.Needs.{needs}
+use mathlib.Core.Path.{refl, sym, ap, _∙_}
+use Rattle.sets.specs.View.{viewOf}
+use Rattle.sets.specs.Opening.{lent}
+use Rattle.sets.proofs.Lookups.{value-there, wakes-found}
+use Rattle.events.specs.Facts.{questionOf}
+use Rattle.steps.specs.Gathering.{bodyFound, Usable}
+use Rattle.steps.proofs.Configurations.{usable, among}
+use Rattle.steps.proofs.Steps.{is-selected}
+use Rattle.steps.proofs.facts.gather.Tie as tie
+use Rattle.steps.proofs.facts.gather.Statement.{statement}
+
+question-of-requires : tie.Need-question-of-requires
+question-of-requires c κs = search needs
+
+by-value-requires : tie.Need-by-value-requires
+by-value-requires c κs = search needs
+
+body-found-requires : tie.Need-body-found-requires
+body-found-requires c κs = search needs
+
+walk-requires : tie.Need-walk-requires
+walk-requires c κs = let a = c .before .before .before .before .before .before .args in
+    rw (c .before .body-found .ensures, c .before .before .by-value .ensures) (usable (lent (a .set .now) (a .serial .now)) (λ i. omega (arith, c .before .before .before .before .before .shared-slice-known .given i)) (c .before .before .before .before .before .before .pre) (a .device .configuration) .whole)
+
+is-found-requires : tie.Need-is-found-requires
+is-found-requires c κs = search needs
+
+wakes-requires : tie.Need-wakes-requires
+wakes-requires c κs = search needs
+
+powered-requires : tie.Need-powered-requires
+powered-requires c κs = search needs
+
+is-among-requires : tie.Need-is-among-requires
+is-among-requires c κs = search needs
+
+has-asked-requires : tie.Need-has-asked-requires
+has-asked-requires c κs = search needs
+
+locate-requires : tie.Need-locate-requires
+locate-requires c κs = search needs
+
+returns : tie.Need-returns
+unfolding viewOf
+returns c = let a = c .before .before .before .before .before .before .before .before .before .before .before .before .before .args in
+    let b = lent (a .set .now) (a .serial .now) in
+    let usable = usable (lent (a .set .now) (a .serial .now)) (λ i. omega (arith, c .before .before .before .before .before .before .before .before .before .before .before .before .shared-slice-known .given i)) (c .before .before .before .before .before .before .before .before .before .before .before .before .before .pre) (a .device .configuration) in
+    let body = c .before .before .before .before .before .before .before .before .body-found .ensures ∙ ap (bodyFound (a .set .now)) (c .before .before .before .before .before .before .before .before .before .by-value .ensures) in
+    let here = is-selected b (a .device) body in
+    let asked = c .before .before .before .before .before .before .before .before .before .before .question-of .ensures in
+    let seen = rw (here, asked) at (c .before .before .before .before .before .before .walk .ensures) in
+    let in-use : Usable (c .before .before .before .before .before .before .before .before .body-found .result .now) = rw body usable in
+    record {
+      configured = rw (c .before .before .before .before .before .is-found .ensures, c .before .before .before .before .before .before .before .before .before .by-value .ensures, value-there (a .set .now) (a .device .configuration));
+      waking = c .before .before .before .before .wakes .ensures ∙ sym (wakes-found (a .set .now));
+      powered = c .before .before .before .powered .ensures (viewOf b) refl here;
+      surveyed = seen;
+      interface = rw (c .before .before .is-among .ensures, asked) (among (rw here at (in-use .few)) (seen .interfaces) (questionOf (a .event) .index));
+      small = (rw here at (in-use .small)) (questionOf (a .event) .index) (questionOf (a .event) .value);
+      configuration = rw asked at (c .before .has-asked .ensures);
+      located = rw asked at (c .locate .ensures);
+    }
+
+pub gather-spec : {M : Type 1} → statement M
+gather-spec =
+    tie.close
+    (tie.spec
+    question-of-requires
+    by-value-requires
+    body-found-requires
+    walk-requires
+    is-found-requires
+    wakes-requires
+    powered-requires
+    is-among-requires
+    has-asked-requires
+    locate-requires
+    returns)

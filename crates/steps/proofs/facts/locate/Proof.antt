@@ -1,0 +1,65 @@
+-- `steps::facts::locate` meets its contract: by the type. Assumes nothing.
+use borrow.Author.Tests.{eq-eqb, ne-eqb}
+use borrow.Author.Needs.{needs}
+use Rattle.sets.specs.View.{viewOf}
+use Rattle.steps.proofs.Configurations.{located-found}
+use Rattle.steps.proofs.facts.locate.Tie as tie
+use Rattle.steps.proofs.facts.locate.Statement.{statement}
+
+cast-kind : tie.Need-cast-kind
+cast-kind c = search needs
+
+cast-index : tie.Need-cast-index
+cast-index c = search needs
+
+returns : tie.Need-returns
+unfolding viewOf
+returns c = λ p. absurd (c .if1 .taken p)
+
+locate-string-requires : tie.Need-locate-string-requires
+locate-string-requires c κs = search needs
+
+returns-2 : tie.Need-returns-2
+unfolding viewOf
+returns-2 c = λ p. rw (c .locate-string .ensures, eq-eqb _ _ (c .before .if2 .taken))
+
+by-index-requires : tie.Need-by-index-requires
+by-index-requires c κs = search needs
+
+place-requires : tie.Need-place-requires
+place-requires c κs = search needs
+
+returns-3 : tie.Need-returns-3
+unfolding viewOf
+returns-3 c = λ p. rw (c .place .ensures, c .before .by-index .ensures, ne-eqb _ _ (c .before .before .before .if2 .left), eq-eqb _ _ (c .before .before .if3 .taken), located-found)
+
+find-entry-requires : tie.Need-find-entry-requires
+find-entry-requires c κs = search needs
+
+place-requires-2 : tie.Need-place-requires-2
+place-requires-2 c κs = search needs
+
+returns-4 : tie.Need-returns-4
+unfolding viewOf
+returns-4 c = λ p. rw (c .place2 .ensures, c .before .find-entry .ensures, ne-eqb _ _ (c .before .before .before .before .if2 .left), ne-eqb _ _ (c .before .before .before .if3 .left), eq-eqb _ _ (c .before .before .if4 .taken), located-found)
+
+returns-5 : tie.Need-returns-5
+unfolding viewOf
+returns-5 c = λ p. rw (ne-eqb _ _ (c .before .before .if2 .left), ne-eqb _ _ (c .before .if3 .left), ne-eqb _ _ (c .if4 .left))
+
+pub locate-spec : {M : Type 1} → statement M
+locate-spec =
+    tie.close
+    (tie.spec
+    cast-kind
+    cast-index
+    returns
+    locate-string-requires
+    returns-2
+    by-index-requires
+    place-requires
+    returns-3
+    find-entry-requires
+    place-requires-2
+    returns-4
+    returns-5)

@@ -1,0 +1,50 @@
+-- `steps::facts::locate_string` meets its contract: by the serial number's index, its languages, or the entry. Assumes nothing.
+use borrow.Author.Needs.{needs}
+use Rattle.events.specs.Requests.{isEntry, languageFor}
+use Rattle.octets.specs.Sentences.{first}
+use Rattle.sets.specs.View.{viewOf}
+use Rattle.sets.specs.Contents.{entries}
+use Rattle.steps.proofs.Configurations.{located-found}
+use Rattle.steps.proofs.facts.locate_string.Tie as tie
+use Rattle.steps.proofs.facts.locate_string.Statement.{statement}
+
+serial-index-requires : tie.Need-serial-index-requires
+serial-index-requires c κs = search needs
+
+language-listed-requires : tie.Need-language-listed-requires
+language-listed-requires c κs = search needs
+
+returns : tie.Need-returns
+unfolding viewOf
+returns c = rw (← c .before .before .before .serial-index .ensures, c .before .before .if1 .taken, ← c .before .language-listed .ensures, c .if2 .taken)
+
+returns-2 : tie.Need-returns-2
+unfolding viewOf
+returns-2 c = rw (← c .before .before .before .serial-index .ensures, c .before .before .if1 .taken, ← c .before .language-listed .ensures, c .if2 .left)
+
+language-for-requires : tie.Need-language-for-requires
+language-for-requires c κs = search needs
+
+find-entry-requires : tie.Need-find-entry-requires
+find-entry-requires c κs = search needs
+
+place-requires : tie.Need-place-requires
+place-requires c κs = search needs
+
+returns-3 : tie.Need-returns-3
+unfolding viewOf
+returns-3 c = let a = c .before .before .before .before .before .before .before .args in
+    rw (c .place .ensures, c .before .find-entry .ensures, c .before .before .language-for .ensures, ← c .before .before .before .before .serial-index .ensures, c .before .before .before .if1 .left, located-found (first (isEntry 3 (a .index) (languageFor (a .index) (a .language))) (entries (a .set .now))))
+
+pub locate-string-spec : {M : Type 1} → statement M
+locate-string-spec =
+    tie.close
+    (tie.spec
+    serial-index-requires
+    language-listed-requires
+    returns
+    returns-2
+    language-for-requires
+    find-entry-requires
+    place-requires
+    returns-3)

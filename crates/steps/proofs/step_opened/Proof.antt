@@ -1,0 +1,16 @@
+-- `steps::step_opened` meets its contract: the record after the change. Assumes nothing.
+use borrow.Author.Needs.{needs}
+use Rattle.steps.proofs.step_opened.Tie as tie
+use Rattle.steps.proofs.step_opened.Statement.{statement}
+
+react-requires : tie.Need-react-requires
+react-requires c κs = search needs
+
+changed-requires : tie.Need-changed-requires
+changed-requires c κs = search needs
+
+returns : tie.Need-returns
+returns c = rw (c .changed .ensures) (c .before .before .react .ensures)
+
+pub step-opened-spec : {M : Type 1} → statement M
+step-opened-spec = tie.close (tie.spec react-requires changed-requires returns)

@@ -1,0 +1,198 @@
+// What an event has to know of a board, gathered from its set and its serial block.
+use descriptors::ConfigurationIndex;
+use descriptors::ConfigurationValue;
+use descriptors::survey;
+use events::Event;
+use events::facts::Facts;
+use events::facts::Located;
+use records::Device;
+use requests::Setup;
+use sets::EntryFound;
+use sets::configuration;
+use sets::contents;
+ghost use mathlib.Core.Path.{_≡_};
+ghost use mathlib.Core.Bool.{false};
+ghost use Prim.Native.Nat.{_<_};
+ghost use lib.Dec.{ltb};
+ghost use Rattle.octets.specs.Bit.{bit};
+ghost use Rattle.octets.specs.Sentences.{pick};
+ghost use Rattle.descriptors.specs.Configuration.{configurationOf, configurationAttributes};
+ghost use Rattle.sets.specs.Opening.{lent};
+ghost use Rattle.sets.specs.Found.{isFound};
+ghost use Rattle.sets.specs.View.{View, viewOf, openingOf, hasValue};
+ghost use Rattle.records.specs.Current.{selected};
+ghost use Rattle.events.specs.Requests.{powering, languageFor};
+ghost use Rattle.events.specs.Facts.{naming, questionOf, locateString, locate, Tells};
+ghost use Rattle.steps.specs.Gathering.{configurationsIn, bodyFound, firstBody, located};
+
+// The question of a function event, or of one that asks nothing.
+fn naming(address: u8) -> Setup
+    ensures { λ r. ⌜ r ≡ naming address ⌝ }
+{
+    Setup {
+        kind: 0,
+        code: 0,
+        value: 0,
+        index: address as u16,
+        length: 0,
+    }
+}
+
+// An event's question, put as a setup.
+fn question_of(event: Event) -> Setup
+    ensures { λ r. ⌜ r ≡ questionOf event ⌝ }
+{
+    match event {
+        Event::Request(setup) => setup,
+        Event::Malformed => naming(0),
+        Event::StatusEnd => naming(0),
+        Event::BusReset => naming(0),
+        Event::Halt(address) => naming(address),
+        Event::PacketPassed(address) => naming(address),
+    }
+}
+
+// An entry that was looked up: whether it is there, its body, and where that lies.
+fn is_found(entry: EntryFound) -> bool
+    ensures { λ r. ⌜ r ≡ isFound entry ⌝ }
+{
+    match entry {
+        EntryFound::At(_) => true,
+        EntryFound::Nothing => false,
+    }
+}
+
+fn body_found(set: &[u8], entry: EntryFound) -> &[u8]
+    ensures { λ r. ⌜ now r ≡ bodyFound (now (set .entry)) entry ⌝ }
+{
+    match entry {
+        EntryFound::At(e) => contents::body_of(set, e),
+        EntryFound::Nothing => &set[0..0],
+    }
+}
+
+fn place(entry: EntryFound) -> Located
+    ensures { λ r. ⌜ r ≡ located entry ⌝ }
+{
+    match entry {
+        EntryFound::At(e) => Located::Body {
+            offset: e.offset as usize,
+            length: e.length as usize,
+        },
+        EntryFound::Nothing => Located::Nowhere,
+    }
+}
+
+// Whether a configuration is powered by itself: bit 6 of its attributes.
+fn is_powered(body: &[u8]) -> bool
+    ensures { λ r. ⌜ r ≡ bit (configurationAttributes (now (body .entry))) 6 ⌝ }
+{
+    octets::peek(body, 7) / 64 % 2 == 1
+}
+
+// Whether the device is powered by itself, by the selected configuration, whose body is given, or in Address by the one at index 0.
+fn powered(set: &[u8], body: &[u8], device: Device) -> bool
+    ensures { λ r. ⌜ ((v : View) → v .configurations ≡ configurationsIn (now (set .entry)) → configurationOf (now (body .entry)) ≡ selected v device
+        → r ≡ bit (powering v device .attributes) 6) ⌝ }
+{
+    if device.state == 1 {
+        return is_powered(body_found(
+            set,
+            configuration::by_index(set, ConfigurationIndex(0)),
+        ));
+    }
+    is_powered(body)
+}
+
+// Whether an interface is among those of a word; none has a number past 15.
+fn is_among(existing: u32, number: u16) -> bool
+    ensures { λ r. ⌜ r ≡ pick (ltb number 16) (bit existing number) false ⌝ }
+{
+    if number < 16 {
+        return octets::test_bit(existing, number as u32);
+    }
+    false
+}
+
+// Whether the set has the configuration that SET_CONFIGURATION asks for, by its value.
+fn has_asked(set: &[u8], setup: Setup) -> bool
+    ensures { λ r. ⌜ (setup .code ≡ 0x09 → setup .value < 256 → r ≡ hasValue (record { 0 = setup .value }) (configurationsIn (now (set .entry)))) ⌝ }
+{
+    if setup.code == 0x09 {
+        let value = ConfigurationValue((setup.value % 256) as u8);
+        return is_found(configuration::by_value(set, value));
+    }
+    false
+}
+
+// The language in which a string is asked for: string 0 is given for any.
+fn language_for(index: u8, asked: u16) -> u16
+    ensures { λ r. ⌜ r ≡ languageFor index asked ⌝ }
+{
+    if index == 0 {
+        return 0;
+    }
+    asked
+}
+
+// Where the string with an index lies, in a language.
+fn locate_string(set: &[u8], serial: &[u8], index: u8, language: u16) -> Located
+    ensures { λ r. ⌜ r ≡ locateString (viewOf (lent (now (set .entry)) (now (serial .entry)))) index language ⌝ }
+{
+    if (1 <= index) & (index == sets::device::serial_index(set)) {
+        if sets::string::language_listed(set, language) {
+            return Located::Serial {
+                length: serial.len(),
+            };
+        }
+        return Located::Nowhere;
+    }
+    place(contents::find_entry(set, 3, index, language_for(index, language)))
+}
+
+// Where the descriptor lies that GET_DESCRIPTOR asks for: a configuration by its index, a device or a string by its entry.
+fn locate(set: &[u8], serial: &[u8], setup: Setup) -> Located
+    ensures { λ r. ⌜ (setup .code ≡ 0x06 → r ≡ locate (viewOf (lent (now (set .entry)) (now (serial .entry)))) setup) ⌝ }
+{
+    let kind = (setup.value / 256) as u8;
+    let index = (setup.value % 256) as u8;
+    if setup.code != 0x06 {
+        return Located::Nowhere;
+    }
+    if kind == 3 {
+        return locate_string(set, serial, index, setup.index);
+    }
+    if kind == 2 {
+        return place(configuration::by_index(set, ConfigurationIndex(index)));
+    }
+    if kind == 1 {
+        return place(contents::find_entry(set, 1, index, 0));
+    }
+    Located::Nowhere
+}
+
+// The facts: one lookup of the selected configuration and one walk through it; what only one request asks is looked up for it alone.
+pub fn gather(set: &[u8], serial: &[u8], device: Device, event: Event) -> Facts
+    requires { ⌜ openingOf (lent (now set) (now serial)) ≡ 0 ⌝ }
+    ensures { λ r. ⌜ Tells (viewOf (lent (now (set .entry)) (now (serial .entry)))) device (questionOf event) r ⌝ }
+{
+    let question = question_of(event);
+    let selected = configuration::by_value(set, ConfigurationValue(device.configuration));
+    let body = body_found(set, selected);
+    let alternates = device.alternates;
+    let asked = survey::Asked {
+        address: question.index,
+        interface: question.index,
+        alternate: question.value,
+    };
+    let survey = survey::walk(body, alternates, asked);
+    Facts {
+        configured: is_found(selected),
+        waking: configuration::wakes(set),
+        powered: powered(set, body, device),
+        interface: is_among(survey.existing, question.index),
+        survey,
+        configuration: has_asked(set, question),
+        located: locate(set, serial, question),
+    }
+}

@@ -1,0 +1,71 @@
+// The step of a device: the set and the serial block that are lent are checked, then the record, and then the event is answered.
+use events::Answer;
+use events::Event;
+use events::Outcome;
+use events::reaction;
+use events::reaction::Reaction;
+use records::Device;
+ghost use mathlib.Core.Path.{_≡_};
+ghost use Rattle.sets.specs.Opening.{lent};
+ghost use Rattle.sets.specs.View.{openingOf};
+ghost use Rattle.events.specs.Answer.{gives};
+ghost use Rattle.events.specs.Facts.{outcomeOf};
+ghost use Rattle.events.specs.Step.{step};
+
+pub mod facts;
+
+// Opening, at base speed: 0, or the number of the first group that is broken.
+pub fn opening(set: &[u8], serial: &[u8]) -> u8
+    ensures { λ r. ⌜ r ≡ openingOf (lent (now (set .entry)) (now (serial .entry))) ⌝ }
+{
+    sets::opening(set, serial, descriptors::full_speed())
+}
+
+// The reaction to an event on a board that was checked: `number` is what opening gives. It is asked before this frame stands, to spare the stack.
+pub fn react(number: u8, set: &[u8], serial: &[u8], device: Device, event: Event) -> Reaction
+    requires { ⌜ number ≡ openingOf (lent (now set) (now serial)) ⌝ }
+    ensures { λ r. ⌜ outcomeOf r device ≡ step (lent (now (set .entry)) (now (serial .entry))) device event ⌝ }
+{
+    if number != 0 {
+        return reaction::refused(7, device);
+    }
+    let known = facts::gather(set, serial, device, event);
+    let survey = known.survey;
+    if !records::fits(survey, known.configured, known.waking, device) {
+        return reaction::refused(8, device);
+    }
+    events::respond::respond(known, device, event)
+}
+
+// The same, with the record that is left.
+pub fn step_opened(number: u8, set: &[u8], serial: &[u8], device: Device, event: Event) -> Outcome
+    requires { ⌜ number ≡ openingOf (lent (now set) (now serial)) ⌝ }
+    ensures { λ r. ⌜ r ≡ step (lent (now (set .entry)) (now (serial .entry))) device event ⌝ }
+{
+    let reaction = react(number, set, serial, device, event);
+    let answer = reaction.answer;
+    let next = reaction.next;
+    Outcome {
+        answer,
+        device: records::changed(next, device),
+    }
+}
+
+// The step, opening included.
+pub fn step(set: &[u8], serial: &[u8], device: Device, event: Event) -> Outcome
+    ensures { λ r. ⌜ r ≡ step (lent (now (set .entry)) (now (serial .entry))) device event ⌝ }
+{
+    let number = opening(set, serial);
+    step_opened(number, set, serial, device, event)
+}
+
+// The step on a record that is lent: the next record is stored where it stands.
+pub fn step_lent(number: u8, device: &mut Device, set: &[u8], serial: &[u8], event: Event) -> Answer
+    requires { ⌜ number ≡ openingOf (lent (now set) (now serial)) ⌝ }
+    ensures { λ r. ⌜ gives r (now (device .exit)) ≡ step (lent (now (set .entry)) (now (serial .entry))) (now (device .entry)) event ⌝ }
+{
+    let was = *device;
+    let next = step_opened(number, set, serial, was, event);
+    *device = next.device;
+    next.answer
+}
