@@ -16,7 +16,7 @@ use Rattle.events.specs.declared.Event.{Event}
 use Rattle.events.specs.Concerns.{concerns}
 use Rattle.order.specs.Run.{run, answers, log}
 use Rattle.promises.specs.Rearranged.{isThis, Rearranged, Values, imageAnswer, imageNext, imageAfter, imageHeard}
-use Rattle.promises.specs.Picking.{only-map}
+use Rattle.laws.proofs.Picking.{only-map}
 use Rattle.promises.specs.Order.{orderImages}
 use Rattle.promises.specs.Keeps.{reachedFits}
 use Rattle.board.specs.Statements.{Opens, Spot}

@@ -1,6 +1,7 @@
 -- Which interface an event concerns (document 01: "An event concerns interface j, in Configured, if ..").
 use Prim.Native.Nat.{ℕ}
 use mathlib.Core.Option.{Option, some, none, Option·map}
+use mathlib.Core.Bool.{Bool, false}
 use lib.Dec.{eqb}
 use Rattle.octets.specs.Sentences.{pick}
 use Rattle.descriptors.specs.Configuration.{Configuration, hasInterface, addressed}
@@ -33,3 +34,8 @@ eventConcerns c (PacketPassed a) = listedBy c a
 
 unfoldable pub concerns : View → Device → Event → Option ℕ
 concerns v d e = pick (eqb (d .state) inConfigured) (eventConcerns (selected v d) e) none
+
+-- whether that is interface k
+abbrev pub isThis : ℕ → Option ℕ → Bool
+isThis k none = false
+isThis k (some j) = eqb j k

@@ -28,7 +28,7 @@ use Rattle.order.specs.Owners.{Owners}
 use Rattle.promises.specs.Examples.{bytes, computed, T}
 use Rattle.sets.proofs.Sound.{Bytes}
 use Rattle.promises.specs.Inhabited.{octets, acceptedT, bytesT, configured, configuredSized}
-use Rattle.promises.specs.Parts.{Good, orNobody, Same, rest, owned, who, kind, settle}
+use Rattle.laws.specs.Parts.{Good, orNobody, Same, rest, owned, who, kind, settle}
 use Rattle.promises.specs.Rearranged.{isThis, eventsOf, Rearranged, answerOf, nextOf, after, answered, heard, Values, imageAfter, imageAnswered, imageHeard}
 use Rattle.promises.specs.Order.{places, placed, stepLocality, order, orderPlaces, orderImages, orderImagesPlaces, concernsThroughout, struckFor, unnoticed}
 

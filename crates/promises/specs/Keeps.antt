@@ -22,11 +22,11 @@ use Rattle.events.specs.Answer.{numberOf}
 use Rattle.events.specs.Step.{respond, step, event, opened}
 use Rattle.sets.proofs.Sound.{Bytes}
 use Rattle.sets.proofs.Acceptance.{sound}
-use Rattle.promises.specs.Outcomes.{responded}
+use Rattle.laws.proofs.Outcomes.{responded}
 use Rattle.promises.specs.Refusal.{refuses}
 use Rattle.promises.specs.Refusals.{stepNumber}
-use Rattle.promises.specs.Fitting.{fitting, fitted}
-use Rattle.promises.specs.Changes.{Fit, freshFits, respondedFits}
+use Rattle.laws.proofs.Fitting.{fitting, fitted}
+use Rattle.laws.proofs.Changes.{Fit, freshFits, respondedFits}
 
 -- ---- what the statements say
 -- an image of 32 bytes, of a record that fits

@@ -29,10 +29,10 @@ use Rattle.order.specs.Owners.{Owners, others, along, ordered, ordered-places, 
 use Rattle.sets.proofs.Sound.{Bytes}
 use Rattle.sets.proofs.Acceptance.{sound}
 use Rattle.promises.specs.Keeps.{stepFits}
-use Rattle.promises.specs.Parts.{Good, Same, rest, owned, who, kind, settle}
-use Rattle.promises.specs.Locality.{concerns-by, idle, locality}
+use Rattle.laws.specs.Parts.{Good, Same, rest, owned, who, kind, settle}
+use Rattle.laws.proofs.Locality.{concerns-by, idle, locality}
 use Rattle.promises.specs.Rearranged.{Concerned, isThis, Rearranged, answerOf, nextOf, after, answered, heard, Values, valuesOf, imageAnswer, imageNext, imageAfter, imageAnswered, imageHeard}
-use Rattle.promises.specs.Picking.{own-is, all-of, of-all, every-log, only-map, map-at, mapped-at}
+use Rattle.laws.proofs.Picking.{own-is, all-of, of-all, every-log, only-map, map-at, mapped-at}
 
 -- ---- another order, said by each interface's events and said by places, is one thing
 module _ (v : View) (d : Device) (xs ys : List Event) where

@@ -15,19 +15,16 @@ use Rattle.events.specs.declared.Answer.{Answer}
 use Rattle.events.specs.declared.Event.{Event}
 use Rattle.events.specs.Answer.{numberOf, bytesOf, Part, partOf}
 use Rattle.events.specs.Concerns.{concerns}
+pub use Rattle.events.specs.Concerns.{isThis}
 use Rattle.events.specs.Step.{step, event}
 use Rattle.order.specs.Run.{run, answers, log}
-use Rattle.promises.specs.Parts.{owned}
+use Rattle.laws.specs.Parts.{owned}
 
 -- ---- another order
 -- every event of the run concerns an interface that exists. Whom an event concerns hangs on the state and the configuration alone, which
 -- no such event changes: it is the same at every record of the run (`concernsThroughout`)
 abbrev pub Concerned : View → Device → List Event → Type 0
 Concerned v d xs = every (owned v d) xs ≡ true
-
-abbrev pub isThis : ℕ → Option ℕ → Bool
-isThis k none = false
-isThis k (some j) = eqb j k
 
 -- the events of a run that concern interface k, in their order
 abbrev pub eventsOf : View → Device → ℕ → List Event → List Event

@@ -27,7 +27,7 @@ use Rattle.sets.proofs.Sound.{Bytes}
 use Rattle.promises.specs.Refusal.{drops, leftBy, allows, Inside, emptyPart, allowsImage, imageLeftBy, opens}
 use Rattle.sets.proofs.Groups.{groups}
 use Rattle.promises.specs.Refusing.{refusal, ownNumber, undropped, placed, leftImage, openingNumber}
-use Rattle.promises.specs.Outcomes.{responded}
+use Rattle.laws.proofs.Outcomes.{responded}
 
 -- ---- over the step
 -- "Refusals hand back no bytes and an empty part."

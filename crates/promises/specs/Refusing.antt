@@ -23,7 +23,7 @@ use Rattle.events.specs.declared.Outcome.{Outcome}
 use Rattle.events.specs.Answer.{numberOf, partOf}
 use Rattle.promises.specs.Refusal.{drops, leftBy, refuses, Inside}
 use Rattle.sets.proofs.Groups.{Groups, inside}
-use Rattle.promises.specs.Outcomes.{Answered, reads, refusedWith, fromSet, fromSerial, wakeup, haltSet, haltCleared, waits, unconfigures, configures, sets, Responded, answers, malformed, nothingWaits, applies, resets, noHalt, halts, noPass, passes}
+use Rattle.laws.proofs.Outcomes.{Answered, reads, refusedWith, fromSet, fromSerial, wakeup, haltSet, haltCleared, waits, unconfigures, configures, sets, Responded, answers, malformed, nothingWaits, applies, resets, noHalt, halts, noPass, passes}
 
 asked : {v : View} {d : Device} {o : Outcome} → Answered v d o → (numberOf (o .answer) ≡ 0 → ⊥)
     → (10 ≤ numberOf (o .answer)) × (numberOf (o .answer) ≤ 14) × (o .device ≡ d)

@@ -32,9 +32,9 @@ use Rattle.events.specs.Requests.{byRecipient, getStatus, endpointStatus, isEnd
 use Rattle.events.specs.Step.{request, answerSetup, statusEnd, haltAt, halt, passAt, packetPassed, respond}
 use Rattle.events.specs.Concerns.{setupConcerns, eventConcerns}
 use Rattle.sets.proofs.Sound.{SoundConfiguration}
-use Rattle.promises.specs.Parts.{home, Shared, shared, Same, rest, self}
-use Rattle.promises.specs.Homes.{AllIn, all-in, found-home, found-alike, set-both, clear-both, flip-both, cleared-both}
-use Rattle.promises.specs.Recipients.{Tabled, table-fits}
+use Rattle.laws.specs.Parts.{home, Shared, shared, Same, rest, self}
+use Rattle.laws.proofs.Homes.{AllIn, all-in, found-home, found-alike, set-both, clear-both, flip-both, cleared-both}
+use Rattle.laws.proofs.Recipients.{Tabled, table-fits}
 
 -- two choices by equal tests
 pick-alike : {A : Type 0} (P : A → A → Type 0) (a b : Bool) → a ≡ b → {x y u w : A} → (a ≡ true → P x u) → (a ≡ false → P y w)

@@ -24,11 +24,11 @@ use Rattle.events.specs.Concerns.{eventConcerns, concerns}
 use Rattle.order.specs.Parts.{calm₂-again, calm₂-commute}
 use Rattle.order.specs.Owners.{Owners}
 use Rattle.sets.proofs.Sound.{Sound}
-use Rattle.promises.specs.Fitting.{fitting}
-use Rattle.promises.specs.Keeping.{soundSelected}
-use Rattle.promises.specs.Parts.{Good, orNobody, Shared, shared, Same, rest, owned, who, isSetup, kind, settle, self, turn, join, whole}
-use Rattle.promises.specs.Alike.{Alike, alike-event}
-use Rattle.promises.specs.Touches.{Touches, settled, touch-event}
+use Rattle.laws.proofs.Fitting.{fitting}
+use Rattle.laws.proofs.Keeping.{soundSelected}
+use Rattle.laws.specs.Parts.{Good, orNobody, Shared, shared, Same, rest, owned, who, isSetup, kind, settle, self, turn, join, whole}
+use Rattle.laws.proofs.Alike.{Alike, alike-event}
+use Rattle.laws.proofs.Touches.{Touches, settled, touch-event}
 
 -- ---- whom an event concerns
 -- it is seen by everybody

@@ -30,9 +30,9 @@ use Rattle.events.specs.Requests.{getStatus, endpointStatus, isEndpointZero, in
 use Rattle.events.specs.Step.{request, answerSetup, haltAt, halt, passAt, packetPassed, respond}
 use Rattle.events.specs.Concerns.{listedBy, setupConcerns, eventConcerns}
 use Rattle.sets.proofs.Sound.{SoundConfiguration}
-use Rattle.promises.specs.Parts.{home, homeIn, shared, Same, rest, isSetup, self}
-use Rattle.promises.specs.Homes.{AllIn, all-in, at-home, found-home, cleared-other}
-use Rattle.promises.specs.Recipients.{ofDevice, Tabled, table-fits}
+use Rattle.laws.specs.Parts.{home, homeIn, shared, Same, rest, isSetup, self}
+use Rattle.laws.proofs.Homes.{AllIn, all-in, at-home, found-home, cleared-other}
+use Rattle.laws.proofs.Recipients.{ofDevice, Tabled, table-fits}
 
 pick-one : {A : Type 0} (P : A → Type 0) (b : Bool) {x y : A} → (b ≡ true → P x) → (b ≡ false → P y) → P (pick b x y)
 pick-one P true f g = f refl

@@ -26,7 +26,7 @@ use Rattle.records.specs.Fits.{goodAlternates, standsAt}
 use Rattle.records.proofs.Image.{Sized}
 use Rattle.events.specs.Requests.{withSetting}
 use Rattle.sets.proofs.Sound.{SoundConfiguration, Sound}
-use Rattle.promises.specs.Fitting.{Fitting}
+use Rattle.laws.proofs.Fitting.{Fitting}
 
 -- ---- words of bits
 -- a bit of the word stands at an endpoint of the list that can halt

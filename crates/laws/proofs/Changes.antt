@@ -24,9 +24,9 @@ use Rattle.events.specs.declared.Event.{Event}
 use Rattle.events.specs.declared.Outcome.{Outcome}
 use Rattle.events.specs.Requests.{clearHalt, setHalt, withSetting}
 use Rattle.sets.proofs.Sound.{Sound}
-use Rattle.promises.specs.Fitting.{Fitting}
-use Rattle.promises.specs.Keeping.{none-stand, stand-changed, bit-below, zeros-good, set-good, set-stands, set-sized}
-use Rattle.promises.specs.Outcomes.{Answered, reads, refusedWith, fromSet, fromSerial, wakeup, haltSet, haltCleared, waits, unconfigures, configures, sets, Responded, answers, malformed, nothingWaits, applies, resets, noHalt, halts, noPass, passes}
+use Rattle.laws.proofs.Fitting.{Fitting}
+use Rattle.laws.proofs.Keeping.{none-stand, stand-changed, bit-below, zeros-good, set-good, set-stands, set-sized}
+use Rattle.laws.proofs.Outcomes.{Answered, reads, refusedWith, fromSet, fromSerial, wakeup, haltSet, haltCleared, waits, unconfigures, configures, sets, Responded, answers, malformed, nothingWaits, applies, resets, noHalt, halts, noPass, passes}
 
 -- a record that fits a view, and has the sizes that 32 bytes give it
 pub record Fit (v : View) (d : Device) : Type 0 where

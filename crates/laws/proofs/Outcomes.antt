@@ -23,18 +23,17 @@ use Rattle.requests.specs.declared.Row.{Row}
 use Rattle.requests.specs.Setup.{recipient}
 use Rattle.requests.specs.Table.{table, rowOf, inState, fieldsFit, refusalAt, refusal}
 use Rattle.events.specs.declared.Answer.{Answer}
-use Rattle.events.specs.declared.Answer.the-variants.{SetPart, SerialPart}
+use Rattle.events.specs.declared.Answer.the-variants.{Done, SetPart, SerialPart}
 use Rattle.events.specs.declared.Event.{Event}
 use Rattle.events.specs.declared.Event.the-variants.{Request, Malformed, StatusEnd, BusReset, Halt, PacketPassed}
 use Rattle.events.specs.declared.Outcome.{Outcome}
 use Rattle.events.specs.Answer.{numberOf, partOf, gives, done, refused}
 use Rattle.events.specs.Requests.{byRecipient, isEndpointZero, deviceFeature, interfaceFeature, endpointFeature, endpointStatus, haltFeature, clearHalt, setHalt, setPart, isEntry, languageFor, withSetting, getStatus, clearFeature, setFeature, setAddress, getDescriptor, getConfiguration, setConfiguration, getInterface, setInterface}
 use Rattle.events.specs.Step.{request, answerSetup, statusEnd, haltAt, halt, passAt, packetPassed, respond}
-use Rattle.promises.specs.Refusal.{emptyPart}
 
 -- a setup's outcome, on the record d with nothing waiting
 pub data Answered (v : View) (d : Device) : Outcome → Type 0 where
-  reads : (a : Answer) → numberOf a ≡ 0 → partOf a ≡ emptyPart → Answered v d (gives a d)
+  reads : (a : Answer) → numberOf a ≡ 0 → partOf a ≡ partOf Done → Answered v d (gives a d)
   refusedWith : (n : ℕ) → 10 ≤ n → n ≤ 14 → Answered v d (refused n d)
   fromSet : (e : Entry) (asked : ℕ) → List·Memᴰ e (v .entries) → Answered v d (gives (SetPart (e .offset) (min (e .length) asked)) d)
   fromSerial : (asked : ℕ) → Answered v d (gives (SerialPart (min (v .block) asked)) d)
@@ -60,13 +59,13 @@ pub data Responded (v : View) (d : Device) : Event → Outcome → Type 0 where
       → Responded v d (PacketPassed a) (done (withEndpoints (d .alternates) (d .halts) (flipBit (d .toggles) (bitOf (e .address))) d))
 
 -- by cases on the test of a choice
-chosen : (P : Outcome → Type 0) (b : Bool) {x y : Outcome} → (b ≡ true → P x) → (b ≡ false → P y) → P (pick b x y)
+pub chosen : (P : Outcome → Type 0) (b : Bool) {x y : Outcome} → (b ≡ true → P x) → (b ≡ false → P y) → P (pick b x y)
 chosen P true p q = p refl
 chosen P false p q = q refl
 
 -- ---- the table: what holds of a setup that it lets through
 -- a rule of the table's rows, of the row that let a setup through
-ruled : (f : Row → Bool) → every f table ≡ true → (state : ℕ) (s : Setup) → refusal state s ≡ 0
+pub ruled : (f : Row → Bool) → every f table ≡ true → (state : ℕ) (s : Setup) → refusal state s ≡ 0
     → (r : Row) × (f r ≡ true) × (r .code ≡ s .code) × (inState r state ≡ true) × (fieldsFit r s ≡ true)
 unfolding refusal
 ruled f p state s q = go (rowOf s) refl q

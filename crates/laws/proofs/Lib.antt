@@ -1,0 +1,10 @@
+pub mod Recipients
+pub mod Fitting
+pub mod Keeping
+pub mod Outcomes
+pub mod Changes
+pub mod Homes
+pub mod Alike
+pub mod Touches
+pub mod Locality
+pub mod Picking
