@@ -24,13 +24,27 @@ setupConcerns c s =
     pick (eqb (recipient s) 1) (pick (hasInterface c (s .index)) (some (s .index)) none)
     (pick (eqb (recipient s) 2) (listedBy c (s .index)) none)
 
+-- what an event names: a setup, the address of an endpoint, or neither: then it is the whole device's
+pub data Subject : Type 0 where
+  aSetup : Setup → Subject
+  anEndpoint : ℕ → Subject
+  theDevice : Subject
+
+abbrev pub subjectOf : Event → Subject
+subjectOf (Request s) = aSetup s
+subjectOf Malformed = theDevice
+subjectOf StatusEnd = theDevice
+subjectOf BusReset = theDevice
+subjectOf (Halt a) = anEndpoint a
+subjectOf (PacketPassed a) = anEndpoint a
+
+abbrev pub subjectConcerns : Configuration → Subject → Option ℕ
+subjectConcerns c (aSetup s) = setupConcerns c s
+subjectConcerns c (anEndpoint a) = listedBy c a
+subjectConcerns c theDevice = none
+
 abbrev pub eventConcerns : Configuration → Event → Option ℕ
-eventConcerns c (Request s) = setupConcerns c s
-eventConcerns c Malformed = none
-eventConcerns c StatusEnd = none
-eventConcerns c BusReset = none
-eventConcerns c (Halt a) = listedBy c a
-eventConcerns c (PacketPassed a) = listedBy c a
+eventConcerns c e = subjectConcerns c (subjectOf e)
 
 unfoldable pub concerns : View → Device → Event → Option ℕ
 concerns v d e = pick (eqb (d .state) inConfigured) (eventConcerns (selected v d) e) none

@@ -17,7 +17,7 @@ use Rattle.descriptors.specs.Configuration.{Configuration, hasInterface, hasSet
 use Rattle.sets.specs.declared.Entry.{Entry}
 use Rattle.sets.specs.View.{View, byIndex, byValue, wakes}
 use Rattle.records.specs.declared.Device.{Device}
-use Rattle.records.specs.Device.{inDefault, inAddress, inConfigured, nothing, fresh, withWaiting, withWakeup, withConfiguration, withEndpoints}
+use Rattle.records.specs.Device.{inDefault, inAddress, inConfigured, nothing, fresh, settled, withWaiting, withWakeup, withConfiguration, withEndpoints}
 use Rattle.records.specs.Current.{selected, endpointAt}
 use Rattle.requests.specs.declared.Setup.{Setup}
 use Rattle.requests.specs.Setup.{recipient}
@@ -32,7 +32,8 @@ use Rattle.events.specs.Requests.{byRecipient, getStatus, endpointStatus, isEnd
 use Rattle.events.specs.Step.{request, answerSetup, statusEnd, haltAt, halt, passAt, packetPassed, respond}
 use Rattle.events.specs.Concerns.{setupConcerns, eventConcerns}
 use Rattle.sets.proofs.Sound.{SoundConfiguration}
-use Rattle.laws.specs.Parts.{home, Shared, shared, Same, rest, self}
+use Rattle.laws.specs.Parts.{home, Shared, shared, Same, rest}
+use Rattle.laws.proofs.Same.{self}
 use Rattle.laws.proofs.Homes.{AllIn, all-in, found-home, found-alike, set-both, clear-both, flip-both, cleared-both}
 use Rattle.laws.proofs.Recipients.{Tabled, table-fits}
 
@@ -85,6 +86,9 @@ module _ (v : View) (T : Type 0) (k : ℕ) (d s : Device) (h : Near v T k d s) w
     part = record { firm = h .part .firm; alternate = h .part .alternate; halts = h .part .halts; toggles = h .part .toggles };
     still = λ t. ap (λ (r : ℕ × ℕ). (w, r .1)) (h .still t);
   }
+
+  near-settled : Near v T k (settled d) (settled s)
+  near-settled = near-waiting nothing
 
   near-wakeup : (on : ℕ) → Near v T k (withWakeup on d) (withWakeup on s)
   unfolding home
@@ -350,14 +354,14 @@ alike-setup : (v : View) (T : Type 0) (k : ℕ) (d s : Device) → Near v T k d 
 unfolding answerSetup
 alike-setup v T k d s h S zd zs q w =
     pick-alike (Alike v T k) (eqb (refusal (d .state) q) 0) (eqb (refusal (s .state) q) 0) (ap (λ n. eqb n 0) same-refusal)
-    (λ p. alike-request v T k (withWaiting nothing d) (withWaiting nothing s) dropped S zd zs q (table-fits (d .state) q (eqb-true _ _ p)) w)
-    (λ p. record { answer = ap Refused same-refusal; near = dropped })
+    (λ p. alike-request v T k (settled d) (settled s) both-settled S zd zs q (table-fits (d .state) q (eqb-true _ _ p)) w)
+    (λ p. record { answer = ap Refused same-refusal; near = both-settled })
   where
     same-refusal : refusal (d .state) q ≡ refusal (s .state) q
     same-refusal = ap (λ (x : Shared). refusal (x .state) q) (h .part .firm)
 
-    dropped : Near v T k (withWaiting nothing d) (withWaiting nothing s)
-    dropped = near-waiting v T k d s h nothing
+    both-settled : Near v T k (settled d) (settled s)
+    both-settled = near-settled v T k d s h
 
 -- every event that concerns k or nobody
 pub alike-event : (v : View) (T : Type 0) (k : ℕ) (d s : Device) (e : Event) → SoundConfiguration (selected v d) → Sixteen d → Sixteen s

@@ -16,7 +16,7 @@ use Rattle.descriptors.specs.declared.Endpoint.{Endpoint}
 use Rattle.descriptors.specs.Configuration.{hasSetting, canHalt, bitOf}
 use Rattle.sets.specs.View.{View, wakes}
 use Rattle.records.specs.declared.Device.{Device}
-use Rattle.records.specs.Device.{inDefault, inAddress, inConfigured, nothing, fresh, withWaiting, withWakeup, withAddress, withConfiguration, withEndpoints}
+use Rattle.records.specs.Device.{inDefault, inAddress, inConfigured, nothing, fresh, settled, withWaiting, withWakeup, withAddress, withConfiguration, withEndpoints}
 use Rattle.records.specs.Current.{selected, currentEndpoints}
 use Rattle.records.specs.Fits.{standsAt}
 use Rattle.records.proofs.Image.{Sized}
@@ -24,9 +24,9 @@ use Rattle.events.specs.declared.Event.{Event}
 use Rattle.events.specs.declared.Outcome.{Outcome}
 use Rattle.events.specs.Requests.{clearHalt, setHalt, withSetting}
 use Rattle.sets.proofs.Sound.{Sound}
-use Rattle.laws.proofs.Fitting.{Fitting}
+use Rattle.laws.proofs.Fitting.{Ranges, Fitting}
 use Rattle.laws.proofs.Keeping.{none-stand, stand-changed, bit-below, zeros-good, set-good, set-stands, set-sized}
-use Rattle.laws.proofs.Outcomes.{Answered, reads, refusedWith, fromSet, fromSerial, wakeup, haltSet, haltCleared, waits, unconfigures, configures, sets, Responded, answers, malformed, nothingWaits, applies, resets, noHalt, halts, noPass, passes}
+use Rattle.laws.proofs.Outcomes.{Changed, wakeup, halted, unhalted, toggled, waits, applies, unconfigures, configures, sets, resets, Answered, reads, fromSet, fromSerial, changes, refusedWith, Responded, answers, leaves, becomes, refuses}
 
 -- a record that fits a view, and has the sizes that 32 bytes give it
 pub record Fit (v : View) (d : Device) : Type 0 where
@@ -36,16 +36,8 @@ pub record Fit (v : View) (d : Device) : Type 0 where
 -- ---- what a fitting record's rules say
 module _ {v : View} {d : Device} (f : Fitting v d) where
   -- the ranges, with another state and wakeup
-  ranged : (state on : ℕ) → state ≤ 2 → on ≤ 1 → (leb state 2 && leb on 1 && eqb (d .power) 0 && eqb (d .suspended) 0 && eqb (d .speed) 0) ≡ true
-  ranged state on s w =
-      let row = leb (d .state) 2 ∷ leb (d .wakeup) 1 ∷ eqb (d .power) 0 ∷ eqb (d .suspended) 0 ∷ eqb (d .speed) 0 ∷ [] in
-      joined (joined (joined (joined (le-leb state 2 s) (le-leb on 1 w)) (conjunct 2 row (f .range))) (conjunct 3 row (f .range))) (conjunct 4 row (f .range))
-
-  state-below : d .state ≤ 2
-  state-below = leb-true (d .state) 2 (conjunct 0 (leb (d .state) 2 ∷ leb (d .wakeup) 1 ∷ eqb (d .power) 0 ∷ eqb (d .suspended) 0 ∷ eqb (d .speed) 0 ∷ []) (f .range))
-
-  wakeup-below : d .wakeup ≤ 1
-  wakeup-below = leb-true (d .wakeup) 1 (conjunct 1 (leb (d .state) 2 ∷ leb (d .wakeup) 1 ∷ eqb (d .power) 0 ∷ eqb (d .suspended) 0 ∷ eqb (d .speed) 0 ∷ []) (f .range))
+  ranged : {state on : ℕ} → state ≤ 2 → on ≤ 1 → Ranges state on (d .power) (d .suspended) (d .speed)
+  ranged s w = record { stated = s; waking = w; powered = f .range .powered; sleeping = f .range .sleeping; running = f .range .running }
 
   -- the four facts of Configured
   abbrev four : List Bool
@@ -67,7 +59,7 @@ module _ {v : View} {d : Device} (f : Fitting v d) where
       go : Dec (d .state ≡ 1) → (leb 1 (d .address) && leb (d .address) 127) ≡ true
       go (yes p) = both (leb 1 (d .address) && leb (d .address) 127) (eqb (d .configuration) 0) (in-address p) .0
       go (no n) =
-          let q = in-configured (omega (arith, state-below)) in
+          let q = in-configured (omega (arith, f .range .stated)) in
           joined (conjunct 0 four q) (conjunct 1 four q)
 
   -- what waits is an address, and no configuration is selected
@@ -81,14 +73,14 @@ module _ {v : View} {d : Device} (f : Fitting v d) where
       zero : Dec (d .state ≡ 0) → Dec (d .state ≡ 1) → d .configuration ≡ 0
       zero (yes p) q = eqb-true (d .configuration) 0 (both (eqb (d .address) 0) (eqb (d .configuration) 0) (if-then (eqb (d .state) 0) _ (f .default) (eq-eqb (d .state) 0 p)) .1)
       zero (no p) (yes q) = eqb-true (d .configuration) 0 (conjunct 2 three (in-address q))
-      zero (no p) (no q) = absurd (n (eqb-true (d .waiting) nothing (conjunct 3 four (in-configured (omega (arith, state-below))))))
+      zero (no p) (no q) = absurd (n (eqb-true (d .waiting) nothing (conjunct 3 four (in-configured (omega (arith, f .range .stated))))))
 
 -- ---- the changes
 module _ (bytes : List ℕ) (v : View) (s : Sound bytes v) where
   pub freshFits : Fit v fresh
   freshFits = record {
     fitting = record {
-      range = refl;
+      range = record { stated = lit≤ tt; waking = lit≤ tt; powered = refl; sleeping = refl; running = refl };
       waiting = refl;
       default = refl;
       address = refl;
@@ -108,8 +100,8 @@ module _ (bytes : List ℕ) (v : View) (s : Sound bytes v) where
     z : Sized d
     z = g .sized
 
-    dropped : Fit v (withWaiting nothing d)
-    dropped = record {
+    settles : Fit v (settled d)
+    settles = record {
       fitting = record {
         range = f .range;
         waiting = refl;
@@ -130,7 +122,7 @@ module _ (bytes : List ℕ) (v : View) (s : Sound bytes v) where
     awake : (on : ℕ) → on ≤ 1 → wakes v ≡ true → Fit v (withWakeup on d)
     awake on l w = record {
       fitting = record {
-        range = ranged f (d .state) on (state-below f) l;
+        range = ranged f (f .range .stated) l;
         waiting = f .waiting;
         default = f .default;
         address = f .address;
@@ -168,7 +160,7 @@ module _ (bytes : List ℕ) (v : View) (s : Sound bytes v) where
       where
         go : (b : Bool) → eqb (d .waiting) 0 ≡ b → (d .waiting ≤ 127) × (d .configuration ≡ 0) → Fitting v (withAddress (pick b inDefault inAddress) (d .waiting) d)
         go true p (l, c) = record {
-          range = ranged f 0 (d .wakeup) (lit≤ tt) (wakeup-below f);
+          range = ranged f (lit≤ tt) (f .range .waking);
           waiting = refl;
           default = joined p (eq-eqb (d .configuration) 0 c);
           address = refl;
@@ -179,7 +171,7 @@ module _ (bytes : List ℕ) (v : View) (s : Sound bytes v) where
           wakeup = f .wakeup;
         }
         go false p (l, c) = record {
-          range = ranged f 1 (d .wakeup) (lit≤ tt) (wakeup-below f);
+          range = ranged f (lit≤ tt) (f .range .waking);
           waiting = refl;
           default = refl;
           address = joined (joined (le-leb 1 (d .waiting) (omega (arith, eqb-false (d .waiting) 0 p))) (le-leb (d .waiting) 127 l)) (eq-eqb (d .configuration) 0 c);
@@ -193,7 +185,7 @@ module _ (bytes : List ℕ) (v : View) (s : Sound bytes v) where
     unconfigured : 1 ≤ d .state → Fit v (withConfiguration inAddress 0 d)
     unconfigured l = record {
       fitting = record {
-        range = ranged f 1 (d .wakeup) (lit≤ tt) (wakeup-below f);
+        range = ranged f (lit≤ tt) (f .range .waking);
         waiting = f .waiting;
         default = refl;
         address = joined (has-address f l) refl;
@@ -209,7 +201,7 @@ module _ (bytes : List ℕ) (v : View) (s : Sound bytes v) where
     configured : (c : ℕ) → 1 ≤ d .state → d .waiting ≡ nothing → any (λ k. eqb (k .value) c) (v .configurations) ≡ true → Fit v (withConfiguration inConfigured c d)
     configured c l w m = record {
       fitting = record {
-        range = ranged f 2 (d .wakeup) (lit≤ tt) (wakeup-below f);
+        range = ranged f (lit≤ tt) (f .range .waking);
         waiting = f .waiting;
         default = refl;
         address = refl;
@@ -243,19 +235,19 @@ module _ (bytes : List ℕ) (v : View) (s : Sound bytes v) where
       low : bitOf (e .address) < 32
       low = bit-below bytes v s d e m
 
-      halted : Fit v (setHalt d (bitOf (e .address)))
-      halted = words (setBit (d .halts) (bitOf (e .address))) (d .toggles)
+      halts : Fit v (setHalt d (bitOf (e .address)))
+      halts = words (setBit (d .halts) (bitOf (e .address))) (d .toggles)
           (stand-changed (currentEndpoints v d) (d .halts) _ e m c (set-other (d .halts) (bitOf (e .address))) (f .halts)) (f .toggles)
           (set-below 32 (d .halts) (bitOf (e .address)) low (z .halts-fit)) (z .toggles-fit)
 
-      unhalted : Fit v (clearHalt d (bitOf (e .address)))
-      unhalted = words (clearBit (d .halts) (bitOf (e .address))) (clearBit (d .toggles) (bitOf (e .address)))
+      unhalts : Fit v (clearHalt d (bitOf (e .address)))
+      unhalts = words (clearBit (d .halts) (bitOf (e .address))) (clearBit (d .toggles) (bitOf (e .address)))
           (stand-changed (currentEndpoints v d) (d .halts) _ e m c (clear-other (d .halts) (bitOf (e .address))) (f .halts))
           (stand-changed (currentEndpoints v d) (d .toggles) _ e m c (clear-other (d .toggles) (bitOf (e .address))) (f .toggles))
           (clear-below 32 (d .halts) (bitOf (e .address)) low (z .halts-fit)) (clear-below 32 (d .toggles) (bitOf (e .address)) low (z .toggles-fit))
 
-      flipped : Fit v (withEndpoints (d .alternates) (d .halts) (flipBit (d .toggles) (bitOf (e .address))) d)
-      flipped = words (d .halts) (flipBit (d .toggles) (bitOf (e .address))) (f .halts)
+      flips : Fit v (withEndpoints (d .alternates) (d .halts) (flipBit (d .toggles) (bitOf (e .address))) d)
+      flips = words (d .halts) (flipBit (d .toggles) (bitOf (e .address))) (f .halts)
           (stand-changed (currentEndpoints v d) (d .toggles) _ e m c (flip-other (d .toggles) (bitOf (e .address))) (f .toggles))
           (z .halts-fit) (flip-below 32 (d .toggles) (bitOf (e .address)) low (z .toggles-fit))
 
@@ -275,26 +267,27 @@ module _ (bytes : List ℕ) (v : View) (s : Sound bytes v) where
       sized = set-sized bytes v s d f z j a h;
     }
 
-    answeredFits : d .waiting ≡ nothing → {o : Outcome} → Answered v d o → Fit v (o .device)
-    answeredFits w (reads a p q) = g
-    answeredFits w (refusedWith n l h) = g
-    answeredFits w (fromSet e n m) = g
-    answeredFits w (fromSerial n) = g
-    answeredFits w (wakeup on l p) = awake on l p
-    answeredFits w (haltSet e m c) = halted e m c
-    answeredFits w (haltCleared e m c) = unhalted e m c
-    answeredFits w (waits a l h) = waiting a l h
-    answeredFits w (unconfigures l) = unconfigured l
-    answeredFits w (configures c l m) = configured c l w m
-    answeredFits w (sets j a h) = setting j a h
+    changedFits : {x : Device} → Changed v d x → Fit v x
+    changedFits (wakeup on l p) = awake on l p
+    changedFits (halted e m c) = halts e m c
+    changedFits (unhalted e m c) = unhalts e m c
+    changedFits (toggled e m c) = flips e m c
+    changedFits (waits a l h) = waiting a l h
+    changedFits (applies n) = applied n
+    changedFits (unconfigures l) = unconfigured l
+    changedFits (configures c l w m) = configured c l w m
+    changedFits (sets j a h) = setting j a h
+    changedFits resets = freshFits
+
+    answeredFits : {o : Outcome} → Answered v d o → Fit v (o .device)
+    answeredFits (reads a p q) = g
+    answeredFits (fromSet e n m) = g
+    answeredFits (fromSerial n) = g
+    answeredFits (changes c) = changedFits c
+    answeredFits (refusedWith n l h) = g
 
   pub respondedFits : (d : Device) → Fit v d → {e : Event} {o : Outcome} → Responded v d e o → Fit v (o .device)
-  respondedFits d g (answers a) = answeredFits (withWaiting nothing d) (dropped d g) refl a
-  respondedFits d g malformed = g
-  respondedFits d g nothingWaits = g
-  respondedFits d g (applies n) = applied d g n
-  respondedFits d g resets = freshFits
-  respondedFits d g noHalt = g
-  respondedFits d g (halts e m c) = halted d g e m c
-  respondedFits d g noPass = g
-  respondedFits d g (passes e m c) = flipped d g e m c
+  respondedFits d g (answers a) = answeredFits (settled d) (settles d g) a
+  respondedFits d g leaves = g
+  respondedFits d g (becomes c) = changedFits d g c
+  respondedFits d g (refuses r) = g

@@ -13,22 +13,22 @@ use Rattle.octets.specs.Sentences.{pick, any, first, isSome}
 use Rattle.octets.proofs.Sentences.{cases, both, if-then, conjunct, none-first}
 use Rattle.sets.specs.View.{View, byValue, orNone, unconfigured}
 use Rattle.records.specs.declared.Device.{Device}
-use Rattle.records.specs.Device.{inConfigured, nothing, withWaiting}
+use Rattle.records.specs.Device.{inConfigured, nothing}
 use Rattle.records.specs.Current.{selected}
 use Rattle.records.specs.Fits.{fits}
 use Rattle.requests.specs.Setup.{recipient}
 use Rattle.events.specs.declared.Event.{Event}
-use Rattle.events.specs.declared.Event.the-variants.{Request, Malformed, StatusEnd, BusReset, Halt, PacketPassed}
+use Rattle.events.specs.declared.Answer.{Answer}
 use Rattle.events.specs.Step.{respond}
-use Rattle.events.specs.Concerns.{eventConcerns, concerns}
-use Rattle.order.specs.Parts.{calm₂-again, calm₂-commute}
+use Rattle.events.specs.Concerns.{Subject, aSetup, anEndpoint, theDevice, subjectOf, subjectConcerns, eventConcerns, concerns}
 use Rattle.order.specs.Owners.{Owners}
 use Rattle.sets.proofs.Sound.{Sound}
 use Rattle.laws.proofs.Fitting.{fitting}
 use Rattle.laws.proofs.Keeping.{soundSelected}
-use Rattle.laws.specs.Parts.{Good, orNobody, Shared, shared, Same, rest, owned, who, isSetup, kind, settle, self, turn, join, whole}
+use Rattle.laws.specs.Parts.{Good, orNobody, Shared, shared, Same, rest, owned, who, Settling, keeps, settles, settledBy, kind, settle}
+use Rattle.laws.proofs.Same.{self, turn, join, whole, settled-same, settled-rest, settle-again, settle-commute}
 use Rattle.laws.proofs.Alike.{Alike, alike-event}
-use Rattle.laws.proofs.Touches.{Touches, settled, touch-event}
+use Rattle.laws.proofs.Touches.{Touches, touch-event}
 
 -- ---- whom an event concerns
 -- it is seen by everybody
@@ -37,19 +37,16 @@ unfolding concerns
 concerns-by v r s e p =
     ap (λ (x : Shared). pick (eqb (x .state) inConfigured) (eventConcerns (byValue (record { 0 = x .configuration }) (v .configurations)) e) none) p
 
-nobody-concerned : (e : Event) → eventConcerns unconfigured e ≡ none
+nobody-concerned : (u : Subject) → subjectConcerns unconfigured u ≡ none
 unfolding any first
-nobody-concerned (Request q) = go (eqb (recipient q) 1) (eqb (recipient q) 2)
+nobody-concerned (aSetup q) = go (eqb (recipient q) 1) (eqb (recipient q) 2)
   where
     go : (a b : Bool) → _≡_ {A = Option ℕ} (pick a none (pick b none none)) none
     go true b = refl
     go false true = refl
     go false false = refl
-nobody-concerned Malformed = refl
-nobody-concerned StatusEnd = refl
-nobody-concerned BusReset = refl
-nobody-concerned (Halt a) = refl
-nobody-concerned (PacketPassed a) = refl
+nobody-concerned (anEndpoint a) = refl
+nobody-concerned theDevice = refl
 
 module _ (set : List ℕ) (v : View) (S : Sound set v) where
   -- outside Configured a record that fits selects nothing, so no event concerns anybody
@@ -70,8 +67,7 @@ module _ (set : List ℕ) (v : View) (S : Sound set v) where
 
       one : eqb (d .state) 0 ≡ false → eqb (d .state) 1 ≡ true
       one p =
-          let range = leb (d .state) 2 ∷ leb (d .wakeup) 1 ∷ eqb (d .power) 0 ∷ eqb (d .suspended) 0 ∷ eqb (d .speed) 0 ∷ [] in
-          let l : d .state ≤ 2 = leb-true _ _ (conjunct 0 range (fitting v d g .range)) in
+          let l : d .state ≤ 2 = fitting v d g .range .stated in
           let a : d .state ≡ 0 → ⊥ = eqb-false _ _ p in
           let b : d .state ≡ 2 → ⊥ = eqb-false _ _ n in
           eq-eqb (d .state) 1 (omega arith)
@@ -82,7 +78,7 @@ module _ (set : List ℕ) (v : View) (S : Sound set v) where
     where
       go : (b : Bool) → eqb (d .state) inConfigured ≡ b → pick b (eventConcerns (selected v d) e) none ≡ eventConcerns (selected v d) e
       go true p = refl
-      go false p = sym (ap (λ c. eventConcerns c e) (zero-selects (d .configuration) (unselected d g p)) ∙ nobody-concerned e)
+      go false p = sym (ap (λ c. eventConcerns c e) (zero-selects (d .configuration) (unselected d g p)) ∙ nobody-concerned (subjectOf e))
 
 -- ---- the laws
 whose : (o : Option ℕ) → isSome o ≡ true → o ≡ some (orNobody o)
@@ -93,20 +89,6 @@ nobodys : (o : Option ℕ) → isSome o ≡ false → o ≡ none
 nobodys none p = refl
 nobodys (some j) p = absurd (false≢true (sym p))
 
-settled-same : (v : View) (k : ℕ) (d : Device) (e : Event) → Same v k (settled d e) d
-settled-same v k d e = go (isSetup e)
-  where
-    go : (b : Bool) → Same v k (pick b (withWaiting nothing d) d) d
-    go true = record { firm = refl; alternate = refl; halts = λ e p. refl; toggles = λ e p. refl }
-    go false = self v k d
-
-settled-rest : (d : Device) (e : Event) → rest (settled d e) ≡ settle (kind d e) (rest d)
-settled-rest d e = go (isSetup e)
-  where
-    go : (b : Bool) → rest (pick b (withWaiting nothing d) d) ≡ settle (b, false) (rest d)
-    go true = refl
-    go false = refl
-
 -- "in Configured, .. nothing waiting": today no event that concerns an interface has anything to drop
 configured : (v : View) (d : Device) (e : Event) → owned v d e ≡ true → eqb (d .state) inConfigured ≡ true
 unfolding concerns
@@ -116,8 +98,8 @@ configured v d e o = go (eqb (d .state) inConfigured) o
     go true p = refl
     go false p = p
 
-pub idle : (v : View) (d : Device) (e : Event) → fits v d ≡ true → owned v d e ≡ true → settle (kind d e) (rest d) ≡ rest d
-idle v d e f o = go (isSetup e)
+pub idle : (v : View) (d : Device) (e : Event) (a : Answer) → fits v d ≡ true → owned v d e ≡ true → settle (kind e a) (rest d) ≡ rest d
+idle v d e a f o = go (kind e a)
   where
     rules : Bool
     rules = leb 1 (d .address) && leb (d .address) 127 && any (λ c. eqb (c .value) (d .configuration)) (v .configurations)
@@ -125,9 +107,9 @@ idle v d e f o = go (isSetup e)
     waits : d .waiting ≡ nothing
     waits = eqb-true _ _ (both rules (eqb (d .waiting) nothing) (if-then _ _ (fitting v d f .configured) (configured v d e o)) .1)
 
-    go : (b : Bool) → settle (b, false) (rest d) ≡ rest d
-    go true = ap (λ w. (w, d .suspended)) (sym waits)
-    go false = refl
+    go : (m : Settling) → settle m (rest d) ≡ rest d
+    go keeps = refl
+    go settles = ap (λ w. (w, d .suspended)) (sym waits)
 
 module _ (set : List ℕ) (v : View) (S : Sound set v) where
   -- an event of k's
@@ -149,25 +131,24 @@ module _ (set : List ℕ) (v : View) (S : Sound set v) where
       alike-event v (rest r ≡ rest s) k r s e (soundSelected set v S r) (g .0 .sixteen) (d .0 .sixteen)
       (λ j p. absurd (Option·none-ne-some j (sym c ∙ p))) (λ p. w) (record { part = h; still = λ t. t })
 
-  touch-mine : (d : Device) (e : Event) → Good v d → owned v d e ≡ true → Touches v (who v d e) (settled d e) (respond v d e .device)
+  touch-mine : (d : Device) (e : Event) → Good v d → owned v d e ≡ true → Touches v (who v d e) (settledBy (kind e (respond v d e .answer)) d) (respond v d e .device)
   touch-mine d e g o = touch-event v (who v d e) d (soundSelected set v S d) e (mine d e g o)
 
   pub locality : ((d : Device) (e : Event) → Good v d → Good v (respond v d e .device))
       → Owners (λ d e. respond v d e .answer) (λ d e. respond v d e .device) (Good v) (owned v) (who v) (Same v) rest kind settle
-  locality keeps = record {
-    keeps = keeps;
+  locality stays = record {
+    keeps = stays;
     self = self v;
     turn = turn v;
     join = join v;
     owned-by = λ k r s e g d h. ap isSome (concerns-by v r s e (h .firm));
     who-by = λ k r s e g d h. ap orNobody (concerns-by v r s e (h .firm));
     reply = λ k r s e g d o w h. alike-mine k r s e g d o w h .answer;
-    kinds = λ k r s e g d o w h. refl;
     local = λ k r s e g d o w h. alike-mine k r s e g d o w h .near .part;
-    apart = λ k r e g o n. join v k _ _ _ (touch-mine r e g o .others k n) (settled-same v k r e);
-    rests = λ r e g o. touch-mine r e g o .still ∙ settled-rest r e;
-    again = calm₂-again (λ w. nothing) (λ x. 0) (λ w. refl) (λ x. refl);
-    commute = calm₂-commute (λ w. nothing) (λ x. 0);
+    apart = λ k r e g o n. join v k _ _ _ (touch-mine r e g o .others k n) (settled-same v k r (kind e (respond v r e .answer)));
+    rests = λ r e g o. touch-mine r e g o .still ∙ settled-rest r (kind e (respond v r e .answer));
+    again = settle-again;
+    commute = settle-commute;
     free-reply = λ k r s e g d o h w. alike-free k r s e g d o h w .answer;
     free-local = λ k r s e g d o h w. alike-free k r s e g d o h w .near .part;
     free-rest = λ k r s e g d o h w. alike-free k r s e g d o h w .near .still w;

@@ -22,7 +22,7 @@ use Rattle.events.specs.declared.Event.the-variants.{Halt, PacketPassed, Status
 use Rattle.events.specs.Concerns.{concerns}
 use Rattle.events.specs.Step.{setupEvent}
 use Rattle.order.specs.Run.{log}
-use Rattle.order.specs.Places.{Reordered}
+use Rattle.order.specs.Places.{Permuted}
 use Rattle.order.specs.Strike.{strike, left}
 use Rattle.order.specs.Owners.{Owners}
 use Rattle.promises.specs.Examples.{bytes, computed, T}
@@ -124,7 +124,7 @@ unfolding computed
 orderCounts = (refl, refl)
 
 -- place by place
-abbrev moved : Reordered (who (viewOf T) configured) oneOrder otherOrder
+abbrev moved : Permuted (who (viewOf T) configured) oneOrder otherOrder
 moved = places (viewOf T) configured oneOrder otherOrder rearranged
 
 pub samePlace : (i : ℕ) (a : Answer) → getElem? (answered T configured oneOrder) i ≡ some a
@@ -159,7 +159,7 @@ sameImage = orderImages T bytesT acceptedT configuredImage refl imageBytes image
 pub sameValues : (k : ℕ) → imageHeard T configuredImage k oneOrder ≡ imageHeard T configuredImage k otherOrder
 sameValues = orderImages T bytesT acceptedT configuredImage refl imageBytes imageFits oneOrder otherOrder imageRearranged .1
 
-abbrev imageMoved : Reordered (who (viewOf T) (deviceOf configuredImage)) oneOrder otherOrder
+abbrev imageMoved : Permuted (who (viewOf T) (deviceOf configuredImage)) oneOrder otherOrder
 imageMoved = places (viewOf T) (deviceOf configuredImage) oneOrder otherOrder imageRearranged
 
 pub sameValuesPlace : (i : ℕ) (a : Values) → getElem? (imageAnswered T configuredImage oneOrder) i ≡ some a

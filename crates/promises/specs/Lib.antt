@@ -5,7 +5,6 @@ pub mod Mistakes
 pub mod Packets
 pub mod Refusal
 pub mod Refusals
-pub mod Refusing
 pub mod Keeps
 pub mod Inhabited
 pub mod Rearranged

@@ -21,11 +21,14 @@ use Rattle.events.specs.declared.Event.{Event}
 use Rattle.events.specs.declared.Outcome.{Outcome}
 use Rattle.events.specs.Concerns.{concerns}
 use Rattle.events.specs.Step.{respond, step, Reply, replyOf, event}
-use Rattle.order.specs.Run.{log, own, run-shown, answers-shown, log-shown}
-use Rattle.order.specs.Shuffle.{all-shuffle}
-use Rattle.order.specs.Places.{Reordered, shuffle-of, own-places, places-own}
+use Rattle.order.specs.Run.{log, own}
+use Rattle.order.proofs.Run.{run-shown, answers-shown, log-shown}
+use Rattle.order.proofs.Shuffle.{all-shuffle}
+use Rattle.order.specs.Places.{Permuted}
+use Rattle.order.proofs.Places.{shuffle-of, own-places, places-own}
 use Rattle.order.specs.Strike.{strike, left}
-use Rattle.order.specs.Owners.{Owners, others, along, ordered, ordered-places, fair-always, unnoticed-by}
+use Rattle.order.specs.Owners.{Owners, others}
+use Rattle.order.proofs.Owners.{along, ordered, ordered-places, fair-always, unnoticed-by}
 use Rattle.sets.proofs.Sound.{Bytes}
 use Rattle.sets.proofs.Acceptance.{sound}
 use Rattle.promises.specs.Keeps.{stepFits}
@@ -39,10 +42,10 @@ module _ (v : View) (d : Device) (xs ys : List Event) where
   own-same : Rearranged v d xs ys → (k : ℕ) → own (who v d) k xs ≡ own (who v d) k ys
   own-same r k = own-is (concerns v d) k xs (r .one) ∙ r .same k ∙ sym (own-is (concerns v d) k ys (r .other))
 
-  pub places : Rearranged v d xs ys → Reordered (who v d) xs ys
+  pub places : Rearranged v d xs ys → Permuted (who v d) xs ys
   places r = places-own xs ys (own-same r)
 
-  pub placed : Concerned v d xs → Reordered (who v d) xs ys → Rearranged v d xs ys
+  pub placed : Concerned v d xs → Permuted (who v d) xs ys → Rearranged v d xs ys
   placed p w =
       let moved = all-shuffle (λ e. owned v d e ≡ true) (shuffle-of (who v d) xs ys w) (all-of (owned v d) xs p) in
       let q : Concerned v d ys = of-all (owned v d) ys moved in
@@ -100,7 +103,7 @@ module _ (b : Board) (bytes : Bytes (b .set)) (ok : accepted b ≡ true) where
             (every-log (owned (viewOf b) d) (answerOf b) (nextOf b) d zs p)
 
     -- the same place by place: the event at place i of xs, which stands at place `to i` of ys, gets the same answer there
-    pub orderPlaces : (xs ys : List Event) → Concerned (viewOf b) d xs → (w : Reordered (who (viewOf b) d) xs ys)
+    pub orderPlaces : (xs ys : List Event) → Concerned (viewOf b) d xs → (w : Permuted (who (viewOf b) d) xs ys)
         → (after b d xs ≡ after b d ys)
         × ((i : ℕ) (a : Answer) → getElem? (answered b d xs) i ≡ some a → getElem? (answered b d ys) (w .to i) ≡ some a)
     orderPlaces xs ys p w = ordered-places stepLocality d (sized, fit) xs ys (all-of (owned (viewOf b) d) xs p) w
@@ -112,7 +115,7 @@ module _ (b : Board) (bytes : Bytes (b .set)) (ok : accepted b ≡ true) where
         × Same (viewOf b) k (after b d xs) (after b d kept)
         × (rest (after b d xs) ≡ rest (after b d kept)))
     unnoticed k xs =
-        let fair = fair-always stepLocality (λ r e g o. idle (viewOf b) r e (g .1) o) k d (sized, fit) xs in
+        let fair = fair-always stepLocality (λ r e g o. idle (viewOf b) r e (answerOf b r e) (g .1) o) k d (sized, fit) xs in
         unnoticed-by stepLocality k d (sized, fit) xs fair
 
   -- ---- demand 3 on the 32 bytes that C hands over
@@ -158,7 +161,7 @@ module _ (b : Board) (bytes : Bytes (b .set)) (ok : accepted b ≡ true) where
           λ k. heard-shown xs k ∙ ap (map (λ p. (p .0, valuesOf (p .1)))) (same k) ∙ sym (heard-shown ys k),
         )
 
-    pub orderImagesPlaces : (xs ys : List Event) → Concerned (viewOf b) (deviceOf image) xs → (w : Reordered (who (viewOf b) (deviceOf image)) xs ys)
+    pub orderImagesPlaces : (xs ys : List Event) → Concerned (viewOf b) (deviceOf image) xs → (w : Permuted (who (viewOf b) (deviceOf image)) xs ys)
         → (imageAfter b image xs ≡ imageAfter b image ys)
         × ((i : ℕ) (a : Values) → getElem? (imageAnswered b image xs) i ≡ some a → getElem? (imageAnswered b image ys) (w .to i) ≡ some a)
     orderImagesPlaces xs ys p w =
