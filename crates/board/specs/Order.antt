@@ -19,7 +19,7 @@ use Rattle.promises.specs.Rearranged.{isThis, Rearranged, Values, imageAnswer, 
 use Rattle.laws.proofs.Picking.{only-map}
 use Rattle.promises.specs.Order.{orderImages}
 use Rattle.promises.specs.Keeps.{reachedFits}
-use Rattle.board.specs.Statements.{Opens, Spot}
+use Rattle.board.specs.Exports.{Opens, Spot}
 use Rattle.board.specs.Runs.{Call, eventOf, Given, Runs, givenAs, gives, leaves, ran, opening, reached, openedReached}
 
 -- ---- another order of the calls

@@ -5,8 +5,7 @@ use events::reply;
 ghost use mathlib.Core.Path.{_≡_};
 ghost use Rattle.events.specs.Answer.{partOf};
 ghost use Rattle.events.specs.Places.{Inside};
-ghost use Rattle.board.specs.Statements.{lent, spotOf, Hands};
-ghost use Rattle.board.specs.Lent.{numbered};
+ghost use Rattle.board.specs.Exports.{lent, spotOf, Hands, numbered};
 
 // The event of a number.
 pub fn event_of(kind: u8, endpoint: u8, setup: &[u8]) -> Event
