@@ -11,11 +11,11 @@ use borrow.Author.Tests.{ltb-true, ltb-false, lt-ltb, le-ltb}
 use Rattle.octets.specs.Octets.{byte}
 use Rattle.octets.proofs.Sentences.{cases}
 use Rattle.sets.specs.Opening.{Board}
-use Rattle.sets.specs.View.{viewOf, accepted}
+use Rattle.sets.specs.View.{accepted}
 use Rattle.records.specs.declared.Device.{Device}
 use Rattle.records.specs.Device.{fresh}
 use Rattle.records.specs.Image.{deviceOf}
-use Rattle.records.specs.Fits.{fits}
+use Rattle.records.specs.Fits.{fitsOn}
 use Rattle.events.specs.declared.Event.the-variants.{Malformed}
 use Rattle.events.specs.Answer.{numberOf}
 use Rattle.events.specs.Step.{step, event}
@@ -78,7 +78,7 @@ malformed : (b : Board) (image : List ℕ) → numberOf (event b image Malformed
 unfolding event step
 malformed b image = cases (eqb (length image) 32)
     (λ p. cases (accepted b)
-    (λ q. cases (fits (viewOf b) (deviceOf image)) (λ r. rw (p, q, r) (λ z. omega arith)) (λ r. rw (p, q, r) (λ z. omega arith)))
+    (λ q. cases (fitsOn b (deviceOf image)) (λ r. rw (p, q, r) (λ z. omega arith)) (λ r. rw (p, q, r) (λ z. omega arith)))
     (λ q. rw (p, q) (λ z. omega arith)))
     (λ p. cases (accepted b) (λ q. rw (p, q) (λ z. omega arith)) (λ q. rw (p, q) (λ z. omega arith)))
 

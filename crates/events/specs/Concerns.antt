@@ -5,10 +5,11 @@ use mathlib.Core.Bool.{Bool, false}
 use lib.Dec.{eqb}
 use Rattle.octets.specs.Sentences.{pick}
 use Rattle.descriptors.specs.Configuration.{Configuration, hasInterface, addressed}
+use Rattle.sets.specs.Opening.{Board}
 use Rattle.sets.specs.View.{View}
 use Rattle.records.specs.declared.Device.{Device}
 use Rattle.records.specs.Device.{inConfigured}
-use Rattle.records.specs.Current.{selected}
+use Rattle.records.specs.Current.{viewAt, selected}
 use Rattle.requests.specs.declared.Setup.{Setup}
 use Rattle.requests.specs.Setup.{recipient}
 use Rattle.events.specs.declared.Event.{Event}
@@ -48,6 +49,10 @@ eventConcerns c e = subjectConcerns c (subjectOf e)
 
 unfoldable pub concerns : View → Device → Event → Option ℕ
 concerns v d e = pick (eqb (d .state) inConfigured) (eventConcerns (selected v d) e) none
+
+-- on a board: by the set in use
+abbrev pub concernsOn : Board → Device → Event → Option ℕ
+concernsOn b d e = concerns (viewAt b d) d e
 
 -- whether that is interface k
 abbrev pub isThis : ℕ → Option ℕ → Bool

@@ -16,7 +16,7 @@ use Rattle.records.specs.Device.{inDefault, inAddress, nothing, fresh, settled,
 use Rattle.records.specs.Image.{deviceOf, imageOf}
 use Rattle.descriptors.specs.Configuration.{canHalt, bitOf}
 use Rattle.records.specs.Current.{viewAt, endpointAt}
-use Rattle.records.specs.Fits.{fits}
+use Rattle.records.specs.Fits.{fitsOn}
 use Rattle.requests.specs.declared.Setup.{Setup}
 use Rattle.requests.specs.Setup.{setupOf}
 use Rattle.requests.specs.Table.{refusal}
@@ -25,7 +25,7 @@ use Rattle.events.specs.declared.Answer.the-variants.{Refused}
 use Rattle.events.specs.declared.Event.{Event}
 use Rattle.events.specs.declared.Event.the-variants.{Request, Malformed, StatusEnd, BusReset, Halt, PacketPassed}
 use Rattle.events.specs.declared.Outcome.{Outcome}
-use Rattle.events.specs.Answer.{gives, done, refused}
+use Rattle.events.specs.Answer.{done, refused}
 use Rattle.events.specs.Requests.{getStatus, clearFeature, setFeature, setHalt, setAddress, getDescriptor, getConfiguration, setConfiguration, getInterface, setInterface}
 
 -- ---- a setup: the request by its code (the table has no other)
@@ -85,7 +85,7 @@ respond v d (PacketPassed a) = packetPassed v d a
 
 -- "Order: 7, 8, then for a setup 9 to 14, for a function event 16."
 unfoldable pub step : Board → Device → Event → Outcome
-step b d e = pick (accepted b) (pick (fits (viewAt b d) d) (respond (viewAt b d) d e) (refused 8 d)) (refused 7 d)
+step b d e = pick (accepted b) (pick (fitsOn b d) (respond (viewAt b d) d e) (refused 8 d)) (refused 7 d)
 
 -- "setup not 8 bytes"
 abbrev pub setupEvent : List ℕ → Event

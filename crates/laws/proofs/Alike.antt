@@ -32,7 +32,7 @@ use Rattle.events.specs.Requests.{byRecipient, getStatus, endpointStatus, isEnd
 use Rattle.events.specs.Step.{request, answerSetup, statusEnd, haltAt, halt, passAt, packetPassed, respond}
 use Rattle.events.specs.Concerns.{setupConcerns, eventConcerns}
 use Rattle.sets.proofs.Sound.{SoundConfiguration}
-use Rattle.laws.specs.Parts.{home, Shared, shared, Same, rest}
+use Rattle.laws.specs.Parts.{home, Shared, shared, SameIn, rest}
 use Rattle.laws.proofs.Same.{self}
 use Rattle.laws.proofs.Homes.{AllIn, all-in, found-home, found-alike, set-both, clear-both, flip-both, cleared-both}
 use Rattle.laws.proofs.Recipients.{Tabled, table-fits}
@@ -58,7 +58,7 @@ has-setting c S j a p =
 
 -- ---- records that k cannot tell apart, and outcomes that it cannot; T: whether the rest is compared too
 pub record Near (v : View) (T : Type 0) (k : ℕ) (d s : Device) : Type 0 where
-  pub part : Same v k d s
+  pub part : SameIn v k d s
   pub still : T → rest d ≡ rest s
 
 pub record Alike (v : View) (T : Type 0) (k : ℕ) (o p : Outcome) : Type 0 where

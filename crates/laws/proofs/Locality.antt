@@ -3,39 +3,41 @@
 -- alike, records that k cannot tell apart and whose rest is the same. Assumes nothing.
 use Prim.Native.Nat.{ℕ, _≤_}
 use native.Mathlib.Omega.{arith}
-use mathlib.Core.Path.{_≡_, refl, sym, ap, _∙_}
+use mathlib.Core.Path.{_≡_, refl, sym, ap, subst, _∙_}
 use mathlib.Core.Bool.{Bool, true, false, _&&_, false≢true}
-use mathlib.Core.List.{List, [], _∷_}
+use mathlib.Core.List.{List}
 use mathlib.Core.Option.{Option, some, none, Option·some-injective, Option·none-ne-some}
 use lib.Dec.{eqb, leb}
-use borrow.Author.Tests.{eqb-true, eqb-false, eq-eqb, ne-eqb, leb-true}
+use borrow.Author.Tests.{eqb-true, eqb-false, eq-eqb, ne-eqb}
 use Rattle.octets.specs.Sentences.{pick, any, first, isSome}
-use Rattle.octets.proofs.Sentences.{cases, both, if-then, conjunct, none-first}
-use Rattle.sets.specs.View.{View, byValue, orNone, unconfigured}
+use Rattle.octets.proofs.Sentences.{cases, both, if-then, none-first}
+use Rattle.sets.specs.Opening.{Board}
+use Rattle.sets.specs.View.{View, viewOf, byValue, orNone, unconfigured}
 use Rattle.records.specs.declared.Device.{Device}
 use Rattle.records.specs.Device.{inConfigured, nothing}
-use Rattle.records.specs.Current.{selected}
-use Rattle.records.specs.Fits.{fits}
+use Rattle.records.specs.Current.{viewFor, viewAt, selected}
+use Rattle.records.specs.Fits.{fits, fitsOn}
 use Rattle.requests.specs.Setup.{recipient}
 use Rattle.events.specs.declared.Event.{Event}
 use Rattle.events.specs.declared.Answer.{Answer}
+use Rattle.events.specs.declared.Outcome.{Outcome}
 use Rattle.events.specs.Step.{respond}
-use Rattle.events.specs.Concerns.{Subject, aSetup, anEndpoint, theDevice, subjectOf, subjectConcerns, eventConcerns, concerns}
+use Rattle.events.specs.Concerns.{Subject, aSetup, anEndpoint, theDevice, subjectOf, subjectConcerns, eventConcerns, concerns, concernsOn}
 use Rattle.order.specs.Owners.{Owners}
 use Rattle.sets.proofs.Sound.{Sound}
 use Rattle.laws.proofs.Fitting.{fitting}
 use Rattle.laws.proofs.Keeping.{soundSelected}
 use Rattle.laws.specs.Parts.{Good, orNobody, Shared, shared, Same, rest, owned, who, Settling, keeps, settles, settledBy, kind, settle}
-use Rattle.laws.proofs.Same.{self, turn, join, whole, settled-same, settled-rest, settle-again, settle-commute}
+use Rattle.laws.proofs.Same.{self, whole, same-view, turn-on, join-on, settled-same, settled-rest, settle-again, settle-commute}
 use Rattle.laws.proofs.Alike.{Alike, alike-event}
 use Rattle.laws.proofs.Touches.{Touches, touch-event}
 
 -- ---- whom an event concerns
 -- it is seen by everybody
-pub concerns-by : (v : View) (r s : Device) (e : Event) → shared r ≡ shared s → concerns v r e ≡ concerns v s e
+pub concerns-by : (b : Board) (r s : Device) (e : Event) → shared r ≡ shared s → concernsOn b r e ≡ concernsOn b s e
 unfolding concerns
-concerns-by v r s e p =
-    ap (λ (x : Shared). pick (eqb (x .state) inConfigured) (eventConcerns (byValue (record { 0 = x .configuration }) (v .configurations)) e) none) p
+concerns-by b r s e p =
+    ap (λ (x : Shared). pick (eqb (x .state) inConfigured) (eventConcerns (byValue (record { 0 = x .configuration }) (viewFor b (x .speed) .configurations)) e) none) p
 
 nobody-concerned : (u : Subject) → subjectConcerns unconfigured u ≡ none
 unfolding any first
@@ -90,67 +92,79 @@ nobodys none p = refl
 nobodys (some j) p = absurd (false≢true (sym p))
 
 -- "in Configured, .. nothing waiting": today no event that concerns an interface has anything to drop
-configured : (v : View) (d : Device) (e : Event) → owned v d e ≡ true → eqb (d .state) inConfigured ≡ true
+configured : (b : Board) (d : Device) (e : Event) → owned b d e ≡ true → eqb (d .state) inConfigured ≡ true
 unfolding concerns
-configured v d e o = go (eqb (d .state) inConfigured) o
+configured b d e o = go (eqb (d .state) inConfigured) o
   where
-    go : (b : Bool) → isSome (pick b (eventConcerns (selected v d) e) none) ≡ true → b ≡ true
+    go : (t : Bool) → isSome (pick t (eventConcerns (selected (viewAt b d) d) e) none) ≡ true → t ≡ true
     go true p = refl
     go false p = p
 
-pub idle : (v : View) (d : Device) (e : Event) (a : Answer) → fits v d ≡ true → owned v d e ≡ true → settle (kind e a) (rest d) ≡ rest d
-idle v d e a f o = go (kind e a)
+pub idle : (b : Board) (d : Device) (e : Event) (a : Answer) → fitsOn b d ≡ true → owned b d e ≡ true → settle (kind e a) (rest d) ≡ rest d
+idle b d e a f o = go (kind e a)
   where
     rules : Bool
-    rules = leb 1 (d .address) && leb (d .address) 127 && any (λ c. eqb (c .value) (d .configuration)) (v .configurations)
+    rules = leb 1 (d .address) && leb (d .address) 127 && any (λ c. eqb (c .value) (d .configuration)) (viewAt b d .configurations)
 
     waits : d .waiting ≡ nothing
-    waits = eqb-true _ _ (both rules (eqb (d .waiting) nothing) (if-then _ _ (fitting v d f .configured) (configured v d e o)) .1)
+    waits = eqb-true _ _ (both rules (eqb (d .waiting) nothing) (if-then _ _ (fitting (viewAt b d) d f .configured) (configured b d e o)) .1)
 
     go : (m : Settling) → settle m (rest d) ≡ rest d
     go keeps = refl
     go settles = ap (λ w. (w, d .suspended)) (sym waits)
 
-module _ (set : List ℕ) (v : View) (S : Sound set v) where
-  -- an event of k's
-  mine : (d : Device) (e : Event) → Good v d → owned v d e ≡ true → eventConcerns (selected v d) e ≡ some (who v d e)
-  mine d e g o = sym (concerns-good set v S d e (g .1)) ∙ whose (concerns v d e) o
+-- the step at a record that fits, by the set in use
+abbrev pub respondOn : Board → Device → Event → Outcome
+respondOn b d e = respond (viewAt b d) d e
 
-  alike-mine : (k : ℕ) (r s : Device) (e : Event) → Good v r → Good v s → owned v r e ≡ true → who v r e ≡ k → Same v k r s
-      → Alike v ⊥ k (respond v r e) (respond v s e)
+module _ (b : Board) (S : Sound (b .set) (viewOf b)) where
+  -- an event of k's
+  mine : (d : Device) (e : Event) → Good b d → owned b d e ≡ true → eventConcerns (selected (viewAt b d) d) e ≡ some (who b d e)
+  mine d e g o = sym (concerns-good (b .set) (viewAt b d) S d e (g .1)) ∙ whose (concernsOn b d e) o
+
+  -- from two records at one speed: the same set is in use
+  on-both : {T : Type 0} {k : ℕ} {r s : Device} (e : Event) → Same b k r s → Alike (viewAt b r) T k (respondOn b r e) (respond (viewAt b r) s e)
+      → Alike (viewAt b r) T k (respondOn b r e) (respondOn b s e)
+  on-both {T} {k} {r} {s} e h a = subst (λ v. Alike (viewAt b r) T k (respondOn b r e) (respond v s e)) (same-view b r s (h .firm)) a
+
+  alike-mine : (k : ℕ) (r s : Device) (e : Event) → Good b r → Good b s → owned b r e ≡ true → who b r e ≡ k → Same b k r s
+      → Alike (viewAt b r) ⊥ k (respondOn b r e) (respondOn b s e)
   alike-mine k r s e g d o w h =
+      let v = viewAt b r in
       let c : eventConcerns (selected v r) e ≡ some k = mine r e g o ∙ ap some w in
-      alike-event v ⊥ k r s e (soundSelected set v S r) (g .0 .sixteen) (d .0 .sixteen) (λ j p. Option·some-injective j k (sym p ∙ c))
-      (λ p. Option·none-ne-some k (sym (ap (eventConcerns (selected v r)) p) ∙ c)) (record { part = h; still = λ t. absurd t })
+      on-both e h (alike-event v ⊥ k r s e (soundSelected (b .set) v S r) (g .0 .sixteen) (d .0 .sixteen) (λ j p. Option·some-injective j k (sym p ∙ c))
+      (λ p. Option·none-ne-some k (sym (ap (eventConcerns (selected v r)) p) ∙ c)) (record { part = h; still = λ t. absurd t }))
 
   -- an event of nobody's
-  alike-free : (k : ℕ) (r s : Device) (e : Event) → Good v r → Good v s → owned v r e ≡ false → Same v k r s → rest r ≡ rest s
-      → Alike v (rest r ≡ rest s) k (respond v r e) (respond v s e)
+  alike-free : (k : ℕ) (r s : Device) (e : Event) → Good b r → Good b s → owned b r e ≡ false → Same b k r s → rest r ≡ rest s
+      → Alike (viewAt b r) (rest r ≡ rest s) k (respondOn b r e) (respondOn b s e)
   alike-free k r s e g d o h w =
-      let c : eventConcerns (selected v r) e ≡ none = sym (concerns-good set v S r e (g .1)) ∙ nobodys (concerns v r e) o in
-      alike-event v (rest r ≡ rest s) k r s e (soundSelected set v S r) (g .0 .sixteen) (d .0 .sixteen)
-      (λ j p. absurd (Option·none-ne-some j (sym c ∙ p))) (λ p. w) (record { part = h; still = λ t. t })
+      let v = viewAt b r in
+      let c : eventConcerns (selected v r) e ≡ none = sym (concerns-good (b .set) v S r e (g .1)) ∙ nobodys (concernsOn b r e) o in
+      on-both e h (alike-event v (rest r ≡ rest s) k r s e (soundSelected (b .set) v S r) (g .0 .sixteen) (d .0 .sixteen)
+      (λ j p. absurd (Option·none-ne-some j (sym c ∙ p))) (λ p. w) (record { part = h; still = λ t. t }))
 
-  touch-mine : (d : Device) (e : Event) → Good v d → owned v d e ≡ true → Touches v (who v d e) (settledBy (kind e (respond v d e .answer)) d) (respond v d e .device)
-  touch-mine d e g o = touch-event v (who v d e) d (soundSelected set v S d) e (mine d e g o)
+  touch-mine : (d : Device) (e : Event) → Good b d → owned b d e ≡ true
+      → Touches (viewAt b d) (who b d e) (settledBy (kind e (respondOn b d e .answer)) d) (respondOn b d e .device)
+  touch-mine d e g o = touch-event (viewAt b d) (who b d e) d (soundSelected (b .set) (viewAt b d) S d) e (mine d e g o)
 
-  pub locality : ((d : Device) (e : Event) → Good v d → Good v (respond v d e .device))
-      → Owners (λ d e. respond v d e .answer) (λ d e. respond v d e .device) (Good v) (owned v) (who v) (Same v) rest kind settle
+  pub locality : ((d : Device) (e : Event) → Good b d → Good b (respondOn b d e .device))
+      → Owners (λ d e. respondOn b d e .answer) (λ d e. respondOn b d e .device) (Good b) (owned b) (who b) (Same b) rest kind settle
   locality stays = record {
     keeps = stays;
-    self = self v;
-    turn = turn v;
-    join = join v;
-    owned-by = λ k r s e g d h. ap isSome (concerns-by v r s e (h .firm));
-    who-by = λ k r s e g d h. ap orNobody (concerns-by v r s e (h .firm));
+    self = λ k r. self (viewAt b r) k r;
+    turn = turn-on b;
+    join = join-on b;
+    owned-by = λ k r s e g d h. ap isSome (concerns-by b r s e (h .firm));
+    who-by = λ k r s e g d h. ap orNobody (concerns-by b r s e (h .firm));
     reply = λ k r s e g d o w h. alike-mine k r s e g d o w h .answer;
     local = λ k r s e g d o w h. alike-mine k r s e g d o w h .near .part;
-    apart = λ k r e g o n. join v k _ _ _ (touch-mine r e g o .others k n) (settled-same v k r (kind e (respond v r e .answer)));
-    rests = λ r e g o. touch-mine r e g o .still ∙ settled-rest r (kind e (respond v r e .answer));
+    apart = λ k r e g o n. join-on b k _ _ _ (touch-mine r e g o .others k n) (settled-same b k r (kind e (respondOn b r e .answer)));
+    rests = λ r e g o. touch-mine r e g o .still ∙ settled-rest r (kind e (respondOn b r e .answer));
     again = settle-again;
     commute = settle-commute;
     free-reply = λ k r s e g d o h w. alike-free k r s e g d o h w .answer;
     free-local = λ k r s e g d o h w. alike-free k r s e g d o h w .near .part;
     free-rest = λ k r s e g d o h w. alike-free k r s e g d o h w .near .still w;
-    whole = λ r s g d h w. whole v r s (g .0) (d .0) h w;
+    whole = λ r s g d h w. whole (viewAt b r) r s (g .0) (d .0) h w;
   }

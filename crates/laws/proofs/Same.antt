@@ -1,23 +1,25 @@
--- The laws of the record's parts: `Same` is an equivalence, a record that fits is its parts and its rest (`whole`), and settling leaves every
+-- The laws of the record's parts: `SameIn` and `Same` are equivalences, a record that fits is its parts and its rest (`whole`), and settling leaves every
 -- interface's part, may be done again and may change places. Assumes nothing.
 use Prim.Native.Nat.{ℕ}
-use mathlib.Core.Path.{_≡_, refl, sym, ap, _∙_}
+use mathlib.Core.Path.{_≡_, refl, sym, ap, subst, _∙_}
 use lib.Seq.{ext-getD}
 use Rattle.octets.proofs.Bits.{ext-bits}
+use Rattle.sets.specs.Opening.{Board}
 use Rattle.sets.specs.View.{View}
 use Rattle.records.specs.declared.Device.{Device}
+use Rattle.records.specs.Current.{viewFor, viewAt}
 use Rattle.records.proofs.Image.{Sized}
-use Rattle.laws.specs.Parts.{Shared, shared, home, Same, rest, Settling, keeps, settles, settledBy, settle}
+use Rattle.laws.specs.Parts.{Shared, shared, home, SameIn, Same, rest, Settling, keeps, settles, settledBy, settle}
 
 -- ---- the laws of Same
 module _ (v : View) where
-  pub self : (k : ℕ) (r : Device) → Same v k r r
+  pub self : (k : ℕ) (r : Device) → SameIn v k r r
   self k r = record { firm = refl; alternate = refl; halts = λ e p. refl; toggles = λ e p. refl }
 
   moved : {a b : Shared} {k : ℕ} (e : ℕ) → a ≡ b → home v b e ≡ k → home v a e ≡ k
   moved e f p = ap (λ c. home v c e) f ∙ p
 
-  pub turn : (k : ℕ) (r s : Device) → Same v k r s → Same v k s r
+  pub turn : (k : ℕ) (r s : Device) → SameIn v k r s → SameIn v k s r
   turn k r s h = record {
     firm = sym (h .firm);
     alternate = sym (h .alternate);
@@ -25,7 +27,7 @@ module _ (v : View) where
     toggles = λ e p. sym (h .toggles e (moved e (h .firm) p));
   }
 
-  pub join : (k : ℕ) (r s t : Device) → Same v k r s → Same v k s t → Same v k r t
+  pub join : (k : ℕ) (r s t : Device) → SameIn v k r s → SameIn v k s t → SameIn v k r t
   join k r s t h i = record {
     firm = h .firm ∙ i .firm;
     alternate = h .alternate ∙ i .alternate;
@@ -33,7 +35,7 @@ module _ (v : View) where
     toggles = λ e p. h .toggles e p ∙ i .toggles e (moved e (sym (h .firm)) p);
   }
 
-  pub whole : (r s : Device) → Sized r → Sized s → ((k : ℕ) → Same v k r s) → rest r ≡ rest s → r ≡ s
+  pub whole : (r s : Device) → Sized r → Sized s → ((k : ℕ) → SameIn v k r s) → rest r ≡ rest s → r ≡ s
   whole r s g d h w =
       let f = h 0 .firm in
       let at : ℕ → ℕ = home v (shared r) in
@@ -54,10 +56,21 @@ module _ (v : View) where
         toggles = c i;
       }
 
-  -- ---- settling
-  pub settled-same : (k : ℕ) (d : Device) (m : Settling) → Same v k (settledBy m d) d
-  settled-same k d keeps = self k d
-  settled-same k d settles = record { firm = refl; alternate = refl; halts = λ e p. refl; toggles = λ e p. refl }
+-- ---- on a board
+-- records that anybody cannot tell apart are at one speed, so one set is in use
+pub same-view : (b : Board) (r s : Device) → shared r ≡ shared s → viewAt b r ≡ viewAt b s
+same-view b r s p = ap (λ (x : Shared). viewFor b (x .speed)) p
+
+pub turn-on : (b : Board) (k : ℕ) (r s : Device) → Same b k r s → Same b k s r
+turn-on b k r s h = subst (λ v. SameIn v k s r) (same-view b r s (h .firm)) (turn (viewAt b r) k r s h)
+
+pub join-on : (b : Board) (k : ℕ) (r s t : Device) → Same b k r s → Same b k s t → Same b k r t
+join-on b k r s t h i = join (viewAt b r) k r s t h (subst (λ v. SameIn v k s t) (sym (same-view b r s (h .firm))) i)
+
+-- ---- settling
+pub settled-same : (b : Board) (k : ℕ) (d : Device) (m : Settling) → Same b k (settledBy m d) d
+settled-same b k d keeps = self (viewAt b d) k d
+settled-same b k d settles = record { firm = refl; alternate = refl; halts = λ e p. refl; toggles = λ e p. refl }
 
 pub settled-rest : (d : Device) (m : Settling) → rest (settledBy m d) ≡ settle m (rest d)
 settled-rest d keeps = refl

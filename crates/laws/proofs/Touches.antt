@@ -30,7 +30,7 @@ use Rattle.events.specs.Requests.{getStatus, endpointStatus, isEndpointZero, in
 use Rattle.events.specs.Step.{request, answerSetup, haltAt, halt, passAt, packetPassed, respond}
 use Rattle.events.specs.Concerns.{listedBy, setupConcerns, eventConcerns}
 use Rattle.sets.proofs.Sound.{SoundConfiguration}
-use Rattle.laws.specs.Parts.{home, homeIn, shared, Same, rest, settledBy, kind}
+use Rattle.laws.specs.Parts.{home, homeIn, shared, SameIn, rest, settledBy, kind}
 use Rattle.laws.proofs.Same.{self}
 use Rattle.laws.proofs.Outcomes.{chosen}
 use Rattle.laws.proofs.Homes.{AllIn, all-in, at-home, found-home, cleared-other}
@@ -39,7 +39,7 @@ use Rattle.laws.proofs.Recipients.{ofDevice, Tabled, table-fits}
 -- x differs from d in j's part alone
 pub record Touches (v : View) (j : ℕ) (d x : Device) : Type 0 where
   pub still : rest x ≡ rest d
-  pub others : (k : ℕ) → (j ≡ k → ⊥) → Same v k x d
+  pub others : (k : ℕ) → (j ≡ k → ⊥) → SameIn v k x d
 
 module _ (v : View) (j : ℕ) (d : Device) where
   touch-none : (x : Device) → x ≡ d → Touches v j d x

@@ -1,26 +1,28 @@
 -- The words of locality. The record taken apart: the shared fields, which every interface may read and no event of an interface changes, each interface's own part,
--- and the rest. `Same v k r s`: interface k cannot tell r from s.
+-- and the rest. `Same b k r s`: interface k cannot tell r from s.
 use Prim.Native.Nat.{ℕ}
 use mathlib.Core.Path.{_≡_}
-use mathlib.Core.Bool.{Bool, true, false}
+use mathlib.Core.Bool.{Bool, true}
 use mathlib.Core.Option.{Option, some, none, Option·map}
 use lib.ListN.{getD}
 use lib.Dec.{eqb}
 use Rattle.octets.specs.Bit.{bit}
 use Rattle.octets.specs.Sentences.{first, isSome}
 use Rattle.descriptors.specs.Configuration.{Configuration, bitOf}
+use Rattle.sets.specs.Opening.{Board}
 use Rattle.sets.specs.View.{View, byValue}
 use Rattle.records.specs.declared.Device.{Device}
 use Rattle.records.specs.Device.{inDefault, zeros, settled}
-use Rattle.records.specs.Fits.{fits}
+use Rattle.records.specs.Current.{viewAt}
+use Rattle.records.specs.Fits.{fitsOn}
 use Rattle.records.proofs.Image.{Sized}
 use Rattle.events.specs.declared.Event.{Event}
 use Rattle.events.specs.declared.Answer.{Answer}
-use Rattle.events.specs.Concerns.{Subject, aSetup, anEndpoint, theDevice, subjectOf, concerns}
+use Rattle.events.specs.Concerns.{Subject, aSetup, anEndpoint, theDevice, subjectOf, concernsOn}
 
 -- a record that fits, of the size that the code has
-abbrev pub Good : View → Device → Type 0
-Good v d = Sized d × (fits v d ≡ true)
+abbrev pub Good : Board → Device → Type 0
+Good b d = Sized d × (fitsOn b d ≡ true)
 
 -- no interface's number
 abbrev pub nobody : ℕ
@@ -51,22 +53,26 @@ unfoldable pub home : View → Shared → ℕ → ℕ
 home v s k = homeIn (byValue (record { 0 = s .configuration }) (v .configurations)) k
 
 -- the shared fields, k's alternate setting, and the halts and toggles of the addresses that k lists
-pub record Same (v : View) (k : ℕ) (r s : Device) : Type 0 where
+pub record SameIn (v : View) (k : ℕ) (r s : Device) : Type 0 where
   pub firm : shared r ≡ shared s
   pub alternate : getD (r .alternates) k 0 ≡ getD (s .alternates) k 0
   pub halts : (e : ℕ) → home v (shared r) e ≡ k → bit (r .halts) e ≡ bit (s .halts) e
   pub toggles : (e : ℕ) → home v (shared r) e ≡ k → bit (r .toggles) e ≡ bit (s .toggles) e
+
+-- interface k cannot tell r from s, on a board: the shared fields choose the set in use
+abbrev pub Same : Board → ℕ → Device → Device → Type 0
+Same b k r s = SameIn (viewAt b r) k r s
 
 -- the rest: what waits, and the sleep byte
 abbrev pub rest : Device → ℕ × ℕ
 rest d = (d .waiting, d .suspended)
 
 -- ---- events: whether one concerns an interface, and which
-abbrev pub owned : View → Device → Event → Bool
-owned v d e = isSome (concerns v d e)
+abbrev pub owned : Board → Device → Event → Bool
+owned b d e = isSome (concernsOn b d e)
 
-abbrev pub who : View → Device → Event → ℕ
-who v d e = orNobody (concerns v d e)
+abbrev pub who : Board → Device → Event → ℕ
+who b d e = orNobody (concernsOn b d e)
 
 -- ---- settling: what of the rest an event that concerns an interface changes, by the event and its answer
 pub data Settling : Type 0 where

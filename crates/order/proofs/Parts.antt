@@ -3,7 +3,7 @@
 -- over, the rest, only by a settling that may stand anywhere. Assumes nothing.
 use Prim.Native.Nat.{ℕ}
 use native.Mathlib.Decide.{ℕ-discrete}
-use mathlib.Core.Path.{_≡_, refl, sym, _∙_}
+use mathlib.Core.Path.{_≡_, sym, _∙_}
 use Rattle.order.proofs.Order.{Square}
 
 -- Same j r s: what j's events can see of r and s is the same. rest r: what of the shared part considered events may change.

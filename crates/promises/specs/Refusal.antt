@@ -6,11 +6,11 @@ use lib.ListN.{length}
 use lib.Dec.{eqb, leb}
 use Rattle.octets.specs.Sentences.{pick}
 use Rattle.sets.specs.Opening.{Board}
-use Rattle.sets.specs.View.{viewOf, accepted}
+use Rattle.sets.specs.View.{accepted}
 use Rattle.records.specs.declared.Device.{Device}
 use Rattle.records.specs.Device.{settled}
 use Rattle.records.specs.Image.{deviceOf, settledImage}
-use Rattle.records.specs.Fits.{fits}
+use Rattle.records.specs.Fits.{fitsOn}
 use Rattle.events.specs.declared.Event.{Event}
 use Rattle.events.specs.declared.Event.the-variants.{Request, Malformed, StatusEnd, BusReset, Halt, PacketPassed}
 use Rattle.events.specs.Answer.{ofSet, Part}
@@ -34,7 +34,7 @@ refuses (PacketPassed a) n = eqb n 16
 
 -- "Order: 7, 8, then for a setup 9 to 14, for a function event 16"; 0 is done
 abbrev pub allows : Board → Device → Event → ℕ → Bool
-allows b d e n = pick (accepted b) (pick (fits (viewOf b) d) (eqb n 0 || refuses e n) (eqb n 8)) (eqb n 7)
+allows b d e n = pick (accepted b) (pick (fitsOn b d) (eqb n 0 || refuses e n) (eqb n 8)) (eqb n 7)
 
 -- "an empty part"
 abbrev pub emptyPart : Part
@@ -43,7 +43,7 @@ emptyPart = record { block = ofSet; offset = 0; length = 0 }
 -- ---- on images
 -- as for records, but that an image of another length does not fit
 abbrev pub allowsImage : Board → List ℕ → Event → ℕ → Bool
-allowsImage b image e n = pick (accepted b) (pick (eqb (length image) 32 && fits (viewOf b) (deviceOf image)) (eqb n 0 || refuses e n) (eqb n 8)) (eqb n 7)
+allowsImage b image e n = pick (accepted b) (pick (eqb (length image) 32 && fitsOn b (deviceOf image)) (eqb n 0 || refuses e n) (eqb n 8)) (eqb n 7)
 
 -- the image that a refusal numbered n leaves: byte for byte as it was, but that 10 to 14 put 255 ("none") into byte 2, the waiting address
 abbrev pub imageLeftBy : ℕ → List ℕ → List ℕ

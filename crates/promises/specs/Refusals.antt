@@ -12,12 +12,13 @@ use Rattle.octets.specs.Sentences.{pick}
 use Rattle.octets.proofs.Sentences.{cases, joined, or-left, or-right}
 use Rattle.descriptors.specs.Limits.{fullSpeed}
 use Rattle.sets.specs.Opening.{Board, opening}
-use Rattle.sets.specs.View.{viewOf, accepted}
+use Rattle.sets.specs.View.{accepted}
 use Rattle.records.specs.declared.Device.{Device}
 use Rattle.records.specs.Device.{nothing, fresh, settled}
 use Rattle.records.specs.Image.{deviceOf, imageOf}
 use Rattle.records.proofs.Image.{image-device}
-use Rattle.records.specs.Fits.{fits}
+use Rattle.records.specs.Current.{viewAt}
+use Rattle.records.specs.Fits.{fitsOn}
 use Rattle.events.specs.declared.Answer.{Answer}
 use Rattle.events.specs.declared.Answer.the-variants.{Done, OneByte, TwoBytes, SetPart, SerialPart, Refused}
 use Rattle.events.specs.declared.Event.{Event}
@@ -62,14 +63,14 @@ module _ (b : Board) (d : Device) (e : Event) where
   pub stepNumber : allows b d e (numberOf (step b d e .answer)) ≡ true
   unfolding step
   stepNumber = cases (accepted b)
-      (λ p. cases (fits (viewOf b) d) (λ q. rw (p, q) (ownNumber (numbered (responded (viewOf b) d e)))) (λ q. rw (p, q)))
+      (λ p. cases (fitsOn b d) (λ q. rw (p, q) (ownNumber (numbered (responded (viewAt b d) d e)))) (λ q. rw (p, q)))
       (λ p. rw p)
 
   -- where the number is not 0 the record stays as it was, but that 10 to 14 drop an address still waiting
   pub stepKeeps : (numberOf (step b d e .answer) ≡ 0 → ⊥) → step b d e .device ≡ leftBy (numberOf (step b d e .answer)) d
   unfolding step
   stepKeeps = cases (accepted b)
-      (λ p. cases (fits (viewOf b) d) (λ q. rw (p, q) (keeps (numbered (responded (viewOf b) d e)))) (λ q. rw (p, q) (λ z. refl)))
+      (λ p. cases (fitsOn b d) (λ q. rw (p, q) (keeps (numbered (responded (viewAt b d) d e)))) (λ q. rw (p, q) (λ z. refl)))
       (λ p. rw p (λ z. refl))
 
   -- so with nothing waiting, as in Configured, every refusal leaves all as it was
@@ -80,7 +81,7 @@ module _ (b : Board) (d : Device) (e : Event) where
   pub stepInside : Inside (b .set) (b .serial) (partOf (step b d e .answer))
   unfolding step
   stepInside = cases (accepted b)
-      (λ p. cases (fits (viewOf b) d) (λ q. rw (p, q) (placed b (groups fullSpeed b (eqb-true (opening fullSpeed b) 0 p)) (responded (viewOf b) d e))) (λ q. rw (p, q) (omega arith)))
+      (λ p. cases (fitsOn b d) (λ q. rw (p, q) (placed b (groups fullSpeed b (eqb-true (opening fullSpeed b) 0 p)) (responded (viewAt b d) d e))) (λ q. rw (p, q) (omega arith)))
       (λ p. rw p (omega arith))
 
 -- ---- over events on images
