@@ -1,22 +1,22 @@
 -- A fitting record keeps fitting under every kind of outcome. Assumes nothing.
 use Prim.Native.Nat.{ℕ, _^_, _≤_, _<_}
 use native.Mathlib.Omega.{arith}
-use native.Mathlib.Decide.{ℕ-discrete}
-use mathlib.Core.Path.{_≡_, refl}
+use mathlib.Core.Path.{_≡_, refl, ap}
+use lib.ListN.{length}
 use mathlib.Core.Logic.{_⊎_, inl, inr}
-use mathlib.Core.List.{List, [], _∷_, List·Memᴰ}
-use mathlib.Core.Bool.{Bool, true, false, _&&_}
+use mathlib.Core.List.{List, List·Memᴰ}
+use mathlib.Core.Bool.{Bool, true, false}
 use lib.Dec.{eqb, leb, lit≤}
-use borrow.Author.Tests.{eqb-true, eqb-false, eq-eqb, leb-true, le-leb}
+use borrow.Author.Tests.{eqb-true, eqb-false, leb-true, le-leb}
 use Rattle.octets.specs.Bit.{setBit, clearBit, flipBit}
 use Rattle.octets.specs.Sentences.{pick, any}
-use Rattle.octets.proofs.Sentences.{both, joined, either, or-left, if-then, then-if, conjunct}
+use Rattle.octets.proofs.Sentences.{either, or-left, then-if}
 use Rattle.octets.proofs.Bits.{set-other, clear-other, flip-other, set-below, clear-below, flip-below}
 use Rattle.descriptors.specs.declared.Endpoint.{Endpoint}
 use Rattle.descriptors.specs.Configuration.{hasSetting, canHalt, bitOf}
 use Rattle.sets.specs.View.{View, wakes}
 use Rattle.records.specs.declared.Device.{Device}
-use Rattle.records.specs.Device.{inDefault, inAddress, inConfigured, nothing, fresh, settled, withWaiting, withWakeup, withAddress, withConfiguration, withEndpoints}
+use Rattle.records.specs.Device.{inDefault, inAddress, inConfigured, nothing, zeros, fresh, settled, withWaiting, withWakeup, withAddress, withConfiguration, withEndpoints}
 use Rattle.records.specs.Current.{selected, currentEndpoints}
 use Rattle.records.specs.Fits.{standsAt}
 use Rattle.records.proofs.Image.{Sized}
@@ -24,7 +24,8 @@ use Rattle.events.specs.declared.Event.{Event}
 use Rattle.events.specs.declared.Outcome.{Outcome}
 use Rattle.events.specs.Requests.{clearHalt, setHalt, withSetting}
 use Rattle.sets.proofs.Sound.{Sound}
-use Rattle.laws.proofs.Fitting.{Ranges, Fitting}
+use Rattle.laws.proofs.Fitting.{Ranges, Stated, atDefault, atAddress, atConfigured, Common, Stands, Fitting}
+use Rattle.laws.specs.Parts.{Shared, shared, rest, withCommon}
 use Rattle.laws.proofs.Keeping.{none-stand, stand-changed, bit-below, zeros-good, set-good, set-stands, set-sized}
 use Rattle.laws.proofs.Outcomes.{Changed, wakeup, halted, unhalted, toggled, waits, applies, unconfigures, configures, sets, resets, Answered, reads, fromSet, fromSerial, changes, refusedWith, Responded, answers, leaves, becomes, refuses}
 
@@ -34,202 +35,137 @@ pub record Fit (v : View) (d : Device) : Type 0 where
   pub sized : Sized d
 
 -- ---- what a fitting record's rules say
-module _ {v : View} {d : Device} (f : Fitting v d) where
+module _ {v : View} {d : Device} (f : Common v d) where
   -- the ranges, with another state and wakeup
   ranged : {state on : ℕ} → state ≤ 2 → on ≤ 1 → Ranges state on (d .power) (d .suspended) (d .speed)
   ranged s w = record { stated = s; waking = w; powered = f .range .powered; sleeping = f .range .sleeping; running = f .range .running }
 
-  -- the four facts of Configured
-  abbrev four : List Bool
-  four = leb 1 (d .address) ∷ leb (d .address) 127 ∷ any (λ c. eqb (c .value) (d .configuration)) (v .configurations) ∷ eqb (d .waiting) nothing ∷ []
-
-  abbrev three : List Bool
-  three = leb 1 (d .address) ∷ leb (d .address) 127 ∷ eqb (d .configuration) 0 ∷ []
-
-  in-configured : d .state ≡ 2 → (leb 1 (d .address) && leb (d .address) 127 && any (λ c. eqb (c .value) (d .configuration)) (v .configurations) && eqb (d .waiting) nothing) ≡ true
-  in-configured p = if-then (eqb (d .state) 2) _ (f .configured) (eq-eqb (d .state) 2 p)
-
-  in-address : d .state ≡ 1 → (leb 1 (d .address) && leb (d .address) 127 && eqb (d .configuration) 0) ≡ true
-  in-address p = if-then (eqb (d .state) 1) _ (f .address) (eq-eqb (d .state) 1 p)
-
   -- past Default there is an address
-  has-address : 1 ≤ d .state → (leb 1 (d .address) && leb (d .address) 127) ≡ true
-  has-address l = go (ℕ-discrete (d .state) 1)
+  has-address : 1 ≤ d .state → (1 ≤ d .address) × (d .address ≤ 127)
+  has-address p = go (f .state)
     where
-      go : Dec (d .state ≡ 1) → (leb 1 (d .address) && leb (d .address) 127) ≡ true
-      go (yes p) = both (leb 1 (d .address) && leb (d .address) 127) (eqb (d .configuration) 0) (in-address p) .0
-      go (no n) =
-          let q = in-configured (omega (arith, f .range .stated)) in
-          joined (conjunct 0 four q) (conjunct 1 four q)
+      go : Stated v (d .state) (d .address) (d .waiting) (d .configuration) → (1 ≤ d .address) × (d .address ≤ 127)
+      go (atDefault s a c) = absurd (omega arith)
+      go (atAddress s l h c) = (l, h)
+      go (atConfigured s l h m w) = (l, h)
 
   -- what waits is an address, and no configuration is selected
   address-waits : (d .waiting ≡ nothing → ⊥) → (d .waiting ≤ 127) × (d .configuration ≡ 0)
-  address-waits n = (low (either (leb (d .waiting) 127) (eqb (d .waiting) nothing) (f .waiting)), zero (ℕ-discrete (d .state) 0) (ℕ-discrete (d .state) 1))
+  address-waits n = (low (either (leb (d .waiting) 127) (eqb (d .waiting) nothing) (f .waiting)), go (f .state))
     where
       low : (leb (d .waiting) 127 ≡ true) ⊎ (eqb (d .waiting) nothing ≡ true) → d .waiting ≤ 127
       low (inl p) = leb-true (d .waiting) 127 p
       low (inr p) = absurd (n (eqb-true (d .waiting) nothing p))
 
-      zero : Dec (d .state ≡ 0) → Dec (d .state ≡ 1) → d .configuration ≡ 0
-      zero (yes p) q = eqb-true (d .configuration) 0 (both (eqb (d .address) 0) (eqb (d .configuration) 0) (if-then (eqb (d .state) 0) _ (f .default) (eq-eqb (d .state) 0 p)) .1)
-      zero (no p) (yes q) = eqb-true (d .configuration) 0 (conjunct 2 three (in-address q))
-      zero (no p) (no q) = absurd (n (eqb-true (d .waiting) nothing (conjunct 3 four (in-configured (omega (arith, f .range .stated))))))
+      go : Stated v (d .state) (d .address) (d .waiting) (d .configuration) → d .configuration ≡ 0
+      go (atDefault s a c) = c
+      go (atAddress s l h c) = c
+      go (atConfigured s l h m w) = absurd (n w)
 
 -- ---- the changes
 module _ (bytes : List ℕ) (v : View) (s : Sound bytes v) where
-  pub freshFits : Fit v fresh
-  freshFits = record {
-    fitting = record {
-      range = record { stated = lit≤ tt; waking = lit≤ tt; powered = refl; sleeping = refl; running = refl };
-      waiting = refl;
-      default = refl;
-      address = refl;
-      configured = refl;
-      alternates = zeros-good bytes v s fresh refl;
-      halts = none-stand (currentEndpoints v fresh);
-      toggles = none-stand (currentEndpoints v fresh);
-      wakeup = refl;
-    };
-    sized = record { sixteen = refl; halts-fit = omega arith; toggles-fit = omega arith };
+  -- every setting, halt and toggle 0
+  cleared : (x : Device) → x .alternates ≡ zeros → x .halts ≡ 0 → x .toggles ≡ 0 → Common v x → Fit v x
+  cleared x a h t c = record {
+    fitting = record { common = c; stands = record { alternates = zeros-good bytes v s x a; halts = rw h (none-stand (currentEndpoints v x)); toggles = rw t (none-stand (currentEndpoints v x)) } };
+    sized = record { sixteen = ap length a; halts-fit = rw h (omega arith); toggles-fit = rw t (omega arith) };
   }
 
+  pub freshFits : Fit v fresh
+  freshFits = cleared fresh refl refl refl (record {
+    range = record { stated = lit≤ tt; waking = lit≤ tt; powered = refl; sleeping = refl; running = refl };
+    waiting = refl;
+    state = atDefault refl refl refl;
+    wakeup = refl;
+  })
+
   module _ (d : Device) (g : Fit v d) where
-    f : Fitting v d
-    f = g .fitting
+    f : Common v d
+    f = g .fitting .common
 
     z : Sized d
     z = g .sized
 
-    settles : Fit v (settled d)
-    settles = record {
-      fitting = record {
-        range = f .range;
-        waiting = refl;
-        default = f .default;
-        address = f .address;
-        configured = then-if (eqb (d .state) 2) _ (λ p. joined (both placed (eqb (d .waiting) nothing) (in-configured f (eqb-true (d .state) 2 p)) .0) refl);
-        alternates = f .alternates;
-        halts = f .halts;
-        toggles = f .toggles;
-        wakeup = f .wakeup;
-      };
+    -- other shared fields and another rest, at the same configuration
+    shares : (x : Shared) (w : ℕ × ℕ) → x .configuration ≡ d .configuration → Common v (withCommon x w d) → Fit v (withCommon x w d)
+    shares x w p c = record {
+      fitting = record { common = c; stands = record { alternates = rw p (g .fitting .stands .alternates); halts = rw p (g .fitting .stands .halts); toggles = rw p (g .fitting .stands .toggles) } };
       sized = record { sixteen = z .sixteen; halts-fit = z .halts-fit; toggles-fit = z .toggles-fit };
     }
+
+    settles : Fit v (settled d)
+    settles = shares (shared d) (nothing, d .suspended) refl (record { range = f .range; waiting = refl; state = go (f .state); wakeup = f .wakeup })
       where
-        placed : Bool
-        placed = leb 1 (d .address) && leb (d .address) 127 && any (λ c. eqb (c .value) (d .configuration)) (v .configurations)
+        go : Stated v (d .state) (d .address) (d .waiting) (d .configuration) → Stated v (d .state) (d .address) nothing (d .configuration)
+        go (atDefault s a c) = atDefault s a c
+        go (atAddress s l h c) = atAddress s l h c
+        go (atConfigured s l h m w) = atConfigured s l h m refl
 
     awake : (on : ℕ) → on ≤ 1 → wakes v ≡ true → Fit v (withWakeup on d)
-    awake on l w = record {
-      fitting = record {
-        range = ranged f (f .range .stated) l;
-        waiting = f .waiting;
-        default = f .default;
-        address = f .address;
-        configured = f .configured;
-        alternates = f .alternates;
-        halts = f .halts;
-        toggles = f .toggles;
-        wakeup = then-if (eqb on 1) (wakes v) (λ p. w);
-      };
-      sized = record { sixteen = z .sixteen; halts-fit = z .halts-fit; toggles-fit = z .toggles-fit };
-    }
+    awake on l w = shares (shared (withWakeup on d)) (rest d) refl (record {
+      range = ranged f (f .range .stated) l;
+      waiting = f .waiting;
+      state = f .state;
+      wakeup = then-if (eqb on 1) (wakes v) (λ p. w);
+    })
 
     waiting : (a : ℕ) → a ≤ 127 → d .state ≤ 1 → Fit v (withWaiting a d)
-    waiting a l h = record {
-      fitting = record {
-        range = f .range;
-        waiting = or-left (eqb a nothing) (le-leb a 127 l);
-        default = f .default;
-        address = f .address;
-        configured = then-if (eqb (d .state) 2) _ (λ p. absurd (omega (arith, eqb-true (d .state) 2 p)));
-        alternates = f .alternates;
-        halts = f .halts;
-        toggles = f .toggles;
-        wakeup = f .wakeup;
-      };
-      sized = record { sixteen = z .sixteen; halts-fit = z .halts-fit; toggles-fit = z .toggles-fit };
-    }
+    waiting a l p = shares (shared d) (a, d .suspended) refl (record {
+      range = f .range;
+      waiting = or-left (eqb a nothing) (le-leb a 127 l);
+      state = go (f .state);
+      wakeup = f .wakeup;
+    })
+      where
+        go : Stated v (d .state) (d .address) (d .waiting) (d .configuration) → Stated v (d .state) (d .address) a (d .configuration)
+        go (atDefault s b c) = atDefault s b c
+        go (atAddress s m h c) = atAddress s m h c
+        go (atConfigured s m h n w) = absurd (omega arith)
 
     -- the address that waited
     applied : (d .waiting ≡ nothing → ⊥) → Fit v (withAddress (pick (eqb (d .waiting) 0) inDefault inAddress) (d .waiting) d)
-    applied n = record {
-      fitting = go (eqb (d .waiting) 0) refl (address-waits f n);
-      sized = record { sixteen = z .sixteen; halts-fit = z .halts-fit; toggles-fit = z .toggles-fit };
-    }
+    applied n = go (eqb (d .waiting) 0) refl (address-waits f n)
       where
-        go : (b : Bool) → eqb (d .waiting) 0 ≡ b → (d .waiting ≤ 127) × (d .configuration ≡ 0) → Fitting v (withAddress (pick b inDefault inAddress) (d .waiting) d)
-        go true p (l, c) = record {
+        go : (b : Bool) → eqb (d .waiting) 0 ≡ b → (d .waiting ≤ 127) × (d .configuration ≡ 0) → Fit v (withAddress (pick b inDefault inAddress) (d .waiting) d)
+        go true p (l, c) = shares (shared (withAddress inDefault (d .waiting) d)) (nothing, d .suspended) refl (record {
           range = ranged f (lit≤ tt) (f .range .waking);
           waiting = refl;
-          default = joined p (eq-eqb (d .configuration) 0 c);
-          address = refl;
-          configured = refl;
-          alternates = f .alternates;
-          halts = f .halts;
-          toggles = f .toggles;
+          state = atDefault refl (eqb-true _ _ p) c;
           wakeup = f .wakeup;
-        }
-        go false p (l, c) = record {
+        })
+        go false p (l, c) = shares (shared (withAddress inAddress (d .waiting) d)) (nothing, d .suspended) refl (record {
           range = ranged f (lit≤ tt) (f .range .waking);
           waiting = refl;
-          default = refl;
-          address = joined (joined (le-leb 1 (d .waiting) (omega (arith, eqb-false (d .waiting) 0 p))) (le-leb (d .waiting) 127 l)) (eq-eqb (d .configuration) 0 c);
-          configured = refl;
-          alternates = f .alternates;
-          halts = f .halts;
-          toggles = f .toggles;
+          state = atAddress refl (let n = eqb-false (d .waiting) 0 p in omega arith) l c;
           wakeup = f .wakeup;
-        }
+        })
 
     unconfigured : 1 ≤ d .state → Fit v (withConfiguration inAddress 0 d)
-    unconfigured l = record {
-      fitting = record {
-        range = ranged f (lit≤ tt) (f .range .waking);
-        waiting = f .waiting;
-        default = refl;
-        address = joined (has-address f l) refl;
-        configured = refl;
-        alternates = zeros-good bytes v s (withConfiguration inAddress 0 d) refl;
-        halts = none-stand (currentEndpoints v (withConfiguration inAddress 0 d));
-        toggles = none-stand (currentEndpoints v (withConfiguration inAddress 0 d));
-        wakeup = f .wakeup;
-      };
-      sized = record { sixteen = refl; halts-fit = omega arith; toggles-fit = omega arith };
-    }
+    unconfigured l = cleared (withConfiguration inAddress 0 d) refl refl refl (record {
+      range = ranged f (lit≤ tt) (f .range .waking);
+      waiting = f .waiting;
+      state = let (a, b) = has-address f l in atAddress refl a b refl;
+      wakeup = f .wakeup;
+    })
 
     configured : (c : ℕ) → 1 ≤ d .state → d .waiting ≡ nothing → any (λ k. eqb (k .value) c) (v .configurations) ≡ true → Fit v (withConfiguration inConfigured c d)
-    configured c l w m = record {
-      fitting = record {
-        range = ranged f (lit≤ tt) (f .range .waking);
-        waiting = f .waiting;
-        default = refl;
-        address = refl;
-        configured = joined (joined (has-address f l) m) (eq-eqb (d .waiting) nothing w);
-        alternates = zeros-good bytes v s (withConfiguration inConfigured c d) refl;
-        halts = none-stand (currentEndpoints v (withConfiguration inConfigured c d));
-        toggles = none-stand (currentEndpoints v (withConfiguration inConfigured c d));
-        wakeup = f .wakeup;
-      };
-      sized = record { sixteen = refl; halts-fit = omega arith; toggles-fit = omega arith };
+    configured c l w m = cleared (withConfiguration inConfigured c d) refl refl refl (record {
+      range = ranged f (lit≤ tt) (f .range .waking);
+      waiting = f .waiting;
+      state = let (a, b) = has-address f l in atConfigured refl a b m w;
+      wakeup = f .wakeup;
+    })
+
+    -- other settings, halts and toggles
+    stood : (l : List ℕ) (h t : ℕ) → Stands v (withEndpoints l h t d) → Sized (withEndpoints l h t d) → Fit v (withEndpoints l h t d)
+    stood l h t p q = record {
+      fitting = record { common = record { range = f .range; waiting = f .waiting; state = f .state; wakeup = f .wakeup }; stands = p };
+      sized = q;
     }
 
-    -- other halts and toggles, at the same settings
     words : (h t : ℕ) → standsAt (currentEndpoints v d) h ≡ true → standsAt (currentEndpoints v d) t ≡ true → h < 2 ^ 32 → t < 2 ^ 32 → Fit v (withEndpoints (d .alternates) h t d)
-    words h t p q k l = record {
-      fitting = record {
-        range = f .range;
-        waiting = f .waiting;
-        default = f .default;
-        address = f .address;
-        configured = f .configured;
-        alternates = f .alternates;
-        halts = p;
-        toggles = q;
-        wakeup = f .wakeup;
-      };
-      sized = record { sixteen = z .sixteen; halts-fit = k; toggles-fit = l };
-    }
+    words h t p q k l = stood (d .alternates) h t (record { alternates = g .fitting .stands .alternates; halts = p; toggles = q })
+        (record { sixteen = z .sixteen; halts-fit = k; toggles-fit = l })
 
     module _ (e : Endpoint) (m : List·Memᴰ e (currentEndpoints v d)) (c : canHalt e ≡ true) where
       low : bitOf (e .address) < 32
@@ -237,35 +173,26 @@ module _ (bytes : List ℕ) (v : View) (s : Sound bytes v) where
 
       halts : Fit v (setHalt d (bitOf (e .address)))
       halts = words (setBit (d .halts) (bitOf (e .address))) (d .toggles)
-          (stand-changed (currentEndpoints v d) (d .halts) _ e m c (set-other (d .halts) (bitOf (e .address))) (f .halts)) (f .toggles)
+          (stand-changed (currentEndpoints v d) (d .halts) _ e m c (set-other (d .halts) (bitOf (e .address))) (g .fitting .stands .halts)) (g .fitting .stands .toggles)
           (set-below 32 (d .halts) (bitOf (e .address)) low (z .halts-fit)) (z .toggles-fit)
 
       unhalts : Fit v (clearHalt d (bitOf (e .address)))
       unhalts = words (clearBit (d .halts) (bitOf (e .address))) (clearBit (d .toggles) (bitOf (e .address)))
-          (stand-changed (currentEndpoints v d) (d .halts) _ e m c (clear-other (d .halts) (bitOf (e .address))) (f .halts))
-          (stand-changed (currentEndpoints v d) (d .toggles) _ e m c (clear-other (d .toggles) (bitOf (e .address))) (f .toggles))
+          (stand-changed (currentEndpoints v d) (d .halts) _ e m c (clear-other (d .halts) (bitOf (e .address))) (g .fitting .stands .halts))
+          (stand-changed (currentEndpoints v d) (d .toggles) _ e m c (clear-other (d .toggles) (bitOf (e .address))) (g .fitting .stands .toggles))
           (clear-below 32 (d .halts) (bitOf (e .address)) low (z .halts-fit)) (clear-below 32 (d .toggles) (bitOf (e .address)) low (z .toggles-fit))
 
       flips : Fit v (withEndpoints (d .alternates) (d .halts) (flipBit (d .toggles) (bitOf (e .address))) d)
-      flips = words (d .halts) (flipBit (d .toggles) (bitOf (e .address))) (f .halts)
-          (stand-changed (currentEndpoints v d) (d .toggles) _ e m c (flip-other (d .toggles) (bitOf (e .address))) (f .toggles))
+      flips = words (d .halts) (flipBit (d .toggles) (bitOf (e .address))) (g .fitting .stands .halts)
+          (stand-changed (currentEndpoints v d) (d .toggles) _ e m c (flip-other (d .toggles) (bitOf (e .address))) (g .fitting .stands .toggles))
           (z .halts-fit) (flip-below 32 (d .toggles) (bitOf (e .address)) low (z .toggles-fit))
 
     setting : (j a : ℕ) → hasSetting (selected v d) j a ≡ true → Fit v (withSetting v d j a)
-    setting j a h = record {
-      fitting = record {
-        range = f .range;
-        waiting = f .waiting;
-        default = f .default;
-        address = f .address;
-        configured = f .configured;
-        alternates = set-good bytes v s d f z j a h;
-        halts = set-stands bytes v s d f z j a h (d .halts) (f .halts);
-        toggles = set-stands bytes v s d f z j a h (d .toggles) (f .toggles);
-        wakeup = f .wakeup;
-      };
-      sized = set-sized bytes v s d f z j a h;
-    }
+    setting j a h = stood _ _ _ (record {
+      alternates = set-good bytes v s d (g .fitting) z j a h;
+      halts = set-stands bytes v s d (g .fitting) z j a h (d .halts) (g .fitting .stands .halts);
+      toggles = set-stands bytes v s d (g .fitting) z j a h (d .toggles) (g .fitting .stands .toggles);
+    }) (set-sized bytes v s d (g .fitting) z j a h)
 
     changedFits : {x : Device} → Changed v d x → Fit v x
     changedFits (wakeup on l p) = awake on l p

@@ -4,13 +4,13 @@
 use Prim.Native.Nat.{ℕ, _≤_}
 use native.Mathlib.Omega.{arith}
 use mathlib.Core.Path.{_≡_, refl, sym, ap, subst, _∙_}
-use mathlib.Core.Bool.{Bool, true, false, _&&_, false≢true}
+use mathlib.Core.Bool.{Bool, true, false, false≢true}
 use mathlib.Core.List.{List}
 use mathlib.Core.Option.{Option, some, none, Option·some-injective, Option·none-ne-some}
-use lib.Dec.{eqb, leb}
-use borrow.Author.Tests.{eqb-true, eqb-false, eq-eqb, ne-eqb}
+use lib.Dec.{eqb}
+use borrow.Author.Tests.{eqb-true, eqb-false, ne-eqb}
 use Rattle.octets.specs.Sentences.{pick, any, first, isSome}
-use Rattle.octets.proofs.Sentences.{cases, both, if-then, none-first}
+use Rattle.octets.proofs.Sentences.{none-first}
 use Rattle.sets.specs.Opening.{Board}
 use Rattle.sets.specs.View.{View, viewOf, byValue, orNone, unconfigured}
 use Rattle.records.specs.declared.Device.{Device}
@@ -25,7 +25,7 @@ use Rattle.events.specs.Step.{respond}
 use Rattle.events.specs.Concerns.{Subject, aSetup, anEndpoint, theDevice, subjectOf, subjectConcerns, eventConcerns, concerns, concernsOn}
 use Rattle.order.specs.Owners.{Owners}
 use Rattle.sets.proofs.Sound.{Sound}
-use Rattle.laws.proofs.Fitting.{fitting}
+use Rattle.laws.proofs.Fitting.{unwaiting, unselected}
 use Rattle.laws.proofs.Keeping.{soundSelected}
 use Rattle.laws.specs.Parts.{Good, orNobody, Shared, shared, Same, rest, owned, who, Settling, keeps, settles, settledBy, kind, settle}
 use Rattle.laws.proofs.Same.{self, whole, same-view, turn-on, join-on, settled-same, settled-rest, settle-again, settle-commute}
@@ -56,31 +56,13 @@ module _ (set : List ℕ) (v : View) (S : Sound set v) where
   zero-selects value z = ap orNone (none-first (λ c. eqb (c .value) value) (v .configurations)
       (λ c m. ne-eqb (c .value) value (λ p. let l : 1 ≤ c .value = S .values c m .0 in omega arith)))
 
-  unselected : (d : Device) → fits v d ≡ true → eqb (d .state) inConfigured ≡ false → d .configuration ≡ 0
-  unselected d g n = cases (eqb (d .state) 0)
-      (λ p. eqb-true _ _ (both (eqb (d .address) 0) (eqb (d .configuration) 0) (low p) .1))
-      (λ p. eqb-true _ _ (both (leb 1 (d .address) && leb (d .address) 127) (eqb (d .configuration) 0) (middle (one p)) .1))
-    where
-      low : eqb (d .state) 0 ≡ true → (eqb (d .address) 0 && eqb (d .configuration) 0) ≡ true
-      low = if-then _ _ (fitting v d g .default)
-
-      middle : eqb (d .state) 1 ≡ true → (leb 1 (d .address) && leb (d .address) 127 && eqb (d .configuration) 0) ≡ true
-      middle = if-then _ _ (fitting v d g .address)
-
-      one : eqb (d .state) 0 ≡ false → eqb (d .state) 1 ≡ true
-      one p =
-          let l : d .state ≤ 2 = fitting v d g .range .stated in
-          let a : d .state ≡ 0 → ⊥ = eqb-false _ _ p in
-          let b : d .state ≡ 2 → ⊥ = eqb-false _ _ n in
-          eq-eqb (d .state) 1 (omega arith)
-
   concerns-good : (d : Device) (e : Event) → fits v d ≡ true → concerns v d e ≡ eventConcerns (selected v d) e
   unfolding concerns
   concerns-good d e g = go (eqb (d .state) inConfigured) refl
     where
       go : (b : Bool) → eqb (d .state) inConfigured ≡ b → pick b (eventConcerns (selected v d) e) none ≡ eventConcerns (selected v d) e
       go true p = refl
-      go false p = sym (ap (λ c. eventConcerns c e) (zero-selects (d .configuration) (unselected d g p)) ∙ nobody-concerned (subjectOf e))
+      go false p = sym (ap (λ c. eventConcerns c e) (zero-selects (d .configuration) (unselected v d g (eqb-false _ _ p))) ∙ nobody-concerned (subjectOf e))
 
 -- ---- the laws
 whose : (o : Option ℕ) → isSome o ≡ true → o ≡ some (orNobody o)
@@ -103,11 +85,8 @@ configured b d e o = go (eqb (d .state) inConfigured) o
 pub idle : (b : Board) (d : Device) (e : Event) (a : Answer) → fitsOn b d ≡ true → owned b d e ≡ true → settle (kind e a) (rest d) ≡ rest d
 idle b d e a f o = go (kind e a)
   where
-    rules : Bool
-    rules = leb 1 (d .address) && leb (d .address) 127 && any (λ c. eqb (c .value) (d .configuration)) (viewAt b d .configurations)
-
     waits : d .waiting ≡ nothing
-    waits = eqb-true _ _ (both rules (eqb (d .waiting) nothing) (if-then _ _ (fitting (viewAt b d) d f .configured) (configured b d e o)) .1)
+    waits = unwaiting (viewAt b d) d f (eqb-true _ _ (configured b d e o))
 
     go : (m : Settling) → settle m (rest d) ≡ rest d
     go keeps = refl

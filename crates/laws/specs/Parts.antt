@@ -12,7 +12,7 @@ use Rattle.descriptors.specs.Configuration.{Configuration, bitOf}
 use Rattle.sets.specs.Opening.{Board}
 use Rattle.sets.specs.View.{View, byValue}
 use Rattle.records.specs.declared.Device.{Device}
-use Rattle.records.specs.Device.{inDefault, zeros, settled}
+use Rattle.records.specs.Device.{fresh, settled}
 use Rattle.records.specs.Current.{viewAt}
 use Rattle.records.specs.Fits.{fitsOn}
 use Rattle.records.proofs.Image.{Sized}
@@ -67,6 +67,10 @@ Same b k r s = SameIn (viewAt b r) k r s
 abbrev pub rest : Device → ℕ × ℕ
 rest d = (d .waiting, d .suspended)
 
+-- d's interfaces, with other shared fields and another rest
+abbrev pub withCommon : Shared → ℕ × ℕ → Device → Device
+withCommon x w d = record { state = x .state; address = x .address; waiting = w .0; configuration = x .configuration; wakeup = x .wakeup; power = x .power; suspended = w .1; speed = x .speed; alternates = d .alternates; halts = d .halts; toggles = d .toggles }
+
 -- ---- events: whether one concerns an interface, and which
 abbrev pub owned : Board → Device → Event → Bool
 owned b d e = isSome (concernsOn b d e)
@@ -92,8 +96,5 @@ abbrev pub kind : Event → Answer → Settling
 kind e a = subjectSettles (subjectOf e)
 
 -- the same on the rest alone: that of a settled record with this rest
-abbrev pub withRest : ℕ × ℕ → Device
-withRest w = record { state = inDefault; address = 0; waiting = w .0; configuration = 0; wakeup = 0; power = 0; suspended = w .1; speed = 0; alternates = zeros; halts = 0; toggles = 0 }
-
 abbrev pub settle : Settling → ℕ × ℕ → ℕ × ℕ
-settle m w = rest (settledBy m (withRest w))
+settle m w = rest (settledBy m (withCommon (shared fresh) w fresh))
