@@ -15,7 +15,7 @@ use Rattle.events.specs.declared.Answer.the-variants.{Done, OneByte, TwoBytes, 
 use Rattle.events.specs.declared.Event.{Event}
 use Rattle.events.specs.Answer.{bytesOf}
 use Rattle.events.specs.Step.{opened, replyOf, step, event}
-use Rattle.board.specs.Statements.{Opens, padded}
+use Rattle.board.specs.Exports.{Opens, padded}
 
 module _ (b : Board) (image : List ℕ) where
   pub open-short : (length image ≡ 32 → ⊥) → Opens b image 8 image

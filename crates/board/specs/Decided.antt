@@ -6,8 +6,7 @@ use Rattle.sets.specs.Opening.{Board}
 use Rattle.events.specs.declared.Answer.{Answer}
 use Rattle.events.specs.declared.Event.{Event}
 use Rattle.records.specs.declared.Device.{Device}
-use Rattle.board.specs.Statements.{Opens, Happens, Spot, Hands, Replies, Cuts}
-use Rattle.board.specs.Lent.{Answers}
+use Rattle.board.specs.Exports.{Opens, Happens, Spot, Hands, AnswersSetup, CutsPacket, AnswersRecordEvent}
 
 -- two things that are one third thing are equal
 same : {A : Type 0} {x y z : A} → x ≡ z → y ≡ z → x ≡ y
@@ -20,21 +19,21 @@ pub happens : {b : Board} {image : List ℕ} {e : Event} {n m : ℕ} {left other
     → Happens b image e n left → Happens b image e m other → (n ≡ m) × (left ≡ other)
 happens p q = (same (p .number) (q .number), same (p .leaves) (q .leaves))
 
-pub hands : {b : Board} {set serial : Spot} {a : Answer} {n m : ℕ} {bytes others : List ℕ} {count also : ℕ} {part piece : List ℕ} {spot place : Spot}
-    → Hands b set serial a n bytes count part spot → Hands b set serial a m others also piece place
+pub hands : {b : Board} {setSpot serialSpot : Spot} {a : Answer} {n m : ℕ} {bytes others : List ℕ} {count also : ℕ} {part piece : List ℕ} {spot place : Spot}
+    → Hands b setSpot serialSpot a n bytes count part spot → Hands b setSpot serialSpot a m others also piece place
     → (n ≡ m) × (bytes ≡ others) × (count ≡ also) × (part ≡ piece) × (spot ≡ place)
 hands p q = (same (p .number) (q .number), same (p .hands) (q .hands), same (p .counts) (q .counts), same (p .shows) (q .shows), same (p .lies) (q .lies))
 
-pub replies : {b : Board} {set serial : Spot} {image setup : List ℕ} {n m : ℕ} {left other bytes others : List ℕ} {count also : ℕ} {part piece : List ℕ} {spot place : Spot}
-    → Replies b set serial image setup n left bytes count part spot → Replies b set serial image setup m other others also piece place
+pub answersSetup : {b : Board} {setSpot serialSpot : Spot} {image setup : List ℕ} {n m : ℕ} {left other bytes others : List ℕ} {count also : ℕ} {part piece : List ℕ} {spot place : Spot}
+    → AnswersSetup b setSpot serialSpot image setup n left bytes count part spot → AnswersSetup b setSpot serialSpot image setup m other others also piece place
     → (left ≡ other) × ((n ≡ m) × (bytes ≡ others) × (count ≡ also) × (part ≡ piece) × (spot ≡ place))
-replies p q = (same (p .leaves) (q .leaves), hands (p .answers) (q .answers))
+answersSetup p q = (same (p .leaves) (q .leaves), hands (p .answers) (q .answers))
 
-pub answers : {b : Board} {set serial : Spot} {device : Device} {e : Event} {n m : ℕ} {left other : Device} {bytes others : List ℕ} {count also : ℕ} {part piece : List ℕ} {spot place : Spot}
-    → Answers b set serial device e n left bytes count part spot → Answers b set serial device e m other others also piece place
+pub answersRecordEvent : {b : Board} {setSpot serialSpot : Spot} {device : Device} {e : Event} {n m : ℕ} {left other : Device} {bytes others : List ℕ} {count also : ℕ} {part piece : List ℕ} {spot place : Spot}
+    → AnswersRecordEvent b setSpot serialSpot device e n left bytes count part spot → AnswersRecordEvent b setSpot serialSpot device e m other others also piece place
     → (left ≡ other) × ((n ≡ m) × (bytes ≡ others) × (count ≡ also) × (part ≡ piece) × (spot ≡ place))
-answers p q = (same (p .leaves) (q .leaves), hands (p .answers) (q .answers))
+answersRecordEvent p q = (same (p .leaves) (q .leaves), hands (p .answers) (q .answers))
 
-pub cuts : {reply : List ℕ} {at : Spot} {asked size k n m : ℕ} {part piece : List ℕ} {spot place : Spot}
-    → Cuts reply at asked size k n part spot → Cuts reply at asked size k m piece place → (n ≡ m) × (part ≡ piece) × (spot ≡ place)
-cuts p q = (same (p .number) (q .number), same (p .shows) (q .shows), same (p .lies) (q .lies))
+pub cutsPacket : {reply : List ℕ} {replySpot : Spot} {asked size k n m : ℕ} {part piece : List ℕ} {spot place : Spot}
+    → CutsPacket reply replySpot asked size k n part spot → CutsPacket reply replySpot asked size k m piece place → (n ≡ m) × (part ≡ piece) × (spot ≡ place)
+cutsPacket p q = (same (p .number) (q .number), same (p .shows) (q .shows), same (p .lies) (q .lies))

@@ -11,20 +11,19 @@ use borrow.Author.Tests.{ltb-true, ltb-false, lt-ltb, le-ltb}
 use Rattle.octets.specs.Octets.{byte}
 use Rattle.octets.proofs.Sentences.{cases}
 use Rattle.sets.specs.Opening.{Board}
-use Rattle.sets.specs.View.{viewOf, accepted}
+use Rattle.sets.specs.View.{accepted}
 use Rattle.records.specs.declared.Device.{Device}
 use Rattle.records.specs.Device.{fresh}
 use Rattle.records.specs.Image.{deviceOf}
-use Rattle.records.specs.Fits.{fits}
+use Rattle.records.specs.Fits.{fitsOn}
 use Rattle.events.specs.declared.Event.the-variants.{Malformed}
 use Rattle.events.specs.Answer.{numberOf}
 use Rattle.events.specs.Step.{step, event}
 use Rattle.packets.specs.Packets.{count, canCut, packet}
 use Rattle.promises.specs.Examples.{bytes, computed, S}
 use Rattle.promises.specs.Inhabited.{acceptedS}
-use Rattle.board.specs.Statements.{Opens, Spot, Cuts}
-use Rattle.board.specs.Lent.{numbered, Answers}
-use Rattle.board.specs.Runs.{Call, setup, statusEnd, busReset, Given, numberGiven, Meets, gives, leaves, met, meets, freshImage, opening}
+use Rattle.board.specs.Exports.{Opens, Spot, CutsPacket, numbered, AnswersRecordEvent}
+use Rattle.board.specs.Runs.{Call, setup, tell, statusEnd, busReset, Given, numberGiven, Meets, gives, leaves, met, meets, freshImage, opening}
 
 -- ---- a build: from the calls before, which it may keep to itself, the image lent and the call, to what it gives and the image that it leaves
 abbrev pub Build : Type 0
@@ -48,13 +47,13 @@ module _ (set serial : Spot) (build : Build) (ok : MeetsAll S set serial build) 
   -- whatever has been called before, not every call is refused: a bus reset is done
   pub notRefusing : ((image : List ℕ) (c : Call) → numberGiven (build before image c .0) ≡ 0 → ⊥) → ⊥
   unfolding computed
-  notRefusing refuses = refuses freshImage busReset (said freshImage busReset)
+  notRefusing refuses = refuses freshImage (tell busReset) (said freshImage (tell busReset))
 
   -- not every call is given one number: a bus reset gets 0, a setup of no bytes 9
   pub notRepeating : (n : ℕ) → ((image : List ℕ) (c : Call) → numberGiven (build before image c .0) ≡ n) → ⊥
   unfolding computed
   notRepeating n repeats =
-      let p : _≡_ {A = ℕ} 0 n = sym (said freshImage busReset) ∙ repeats freshImage busReset in
+      let p : _≡_ {A = ℕ} 0 n = sym (said freshImage (tell busReset)) ∙ repeats freshImage (tell busReset) in
       let q : _≡_ {A = ℕ} 9 n = sym (said freshImage (setup [])) ∙ repeats freshImage (setup []) in
       omega arith
 
@@ -70,7 +69,7 @@ pub notRefusingToOpen : {n : ℕ} {left : List ℕ} → Opens S freshImage n lef
 notRefusingToOpen o = opening refl o .1 acceptedS
 
 pub notStillWhereItStands : (set serial : Spot) {n : ℕ} {left : Device} {handed : List ℕ} {count : ℕ} {shown : List ℕ} {spot : Spot}
-    → Answers S set serial fresh (numbered 0 0 (bytes 8 0x0005050000000000)) n left handed count shown spot → left ≡ fresh → ⊥
+    → AnswersRecordEvent S set serial fresh (numbered 0 0 (bytes 8 0x0005050000000000)) n left handed count shown spot → left ≡ fresh → ⊥
 unfolding computed
 notStillWhereItStands set serial a still = let p : _≡_ {A = ℕ} 5 255 = ap (λ (d : Device). d .waiting) (sym (a .leaves) ∙ still) in omega arith
 
@@ -79,7 +78,7 @@ malformed : (b : Board) (image : List ℕ) → numberOf (event b image Malformed
 unfolding event step
 malformed b image = cases (eqb (length image) 32)
     (λ p. cases (accepted b)
-    (λ q. cases (fits (viewOf b) (deviceOf image)) (λ r. rw (p, q, r) (λ z. omega arith)) (λ r. rw (p, q, r) (λ z. omega arith)))
+    (λ q. cases (fitsOn b (deviceOf image)) (λ r. rw (p, q, r) (λ z. omega arith)) (λ r. rw (p, q, r) (λ z. omega arith)))
     (λ q. rw (p, q) (λ z. omega arith)))
     (λ p. cases (accepted b) (λ q. rw (p, q) (λ z. omega arith)) (λ q. rw (p, q) (λ z. omega arith)))
 
@@ -91,21 +90,21 @@ noEcho b set serial {image} m z = malformed b image (sym (ap numberGiven (met b 
 -- so no build that answers every call after its first with 0 meets the statements of any board
 pub notEchoing : (b : Board) (set serial : Spot) (build : Build) → MeetsAll b set serial build
     → ((first : Call) (image : List ℕ) (c : Call) → numberGiven (build (first ∷ []) image c .0) ≡ 0) → ⊥
-notEchoing b set serial build ok echoes = noEcho b set serial (ok (busReset ∷ []) freshImage (setup [])) (echoes busReset freshImage (setup []))
+notEchoing b set serial build ok echoes = noEcho b set serial (ok (tell busReset ∷ []) freshImage (setup [])) (echoes (tell busReset) freshImage (setup []))
 
 -- and on S the two calls of row 4 of table P suffice: after SET_ADDRESS 5 the status end leaves another image than it was lent
 pub secondCounts : (set serial : Spot) {g h : Given} {left last : List ℕ}
-    → Meets S set serial freshImage setAddressFive g left → Meets S set serial left statusEnd h last → last ≡ left → ⊥
+    → Meets S set serial freshImage setAddressFive g left → Meets S set serial left (tell statusEnd) h last → last ≡ left → ⊥
 unfolding computed
 secondCounts set serial {left = left} one two still =
     let first = met S set serial one .1 in
-    let p : _≡_ {A = ℕ} 5 (byte left 1) = sym (ap (λ l. byte (leaves S set serial l statusEnd) 1) first) ∙ ap (λ l. byte l 1) (sym (met S set serial two .1) ∙ still) in
+    let p : _≡_ {A = ℕ} 5 (byte left 1) = sym (ap (λ l. byte (leaves S set serial l (tell statusEnd)) 1) first) ∙ ap (λ l. byte l 1) (sym (met S set serial two .1) ∙ still) in
     let q : byte left 1 ≡ 0 = ap (λ l. byte l 1) first in
     omega arith
 
 -- ---- the packet count: where a reply can be cut, the packets that get 0 are those below the rule's count and no others
 module _ (reply : List ℕ) (at : Spot) (asked size : ℕ) (number : ℕ → ℕ) (shown : ℕ → List ℕ) (spot : ℕ → Spot)
-    (cuts : (k : ℕ) → Cuts reply at asked size k (number k) (shown k) (spot k)) (can : canCut (length reply) asked size ≡ true) where
+    (cuts : (k : ℕ) → CutsPacket reply at asked size k (number k) (shown k) (spot k)) (can : canCut (length reply) asked size ≡ true) where
   within : (k : ℕ) → k < count (length reply) asked size → number k ≡ 0
   unfolding packet
   within k l = cuts k .number ∙ rw (can, lt-ltb k (count (length reply) asked size) l) refl

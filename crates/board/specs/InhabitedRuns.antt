@@ -10,8 +10,8 @@ use Rattle.octets.specs.Sentences.{only}
 use Rattle.promises.specs.Examples.{bytes, computed, T}
 use Rattle.promises.specs.Inhabited.{bytesT}
 use Rattle.promises.specs.InhabitedOrder.{configuredImage, imageBytes}
-use Rattle.board.specs.Statements.{Opens, Spot}
-use Rattle.board.specs.Runs.{Call, setup, statusEnd, halt, packetPassed, Given, number, handed, Runs, runs, decided, Refuses, refusals, NotEight, Throughout, freshImage, neverEightAfter}
+use Rattle.board.specs.Exports.{Opens, Spot}
+use Rattle.board.specs.Runs.{Call, setup, tell, statusEnd, halt, packetPassed, Given, number, handed, Runs, runs, decided, Refuses, refusals, NotEight, Throughout, freshImage, neverEightAfter}
 use Rattle.board.specs.Order.{concernsThis, Reordered, orderAfterOpening}
 
 -- ---- any 32 bytes, opened; then SET_ADDRESS 5, its status end, SET_CONFIGURATION 1
@@ -23,7 +23,7 @@ unfolding computed
 opens = record { number = refl; leaves = refl }
 
 abbrev pub configuring : List Call
-configuring = setup (bytes 8 0x0005050000000000) ∷ statusEnd ∷ setup (bytes 8 0x0009010000000000) ∷ []
+configuring = setup (bytes 8 0x0005050000000000) ∷ tell statusEnd ∷ setup (bytes 8 0x0009010000000000) ∷ []
 
 -- where the set and the serial block lie
 abbrev pub setSpot : Spot
@@ -50,10 +50,10 @@ configuresNotEight = neverEightAfter T setSpot serialSpot bytesT refl opens conf
 
 -- ---- interface 0's packet at 81 and interface 1's SET_INTERFACE 1, then its halt at 85
 abbrev pub oneOrder : List Call
-oneOrder = packetPassed 0x81 ∷ setup (bytes 8 0x010B010001000000) ∷ halt 0x85 ∷ []
+oneOrder = tell (packetPassed 0x81) ∷ setup (bytes 8 0x010B010001000000) ∷ tell (halt 0x85) ∷ []
 
 abbrev pub otherOrder : List Call
-otherOrder = setup (bytes 8 0x010B010001000000) ∷ halt 0x85 ∷ packetPassed 0x81 ∷ []
+otherOrder = setup (bytes 8 0x010B010001000000) ∷ tell (halt 0x85) ∷ tell (packetPassed 0x81) ∷ []
 
 -- interface 1 in setting 1, 85 halted, 81's toggle up
 abbrev pub lastImage : List ℕ

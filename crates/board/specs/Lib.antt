@@ -1,5 +1,4 @@
-pub mod Statements
-pub mod Lent
+pub mod Exports
 pub mod Decided
 pub mod Runs
 pub mod Order

@@ -8,27 +8,27 @@ use lib.ListN.{length}
 use Rattle.octets.specs.Sentences.{every, only, isSome}
 use Rattle.octets.proofs.Sentences.{every-map}
 use Rattle.sets.specs.Opening.{Board}
-use Rattle.sets.specs.View.{viewOf, accepted}
+use Rattle.sets.specs.View.{accepted}
 use Rattle.sets.proofs.Sound.{Bytes}
 use Rattle.records.specs.Image.{deviceOf}
-use Rattle.records.specs.Fits.{fits}
+use Rattle.records.specs.Fits.{fitsOn}
 use Rattle.events.specs.declared.Event.{Event}
-use Rattle.events.specs.Concerns.{concerns}
+use Rattle.events.specs.Concerns.{concernsOn}
 use Rattle.order.specs.Run.{run, answers, log}
 use Rattle.promises.specs.Rearranged.{isThis, Rearranged, Values, imageAnswer, imageNext, imageAfter, imageHeard}
-use Rattle.promises.specs.Picking.{only-map}
+use Rattle.laws.proofs.Picking.{only-map}
 use Rattle.promises.specs.Order.{orderImages}
 use Rattle.promises.specs.Keeps.{reachedFits}
-use Rattle.board.specs.Statements.{Opens, Spot}
+use Rattle.board.specs.Exports.{Opens, Spot}
 use Rattle.board.specs.Runs.{Call, eventOf, Given, Runs, givenAs, gives, leaves, ran, opening, reached, openedReached}
 
 -- ---- another order of the calls
 -- a call that concerns an interface that exists, and interface k
 abbrev pub concernsAny : Board → List ℕ → Call → Bool
-concernsAny b image c = isSome (concerns (viewOf b) (deviceOf image) (eventOf c))
+concernsAny b image c = isSome (concernsOn b (deviceOf image) (eventOf c))
 
 abbrev pub concernsThis : Board → List ℕ → ℕ → Call → Bool
-concernsThis b image k c = isThis k (concerns (viewOf b) (deviceOf image) (eventOf c))
+concernsThis b image k c = isThis k (concernsOn b (deviceOf image) (eventOf c))
 
 -- every call concerns an interface, and each interface has the same calls in the same order
 pub record Reordered (b : Board) (image : List ℕ) (xs ys : List Call) : Type 0 where
@@ -87,7 +87,7 @@ module _ (b : Board) (set serial : Spot) where
 
     own-heard : imageHeard b image k (map eventOf cs) ≡ map (λ p. (eventOf (p .0), p .1)) own
     own-heard =
-        let f : Event × Values → Bool = λ p. isThis k (concerns (viewOf b) (deviceOf image) (p .0)) in
+        let f : Event × Values → Bool = λ p. isThis k (concernsOn b (deviceOf image) (p .0)) in
         ap (only f) (valued-events image cs) ∙ only-map f (λ (p : Call × Values). (eventOf (p .0), p .1)) (valued image cs)
 
     own-given : {gs : List Given} {last : List ℕ} → Runs b set serial image cs gs last
@@ -98,7 +98,7 @@ module _ (b : Board) (set serial : Spot) where
         ∙ only-map f (λ (p : Call × Values). (p .0, givenAs b set serial (p .0) (p .1))) (valued image cs)
 
   -- ---- demand 3
-  rearranged : (image : List ℕ) (xs ys : List Call) → Reordered b image xs ys → Rearranged (viewOf b) (deviceOf image) (map eventOf xs) (map eventOf ys)
+  rearranged : (image : List ℕ) (xs ys : List Call) → Reordered b image xs ys → Rearranged b (deviceOf image) (map eventOf xs) (map eventOf ys)
   rearranged image xs ys r = record {
     one = every-map _ eventOf xs ∙ r .one;
     other = every-map _ eventOf ys ∙ r .other;
@@ -107,7 +107,7 @@ module _ (b : Board) (set serial : Spot) where
 
   -- for an accepted board and an image of 32 bytes whose record fits: both runs leave the same image, and each interface's calls are the
   -- same and are given the same
-  pub order : Bytes (b .set) → accepted b ≡ true → (image : List ℕ) → length image ≡ 32 → Bytes image → fits (viewOf b) (deviceOf image) ≡ true
+  pub order : Bytes (b .set) → accepted b ≡ true → (image : List ℕ) → length image ≡ 32 → Bytes image → fitsOn b (deviceOf image) ≡ true
       → {xs ys : List Call} {gs others : List Given} {last other : List ℕ}
       → Runs b set serial image xs gs last → Runs b set serial image ys others other → Reordered b image xs ys
       → (last ≡ other) × ((k : ℕ) → toldTo b image k xs gs ≡ toldTo b image k ys others)

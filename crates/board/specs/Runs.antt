@@ -13,28 +13,35 @@ use Rattle.records.specs.Image.{bytesOfFour, imageOf}
 use Rattle.events.specs.declared.Event.{Event}
 use Rattle.events.specs.declared.Event.the-variants.{StatusEnd, BusReset, Halt, PacketPassed}
 use Rattle.events.specs.Answer.{Part, numberOf, partOf}
-use Rattle.events.specs.Places.{bytesIn}
+use Rattle.events.specs.Places.{Inside, bytesIn}
 use Rattle.events.specs.Step.{setupEvent, event, opened}
 use Rattle.order.specs.Run.{run, answers}
 use Rattle.promises.specs.Rearranged.{Values, imageAnswer, imageNext}
-use Rattle.promises.specs.Refusal.{Inside, allowsImage, imageLeftBy}
+use Rattle.promises.specs.Refusal.{allowsImage, imageLeftBy}
 use Rattle.promises.specs.Refusals.{eventNumber, eventKeeps, eventInside, refusalEmpty}
 use Rattle.promises.specs.Keeps.{Reached, afterOpening, afterEvent, neverEight}
-use Rattle.board.specs.Statements.{Opens, Happens, Replies, Spot, padded, spotOfPart}
+use Rattle.board.specs.Exports.{Opens, Happens, AnswersSetup, Spot, padded, spotOfPart}
 
--- ---- a call as C makes it, but for the set, the serial block and the image, which a run lends to each of its calls
+-- ---- what an export that answers no setup tells
+pub data Happening : Type 0 where
+  statusEnd busReset : Happening
+  halt packetPassed : ℕ → Happening
+
+-- a call as C makes it, but for the set, the serial block and the image, which a run lends to each of its calls
 pub data Call : Type 0 where
   setup : List ℕ → Call
-  statusEnd busReset : Call
-  halt packetPassed : ℕ → Call
+  tell : Happening → Call
 
--- the event that it tells
+-- the event that it is
+abbrev pub happened : Happening → Event
+happened statusEnd = StatusEnd
+happened busReset = BusReset
+happened (halt endpoint) = Halt endpoint
+happened (packetPassed endpoint) = PacketPassed endpoint
+
 abbrev pub eventOf : Call → Event
 eventOf (setup bytes) = setupEvent bytes
-eventOf statusEnd = StatusEnd
-eventOf busReset = BusReset
-eventOf (halt endpoint) = Halt endpoint
-eventOf (packetPassed endpoint) = PacketPassed endpoint
+eventOf (tell h) = happened h
 
 -- what it gives back: a number alone, or of a setup the number, the two bytes, how many of them count, the part's bytes and where they lie
 pub data Given : Type 0 where
@@ -46,34 +53,27 @@ numberGiven (number n) = n
 numberGiven (handed n bytes count shown spot) = n
 
 -- ---- a call meets its export's statement: what it gives, and the image that it leaves
-pub data Meets (b : Board) (set serial : Spot) (image : List ℕ) : Call → Given → List ℕ → Type 0 where
+pub data Meets (b : Board) (setSpot serialSpot : Spot) (image : List ℕ) : Call → Given → List ℕ → Type 0 where
   bySetup : {bytes : List ℕ} {n : ℕ} {left handedBack : List ℕ} {count : ℕ} {shown : List ℕ} {spot : Spot}
-      → Replies b set serial image bytes n left handedBack count shown spot → Meets b set serial image (setup bytes) (handed n handedBack count shown spot) left
-  byStatusEnd : {n : ℕ} {left : List ℕ} → Happens b image StatusEnd n left → Meets b set serial image statusEnd (number n) left
-  byBusReset : {n : ℕ} {left : List ℕ} → Happens b image BusReset n left → Meets b set serial image busReset (number n) left
-  byHalt : {endpoint n : ℕ} {left : List ℕ} → Happens b image (Halt endpoint) n left → Meets b set serial image (halt endpoint) (number n) left
-  byPacketPassed : {endpoint n : ℕ} {left : List ℕ}
-      → Happens b image (PacketPassed endpoint) n left → Meets b set serial image (packetPassed endpoint) (number n) left
+      → AnswersSetup b setSpot serialSpot image bytes n left handedBack count shown spot → Meets b setSpot serialSpot image (setup bytes) (handed n handedBack count shown spot) left
+  byHappening : {h : Happening} {n : ℕ} {left : List ℕ} → Happens b image (happened h) n left → Meets b setSpot serialSpot image (tell h) (number n) left
 
 -- ---- a run: each call meets its statement, and the image that it leaves is lent to the next
-pub data Runs (b : Board) (set serial : Spot) : List ℕ → List Call → List Given → List ℕ → Type 0 where
-  ends : {image : List ℕ} → Runs b set serial image [] [] image
+pub data Runs (b : Board) (setSpot serialSpot : Spot) : List ℕ → List Call → List Given → List ℕ → Type 0 where
+  ends : {image : List ℕ} → Runs b setSpot serialSpot image [] [] image
   calls : {image : List ℕ} {c : Call} {g : Given} {left : List ℕ} {cs : List Call} {gs : List Given} {last : List ℕ}
-      → Meets b set serial image c g left → Runs b set serial left cs gs last → Runs b set serial image (c ∷ cs) (g ∷ gs) last
+      → Meets b setSpot serialSpot image c g left → Runs b setSpot serialSpot left cs gs last → Runs b setSpot serialSpot image (c ∷ cs) (g ∷ gs) last
 
 -- ---- what the statements say of a call, as functions of the image
 -- document 01's number, bytes and part, as the call hands them out
 abbrev pub givenAs : Board → Spot → Spot → Call → Values → Given
-givenAs b set serial (setup bytes) v =
-    handed (v .number) (padded (v .bytes)) (length (v .bytes)) (bytesIn (b .set) (b .serial) (v .part)) (spotOfPart set serial (v .part))
-givenAs b set serial statusEnd v = number (v .number)
-givenAs b set serial busReset v = number (v .number)
-givenAs b set serial (halt endpoint) v = number (v .number)
-givenAs b set serial (packetPassed endpoint) v = number (v .number)
+givenAs b setSpot serialSpot (setup bytes) v =
+    handed (v .number) (padded (v .bytes)) (length (v .bytes)) (bytesIn (b .set) (b .serial) (v .part)) (spotOfPart setSpot serialSpot (v .part))
+givenAs b setSpot serialSpot (tell h) v = number (v .number)
 
-module _ (b : Board) (set serial : Spot) where
+module _ (b : Board) (setSpot serialSpot : Spot) where
   abbrev pub gives : List ℕ → Call → Given
-  gives image c = givenAs b set serial c (imageAnswer b image (eventOf c))
+  gives image c = givenAs b setSpot serialSpot c (imageAnswer b image (eventOf c))
 
   abbrev pub leaves : List ℕ → Call → List ℕ
   leaves image c = imageNext b image (eventOf c)
@@ -83,23 +83,17 @@ module _ (b : Board) (set serial : Spot) where
       → n ≡ m → bytes ≡ others → count ≡ also → part ≡ piece → spot ≡ place → handed n bytes count part spot ≡ handed m others also piece place
   hand p q r s t = rw (p, q, r, s, t)
 
-  pub met : {image : List ℕ} {c : Call} {g : Given} {left : List ℕ} → Meets b set serial image c g left → (g ≡ gives image c) × (left ≡ leaves image c)
+  pub met : {image : List ℕ} {c : Call} {g : Given} {left : List ℕ} → Meets b setSpot serialSpot image c g left → (g ≡ gives image c) × (left ≡ leaves image c)
   met (bySetup r) = let h = r .answers in (hand (h .number) (h .hands) (h .counts) (h .shows) (h .lies), r .leaves)
-  met (byStatusEnd h) = (ap number (h .number), h .leaves)
-  met (byBusReset h) = (ap number (h .number), h .leaves)
-  met (byHalt h) = (ap number (h .number), h .leaves)
-  met (byPacketPassed h) = (ap number (h .number), h .leaves)
+  met (byHappening h) = (ap number (h .number), h .leaves)
 
   -- and what gives and leaves this meets it
-  pub meets : (image : List ℕ) (c : Call) → Meets b set serial image c (gives image c) (leaves image c)
+  pub meets : (image : List ℕ) (c : Call) → Meets b setSpot serialSpot image c (gives image c) (leaves image c)
   meets image (setup bytes) = bySetup (record { leaves = refl; answers = record { number = refl; hands = refl; counts = refl; shows = refl; lies = refl } })
-  meets image statusEnd = byStatusEnd (record { number = refl; leaves = refl })
-  meets image busReset = byBusReset (record { number = refl; leaves = refl })
-  meets image (halt endpoint) = byHalt (record { number = refl; leaves = refl })
-  meets image (packetPassed endpoint) = byPacketPassed (record { number = refl; leaves = refl })
+  meets image (tell h) = byHappening (record { number = refl; leaves = refl })
 
   -- ---- so a run is the run of its events: from every image, every list of calls has a run, and one alone
-  pub ran : {image : List ℕ} {cs : List Call} {gs : List Given} {last : List ℕ} → Runs b set serial image cs gs last
+  pub ran : {image : List ℕ} {cs : List Call} {gs : List Given} {last : List ℕ} → Runs b setSpot serialSpot image cs gs last
       → (gs ≡ answers gives leaves image cs) × (last ≡ run leaves image cs)
   ran ends = (refl, refl)
   ran (calls {image} {c} {g} {left} {cs} {gs} {last} m r) =
@@ -107,21 +101,21 @@ module _ (b : Board) (set serial : Spot) where
       let (s, t) = ran r in
       (rw (p, ← q, s), rw (← q) t)
 
-  pub runs : (image : List ℕ) (cs : List Call) → Runs b set serial image cs (answers gives leaves image cs) (run leaves image cs)
+  pub runs : (image : List ℕ) (cs : List Call) → Runs b setSpot serialSpot image cs (answers gives leaves image cs) (run leaves image cs)
   runs image [] = ends
   runs image (c ∷ cs) = calls (meets image c) (runs (leaves image c) cs)
 
   -- ---- the statements decide a run: two runs of the same calls from the same image give the same and leave the same
   pub decided : {image : List ℕ} {cs : List Call} {gs others : List Given} {last other : List ℕ}
-      → Runs b set serial image cs gs last → Runs b set serial image cs others other → (gs ≡ others) × (last ≡ other)
+      → Runs b setSpot serialSpot image cs gs last → Runs b setSpot serialSpot image cs others other → (gs ≡ others) × (last ≡ other)
   decided one two =
       let (p, q) = ran one in
       let (s, t) = ran two in
       (p ∙ sym s, q ∙ sym t)
 
 -- ---- what holds of every call of a run: P of the image lent, the call, what it gave and the image that it left
-abbrev pub Throughout : {b : Board} {set serial : Spot} {image : List ℕ} {cs : List Call} {gs : List Given} {last : List ℕ}
-    → (List ℕ → Call → Given → List ℕ → Type 0) → Runs b set serial image cs gs last → Type 0
+abbrev pub Throughout : {b : Board} {setSpot serialSpot : Spot} {image : List ℕ} {cs : List Call} {gs : List Given} {last : List ℕ}
+    → (List ℕ → Call → Given → List ℕ → Type 0) → Runs b setSpot serialSpot image cs gs last → Type 0
 Throughout P ends = Unit {0}
 Throughout P (calls {image} {c} {g} {left} m r) = P image c g left × Throughout P r
 
@@ -133,45 +127,36 @@ NothingHanded (handed n bytes count shown spot) = (bytes ≡ 0 ∷ 0 ∷ []) × 
 
 -- a part lies inside the set or the serial block that was lent
 abbrev pub LiesInside : Board → Spot → Spot → Given → Type 0
-LiesInside b set serial (number n) = Unit {0}
-LiesInside b set serial (handed n bytes count shown spot) =
-    (p : Part) × Inside b p × (shown ≡ bytesIn (b .set) (b .serial) p) × (spot ≡ spotOfPart set serial p)
+LiesInside b setSpot serialSpot (number n) = Unit {0}
+LiesInside b setSpot serialSpot (handed n bytes count shown spot) =
+    (p : Part) × Inside (b .set) (b .serial) p × (shown ≡ bytesIn (b .set) (b .serial) p) × (spot ≡ spotOfPart setSpot serialSpot p)
 
 -- its number is one of document 01's for that board, image and event, in its order; a refusal leaves the image as it was, but that 10 to 14
 -- put 255 into byte 2, and hands nothing back; and a part lies inside the set or the serial block. (C's images are of bytes.)
-pub record Refuses (b : Board) (set serial : Spot) (image : List ℕ) (c : Call) (g : Given) (left : List ℕ) : Type 0 where
+pub record Refuses (b : Board) (setSpot serialSpot : Spot) (image : List ℕ) (c : Call) (g : Given) (left : List ℕ) : Type 0 where
   pub allowed : allowsImage b image (eventOf c) (numberGiven g) ≡ true
   pub keeps : (numberGiven g ≡ 0 → ⊥) → Bytes image → left ≡ imageLeftBy (numberGiven g) image
   pub empty : (numberGiven g ≡ 0 → ⊥) → NothingHanded g
-  pub inside : LiesInside b set serial g
+  pub inside : LiesInside b setSpot serialSpot g
 
-module _ (b : Board) (set serial : Spot) where
-  number-of : (image : List ℕ) (c : Call) → numberGiven (gives b set serial image c) ≡ numberOf (event b image (eventOf c) .answer)
+module _ (b : Board) (setSpot serialSpot : Spot) where
+  number-of : (image : List ℕ) (c : Call) → numberGiven (gives b setSpot serialSpot image c) ≡ numberOf (event b image (eventOf c) .answer)
   number-of image (setup bytes) = refl
-  number-of image statusEnd = refl
-  number-of image busReset = refl
-  number-of image (halt endpoint) = refl
-  number-of image (packetPassed endpoint) = refl
+  number-of image (tell h) = refl
 
-  nothing-handed : (image : List ℕ) (c : Call) → (numberOf (event b image (eventOf c) .answer) ≡ 0 → ⊥) → NothingHanded (gives b set serial image c)
+  nothing-handed : (image : List ℕ) (c : Call) → (numberOf (event b image (eventOf c) .answer) ≡ 0 → ⊥) → NothingHanded (gives b setSpot serialSpot image c)
   nothing-handed image (setup bytes) z =
       let (p, q) = refusalEmpty (event b image (setupEvent bytes) .answer) z in
       (ap padded p, ap length p, ap (bytesIn (b .set) (b .serial)) q)
-  nothing-handed image statusEnd z = tt
-  nothing-handed image busReset z = tt
-  nothing-handed image (halt endpoint) z = tt
-  nothing-handed image (packetPassed endpoint) z = tt
+  nothing-handed image (tell h) z = tt
 
-  lies-inside : (image : List ℕ) (c : Call) → LiesInside b set serial (gives b set serial image c)
+  lies-inside : (image : List ℕ) (c : Call) → LiesInside b setSpot serialSpot (gives b setSpot serialSpot image c)
   lies-inside image (setup bytes) = (partOf (event b image (setupEvent bytes) .answer), eventInside b image (setupEvent bytes), refl, refl)
-  lies-inside image statusEnd = tt
-  lies-inside image busReset = tt
-  lies-inside image (halt endpoint) = tt
-  lies-inside image (packetPassed endpoint) = tt
+  lies-inside image (tell h) = tt
 
-  pub refusal : {image : List ℕ} {c : Call} {g : Given} {left : List ℕ} → Meets b set serial image c g left → Refuses b set serial image c g left
-  refusal {image} {c} m =
-      let (p, q) = met b set serial m in
+  pub callRefuses : {image : List ℕ} {c : Call} {g : Given} {left : List ℕ} → Meets b setSpot serialSpot image c g left → Refuses b setSpot serialSpot image c g left
+  callRefuses {image} {c} m =
+      let (p, q) = met b setSpot serialSpot m in
       rw (p, q) (record {
         allowed = rw (number-of image c) (eventNumber b image (eventOf c));
         keeps = rw (number-of image c) (λ z octets. eventKeeps b image (eventOf c) octets z);
@@ -179,10 +164,10 @@ module _ (b : Board) (set serial : Spot) where
         inside = lies-inside image c;
       })
 
-  pub refusals : {image : List ℕ} {cs : List Call} {gs : List Given} {last : List ℕ} (r : Runs b set serial image cs gs last)
-      → Throughout (Refuses b set serial) r
+  pub refusals : {image : List ℕ} {cs : List Call} {gs : List Given} {last : List ℕ} (r : Runs b setSpot serialSpot image cs gs last)
+      → Throughout (Refuses b setSpot serialSpot) r
   refusals ends = tt
-  refusals (calls m r) = (refusal m, refusals r)
+  refusals (calls m r) = (callRefuses m, refusals r)
 
 -- ---- demand 2
 -- "Fresh: all zero but byte 2 = 255."
@@ -205,10 +190,10 @@ openingOther {b} {image} l o = let p = ne-eqb (length image) 32 l in (rw p at (o
 
 -- ---- a run from an opening
 -- the image that it leaves is one of the library's own
-pub reached : {b : Board} {set serial : Spot} {image : List ℕ} {cs : List Call} {gs : List Given} {last : List ℕ}
-    → Reached b image → Runs b set serial image cs gs last → Reached b last
+pub reached : {b : Board} {setSpot serialSpot : Spot} {image : List ℕ} {cs : List Call} {gs : List Given} {last : List ℕ}
+    → Reached b image → Runs b setSpot serialSpot image cs gs last → Reached b last
 reached from ends = from
-reached {b} {set} {serial} from (calls {c = c} m r) = reached (rw (met b set serial m .1) (afterEvent (eventOf c) from)) r
+reached {b} {setSpot} {serialSpot} from (calls {c = c} m r) = reached (rw (met b setSpot serialSpot m .1) (afterEvent (eventOf c) from)) r
 
 pub openedReached : {b : Board} {start image : List ℕ} {n : ℕ} → length start ≡ 32 → Opens b start n image → Reached b image
 openedReached {start = start} l o = rw (o .leaves) (afterOpening start l)
@@ -217,14 +202,14 @@ openedReached {start = start} l o = rw (o .leaves) (afterOpening start l)
 abbrev pub NotEight : List ℕ → Call → Given → List ℕ → Type 0
 NotEight image c g left = numberGiven g ≡ 8 → ⊥
 
-never-eight : (b : Board) (set serial : Spot) → Bytes (b .set) → {image : List ℕ} {cs : List Call} {gs : List Given} {last : List ℕ}
-    → Reached b image → (r : Runs b set serial image cs gs last) → Throughout NotEight r
-never-eight b set serial bytes from ends = tt
-never-eight b set serial bytes {image} from (calls {c = c} m r) = (
-  λ eight. neverEight b bytes from (eventOf c) (sym (ap numberGiven (met b set serial m .0) ∙ number-of b set serial image c) ∙ eight),
-  never-eight b set serial bytes (reached from (calls m ends)) r,
+never-eight : (b : Board) (setSpot serialSpot : Spot) → Bytes (b .set) → {image : List ℕ} {cs : List Call} {gs : List Given} {last : List ℕ}
+    → Reached b image → (r : Runs b setSpot serialSpot image cs gs last) → Throughout NotEight r
+never-eight b setSpot serialSpot bytes from ends = tt
+never-eight b setSpot serialSpot bytes {image} from (calls {c = c} m r) = (
+  λ eight. neverEight b bytes from (eventOf c) (sym (ap numberGiven (met b setSpot serialSpot m .0) ∙ number-of b setSpot serialSpot image c) ∙ eight),
+  never-eight b setSpot serialSpot bytes (reached from (calls m ends)) r,
 )
 
-pub neverEightAfter : (b : Board) (set serial : Spot) → Bytes (b .set) → {start image : List ℕ} {n : ℕ} {cs : List Call} {gs : List Given} {last : List ℕ}
-    → length start ≡ 32 → Opens b start n image → (r : Runs b set serial image cs gs last) → Throughout NotEight r
-neverEightAfter b set serial bytes l o r = never-eight b set serial bytes (openedReached l o) r
+pub neverEightAfter : (b : Board) (setSpot serialSpot : Spot) → Bytes (b .set) → {start image : List ℕ} {n : ℕ} {cs : List Call} {gs : List Given} {last : List ℕ}
+    → length start ≡ 32 → Opens b start n image → (r : Runs b setSpot serialSpot image cs gs last) → Throughout NotEight r
+neverEightAfter b setSpot serialSpot bytes l o r = never-eight b setSpot serialSpot bytes (openedReached l o) r

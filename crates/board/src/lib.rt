@@ -7,8 +7,7 @@ ghost use Rattle.sets.specs.Opening.{lent};
 ghost use Rattle.sets.specs.View.{openingOf};
 ghost use Rattle.events.specs.Step.{event};
 ghost use Rattle.events.specs.declared.Event.the-variants.{StatusEnd, BusReset, Halt, PacketPassed};
-ghost use Rattle.board.specs.Lent.{numbered, Answers};
-ghost use Rattle.board.specs.Statements.{Opens, Happens, Replies, Cuts, spotOf};
+ghost use Rattle.board.specs.Exports.{Opens, Happens, AnswersSetup, CutsPacket, spotOf, numbered, AnswersRecordEvent};
 
 mod numbers;
 
@@ -54,7 +53,7 @@ pub extern "C" fn hk_setup<'a>(
     count: &mut u8,
     part: &mut &'a [u8],
 ) -> u8
-    ensures { λ r. ⌜ Replies (lent (now (set .entry)) (now (serial .entry))) (spotOf ((set .entry) .ptr)) (spotOf ((serial .entry) .ptr)) (now (image .entry)) (now (setup .entry))
+    ensures { λ r. ⌜ AnswersSetup (lent (now (set .entry)) (now (serial .entry))) (spotOf ((set .entry) .ptr)) (spotOf ((serial .entry) .ptr)) (now (image .entry)) (now (setup .entry))
         r (now (image .exit)) (now (bytes .exit)) (now (count .exit)) (now (now (part .exit))) (spotOf ((now (part .exit)) .ptr)) ⌝ }
 {
     let number = steps::opening(set, serial);
@@ -107,7 +106,7 @@ pub extern "C" fn hk_packet<'a>(
     number: u32,
     cut: &mut &'a [u8],
 ) -> u8
-    ensures { λ r. ⌜ Cuts (now (reply .entry)) (spotOf ((reply .entry) .ptr)) asked size number r (now (now (cut .exit))) (spotOf ((now (cut .exit)) .ptr)) ⌝ }
+    ensures { λ r. ⌜ CutsPacket (now (reply .entry)) (spotOf ((reply .entry) .ptr)) asked size number r (now (now (cut .exit))) (spotOf ((now (cut .exit)) .ptr)) ⌝ }
 {
     *cut = packets::cut(reply, asked, size, number);
     let here = packets::packet_of(reply.len(), asked, size, number);
@@ -127,7 +126,7 @@ pub extern "C" fn hk_record_event<'a>(
     count: &mut u8,
     part: &mut &'a [u8],
 ) -> u8
-    ensures { λ r. ⌜ Answers (lent (now (set .entry)) (now (serial .entry))) (spotOf ((set .entry) .ptr)) (spotOf ((serial .entry) .ptr)) (now (device .entry)) (numbered kind endpoint (now (setup .entry)))
+    ensures { λ r. ⌜ AnswersRecordEvent (lent (now (set .entry)) (now (serial .entry))) (spotOf ((set .entry) .ptr)) (spotOf ((serial .entry) .ptr)) (now (device .entry)) (numbered kind endpoint (now (setup .entry)))
         r (now (device .exit)) (now (bytes .exit)) (now (count .exit)) (now (now (part .exit))) (spotOf ((now (part .exit)) .ptr)) ⌝ }
 {
     let number = steps::opening(set, serial);

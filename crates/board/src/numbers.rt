@@ -6,8 +6,7 @@ ghost use mathlib.Core.Path.{_≡_};
 ghost use Rattle.events.specs.Answer.{partOf};
 ghost use Rattle.events.specs.Places.{Inside};
 ghost use Rattle.sets.specs.Opening.{lent};
-ghost use Rattle.board.specs.Statements.{spotOf, Hands};
-ghost use Rattle.board.specs.Lent.{numbered};
+ghost use Rattle.board.specs.Exports.{spotOf, Hands, numbered};
 
 // The event of a number.
 pub fn event_of(kind: u8, endpoint: u8, setup: &[u8]) -> Event

@@ -10,13 +10,13 @@ use Rattle.octets.specs.Sentences.{pick}
 use Rattle.descriptors.specs.declared.Endpoint.{Endpoint}
 use Rattle.descriptors.specs.Limits.{fullSpeed}
 use Rattle.sets.specs.Opening.{Board, opening}
-use Rattle.sets.specs.View.{View, viewOf, accepted}
+use Rattle.sets.specs.View.{View, accepted}
 use Rattle.records.specs.declared.Device.{Device}
-use Rattle.records.specs.Device.{inDefault, inAddress, nothing, fresh, withWaiting, withAddress, withEndpoints}
+use Rattle.records.specs.Device.{inDefault, inAddress, nothing, fresh, settled, withAddress, withEndpoints}
 use Rattle.records.specs.Image.{deviceOf, imageOf}
 use Rattle.descriptors.specs.Configuration.{canHalt, bitOf}
-use Rattle.records.specs.Current.{endpointAt}
-use Rattle.records.specs.Fits.{fits}
+use Rattle.records.specs.Current.{viewAt, endpointAt}
+use Rattle.records.specs.Fits.{fitsOn}
 use Rattle.requests.specs.declared.Setup.{Setup}
 use Rattle.requests.specs.Setup.{setupOf}
 use Rattle.requests.specs.Table.{refusal}
@@ -25,7 +25,7 @@ use Rattle.events.specs.declared.Answer.the-variants.{Refused}
 use Rattle.events.specs.declared.Event.{Event}
 use Rattle.events.specs.declared.Event.the-variants.{Request, Malformed, StatusEnd, BusReset, Halt, PacketPassed}
 use Rattle.events.specs.declared.Outcome.{Outcome}
-use Rattle.events.specs.Answer.{gives, done, refused}
+use Rattle.events.specs.Answer.{done, refused}
 use Rattle.events.specs.Requests.{getStatus, clearFeature, setFeature, setHalt, setAddress, getDescriptor, getConfiguration, setConfiguration, getInterface, setInterface}
 
 -- ---- a setup: the request by its code (the table has no other)
@@ -47,7 +47,7 @@ unlessRefused n v d s = pick (eqb n 0) (request v d s) (refused n d)
 
 -- "Past 7 to 9, a setup first drops any waiting address."
 unfoldable pub answerSetup : View → Device → Setup → Outcome
-answerSetup v d s = unlessRefused (refusal (d .state) s) v (withWaiting nothing d) s
+answerSetup v d s = unlessRefused (refusal (d .state) s) v (settled d) s
 
 -- ---- status end: "applies it and byte 2 is 255 again. Zero leads to Default, others to Address"; "nothing waiting changes nothing"
 unfoldable pub statusEnd : Device → Outcome
@@ -85,7 +85,7 @@ respond v d (PacketPassed a) = packetPassed v d a
 
 -- "Order: 7, 8, then for a setup 9 to 14, for a function event 16."
 unfoldable pub step : Board → Device → Event → Outcome
-step b d e = pick (accepted b) (pick (fits (viewOf b) d) (respond (viewOf b) d e) (refused 8 d)) (refused 7 d)
+step b d e = pick (accepted b) (pick (fitsOn b d) (respond (viewAt b d) d e) (refused 8 d)) (refused 7 d)
 
 -- "setup not 8 bytes"
 abbrev pub setupEvent : List ℕ → Event

@@ -13,7 +13,7 @@ use Rattle.sets.specs.Opening.{Board}
 use Rattle.sets.specs.View.{viewOf, accepted}
 use Rattle.records.specs.declared.Device.{Device}
 use Rattle.records.specs.Device.{nothing, zeros, fresh, withWaiting, withEndpoints}
-use Rattle.records.specs.Fits.{fits}
+use Rattle.records.specs.Fits.{fits, fitsOn}
 use Rattle.records.proofs.Image.{Sized}
 use Rattle.events.specs.declared.Event.{Event}
 use Rattle.events.specs.declared.Event.the-variants.{StatusEnd, BusReset, Halt}
@@ -61,11 +61,11 @@ waiting = withWaiting 5 fresh
 abbrev pub configured : Device
 configured = record { state = 2; address = 5; waiting = nothing; configuration = 1; wakeup = 0; power = 0; suspended = 0; speed = 0; alternates = zeros; halts = 0; toggles = 0 }
 
-pub waitingFits : fits (viewOf S) waiting ≡ true
+pub waitingFits : fitsOn S waiting ≡ true
 unfolding computed
 waitingFits = refl
 
-pub configuredFits : fits (viewOf S) configured ≡ true
+pub configuredFits : fitsOn S configured ≡ true
 unfolding computed
 configuredFits = refl
 
@@ -80,11 +80,11 @@ pub haltsIt : step S configured (Halt 0x81) .device ≡ halted
 unfolding computed
 haltsIt = refl
 
-pub stillFits : fits (viewOf S) halted ≡ true
+pub stillFits : fitsOn S halted ≡ true
 stillFits = rw haltsIt at (stepFits S bytesS acceptedS configured (Halt 0x81) configuredSized configuredFits .0)
 
 -- a record that does not fit is refused, so `fits` is no empty word: a halt where no endpoint stands
-pub unfit : (fits (viewOf S) (withEndpoints zeros 2 0 configured) ≡ false) × (numberOf (step S (withEndpoints zeros 2 0 configured) BusReset .answer) ≡ 8)
+pub unfit : (fitsOn S (withEndpoints zeros 2 0 configured) ≡ false) × (numberOf (step S (withEndpoints zeros 2 0 configured) BusReset .answer) ≡ 8)
 unfolding computed
 unfit = (refl, refl)
 
@@ -175,7 +175,7 @@ busy = withEndpoints (1 ∷ 1 ∷ replicate 14 0) (2 ^ 17 + 2 ^ 2 + 2 ^ 21) (2 ^
 abbrev pub calmed : Device
 calmed = withEndpoints (1 ∷ 1 ∷ replicate 14 0) (2 ^ 21) (2 ^ 21) configured
 
-pub busyFits : fits (viewOf T) busy ≡ true
+pub busyFits : fitsOn T busy ≡ true
 unfolding computed
 busyFits = refl
 
@@ -183,7 +183,7 @@ pub setsInterface : step T busy (setupEvent (bytes 8 0x010B010000000000)) .devic
 unfolding computed
 setsInterface = refl
 
-pub calmedFits : fits (viewOf T) calmed ≡ true
+pub calmedFits : fitsOn T calmed ≡ true
 calmedFits = rw setsInterface at (stepFits T bytesT acceptedT busy (setupEvent (bytes 8 0x010B010000000000)) (record { sixteen = refl; halts-fit = omega arith; toggles-fit = omega arith }) busyFits .0)
 
 -- the serial number, string 3, is a part of the serial block

@@ -10,29 +10,29 @@ use lib.Dec.{ltb}
 use borrow.Author.Tests.{ltb-true, ne-eqb}
 use Rattle.octets.specs.Sentences.{every, only}
 use Rattle.octets.proofs.Sentences.{both}
-use Rattle.sets.specs.View.{View, viewOf}
+use Rattle.sets.specs.Opening.{Board}
 use Rattle.records.specs.declared.Device.{Device}
 use Rattle.records.specs.Device.{zeros, withEndpoints}
-use Rattle.records.specs.Fits.{fits}
+use Rattle.records.specs.Fits.{fitsOn}
 use Rattle.records.specs.Image.{deviceOf}
 use Rattle.events.specs.declared.Answer.{Answer}
 use Rattle.events.specs.declared.Answer.the-variants.{Done, TwoBytes, Refused}
 use Rattle.events.specs.declared.Event.{Event}
 use Rattle.events.specs.declared.Event.the-variants.{Halt, PacketPassed, StatusEnd}
-use Rattle.events.specs.Concerns.{concerns}
+use Rattle.events.specs.Concerns.{concernsOn}
 use Rattle.events.specs.Step.{setupEvent}
 use Rattle.order.specs.Run.{log}
-use Rattle.order.specs.Places.{Reordered}
+use Rattle.order.specs.Places.{Permuted}
 use Rattle.order.specs.Strike.{strike, left}
 use Rattle.order.specs.Owners.{Owners}
 use Rattle.promises.specs.Examples.{bytes, computed, T}
 use Rattle.sets.proofs.Sound.{Bytes}
 use Rattle.promises.specs.Inhabited.{octets, acceptedT, bytesT, configured, configuredSized}
-use Rattle.promises.specs.Parts.{Good, orNobody, Same, rest, owned, who, kind, settle}
+use Rattle.laws.specs.Parts.{Good, orNobody, Same, rest, owned, who, kind, settle}
 use Rattle.promises.specs.Rearranged.{isThis, eventsOf, Rearranged, answerOf, nextOf, after, answered, heard, Values, imageAfter, imageAnswered, imageHeard}
 use Rattle.promises.specs.Order.{places, placed, stepLocality, order, orderPlaces, orderImages, orderImagesPlaces, concernsThroughout, struckFor, unnoticed}
 
-pub configuredFitsT : fits (viewOf T) configured ≡ true
+pub configuredFitsT : fitsOn T configured ≡ true
 unfolding computed
 configuredFitsT = refl
 
@@ -71,34 +71,34 @@ oneAnswered = refl
 
 -- ---- each interface has the same events in the same order
 -- no event concerns an interface from n on, so no interface from n on has any
-past : (v : View) (d : Device) (n k : ℕ) → n ≤ k → (xs : List Event) → every (λ e. ltb (who v d e) n) xs ≡ true → eventsOf v d k xs ≡ []
+past : (b : Board) (d : Device) (n k : ℕ) → n ≤ k → (xs : List Event) → every (λ e. ltb (who b d e) n) xs ≡ true → eventsOf b d k xs ≡ []
 unfolding every only
-past v d n k l [] p = refl
-past v d n k l (e ∷ xs) p =
-    let (q, r) = both (ltb (who v d e) n) (every (λ e. ltb (who v d e) n) xs) p in
-    rw (not-this (concerns v d e) (ltb-true (who v d e) n q)) (past v d n k l xs r)
+past b d n k l [] p = refl
+past b d n k l (e ∷ xs) p =
+    let (q, r) = both (ltb (who b d e) n) (every (λ e. ltb (who b d e) n) xs) p in
+    rw (not-this (concernsOn b d e) (ltb-true (who b d e) n q)) (past b d n k l xs r)
   where
     not-this : (o : Option ℕ) → orNobody o < n → isThis k o ≡ false
     not-this none m = refl
     not-this (some j) m = ne-eqb j k (λ p. omega arith)
 
-same : (k : ℕ) → eventsOf (viewOf T) configured k oneOrder ≡ eventsOf (viewOf T) configured k otherOrder
+same : (k : ℕ) → eventsOf T configured k oneOrder ≡ eventsOf T configured k otherOrder
 unfolding computed
 same zero = refl
 same (suc zero) = refl
 same (suc (suc k)) = past-one oneOrder refl ∙ sym (past-one otherOrder refl)
   where
-    past-one : (xs : List Event) → every (λ e. ltb (who (viewOf T) configured e) 2) xs ≡ true
-        → eventsOf (viewOf T) configured (suc (suc k)) xs ≡ []
-    past-one = past (viewOf T) configured 2 (suc (suc k)) (omega arith)
+    past-one : (xs : List Event) → every (λ e. ltb (who T configured e) 2) xs ≡ true
+        → eventsOf T configured (suc (suc k)) xs ≡ []
+    past-one = past T configured 2 (suc (suc k)) (omega arith)
 
-pub rearranged : Rearranged (viewOf T) configured oneOrder otherOrder
+pub rearranged : Rearranged T configured oneOrder otherOrder
 unfolding computed
 rearranged = record { one = refl; other = refl; same = same }
 
 -- ---- the theorems
-pub titratorLocality : Owners (answerOf T) (nextOf T) (Good (viewOf T))
-    (owned (viewOf T)) (who (viewOf T)) (Same (viewOf T)) rest kind settle
+pub titratorLocality : Owners (answerOf T) (nextOf T) (Good T)
+    (owned T) (who T) (Same T) rest kind settle
 titratorLocality = stepLocality T bytesT acceptedT
 
 pub sameEnd : after T configured oneOrder ≡ after T configured otherOrder
@@ -124,17 +124,17 @@ unfolding computed
 orderCounts = (refl, refl)
 
 -- place by place
-abbrev moved : Reordered (who (viewOf T) configured) oneOrder otherOrder
-moved = places (viewOf T) configured oneOrder otherOrder rearranged
+abbrev moved : Permuted (who T configured) oneOrder otherOrder
+moved = places T configured oneOrder otherOrder rearranged
 
 pub samePlace : (i : ℕ) (a : Answer) → getElem? (answered T configured oneOrder) i ≡ some a
     → getElem? (answered T configured otherOrder) (moved .to i) ≡ some a
 samePlace = orderPlaces T bytesT acceptedT configured configuredSized configuredFitsT oneOrder otherOrder (rearranged .one) moved .1
 
-pub backAgain : Rearranged (viewOf T) configured oneOrder otherOrder
-backAgain = placed (viewOf T) configured oneOrder otherOrder (rearranged .one) moved
+pub backAgain : Rearranged T configured oneOrder otherOrder
+backAgain = placed T configured oneOrder otherOrder (rearranged .one) moved
 
-pub concernsStill : (f : Event) → concerns (viewOf T) (after T configured oneOrder) f ≡ concerns (viewOf T) configured f
+pub concernsStill : (f : Event) → concernsOn T (after T configured oneOrder) f ≡ concernsOn T configured f
 concernsStill = concernsThroughout T bytesT acceptedT configured oneOrder (configuredSized, configuredFitsT) (rearranged .one)
 
 -- on the image, 32 bytes
@@ -145,11 +145,11 @@ pub imageBytes : Bytes configuredImage
 unfolding computed
 imageBytes = octets configuredImage refl
 
-pub imageFits : fits (viewOf T) (deviceOf configuredImage) ≡ true
+pub imageFits : fitsOn T (deviceOf configuredImage) ≡ true
 unfolding computed
 imageFits = refl
 
-pub imageRearranged : Rearranged (viewOf T) (deviceOf configuredImage) oneOrder otherOrder
+pub imageRearranged : Rearranged T (deviceOf configuredImage) oneOrder otherOrder
 unfolding computed
 imageRearranged = rearranged
 
@@ -159,8 +159,8 @@ sameImage = orderImages T bytesT acceptedT configuredImage refl imageBytes image
 pub sameValues : (k : ℕ) → imageHeard T configuredImage k oneOrder ≡ imageHeard T configuredImage k otherOrder
 sameValues = orderImages T bytesT acceptedT configuredImage refl imageBytes imageFits oneOrder otherOrder imageRearranged .1
 
-abbrev imageMoved : Reordered (who (viewOf T) (deviceOf configuredImage)) oneOrder otherOrder
-imageMoved = places (viewOf T) (deviceOf configuredImage) oneOrder otherOrder imageRearranged
+abbrev imageMoved : Permuted (who T (deviceOf configuredImage)) oneOrder otherOrder
+imageMoved = places T (deviceOf configuredImage) oneOrder otherOrder imageRearranged
 
 pub sameValuesPlace : (i : ℕ) (a : Values) → getElem? (imageAnswered T configuredImage oneOrder) i ≡ some a
     → getElem? (imageAnswered T configuredImage otherOrder) (imageMoved .to i) ≡ some a

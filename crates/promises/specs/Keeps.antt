@@ -14,7 +14,7 @@ use Rattle.sets.specs.View.{viewOf, accepted}
 use Rattle.records.specs.declared.Device.{Device}
 use Rattle.records.specs.Device.{fresh}
 use Rattle.records.specs.Image.{deviceOf, imageOf}
-use Rattle.records.specs.Fits.{fits}
+use Rattle.records.specs.Fits.{fitsOn}
 use Rattle.records.proofs.Image.{Sized, device-image, image-length}
 use Rattle.events.specs.declared.Event.{Event}
 use Rattle.events.specs.declared.Event.the-variants.{Request, Malformed, StatusEnd, BusReset, Halt, PacketPassed}
@@ -22,17 +22,17 @@ use Rattle.events.specs.Answer.{numberOf}
 use Rattle.events.specs.Step.{respond, step, event, opened}
 use Rattle.sets.proofs.Sound.{Bytes}
 use Rattle.sets.proofs.Acceptance.{sound}
-use Rattle.promises.specs.Outcomes.{responded}
+use Rattle.laws.proofs.Outcomes.{responded}
 use Rattle.promises.specs.Refusal.{refuses}
 use Rattle.promises.specs.Refusals.{stepNumber}
-use Rattle.promises.specs.Fitting.{fitting, fitted}
-use Rattle.promises.specs.Changes.{Fit, freshFits, respondedFits}
+use Rattle.laws.proofs.Fitting.{fitting, fitted}
+use Rattle.laws.proofs.Changes.{Fit, freshFits, respondedFits}
 
 -- ---- what the statements say
 -- an image of 32 bytes, of a record that fits
 pub record FitImage (b : Board) (image : List ℕ) : Type 0 where
   pub long : length image ≡ 32
-  pub fit : fits (viewOf b) (deviceOf image) ≡ true
+  pub fit : fitsOn b (deviceOf image) ≡ true
   pub sized : Sized (deviceOf image)
 
 -- the images that the library's own calls leave, one after the other: opening's, of any 32 bytes, and every event's from such an image
@@ -42,10 +42,10 @@ pub data Reached (b : Board) : List ℕ → Type 0 where
 
 module _ (b : Board) (bytes : Bytes (b .set)) (ok : accepted b ≡ true) where
   -- ---- over the record
-  pub freshFit : (fits (viewOf b) fresh ≡ true) × Sized fresh
+  pub freshFit : (fitsOn b fresh ≡ true) × Sized fresh
   freshFit = let g = freshFits (b .set) (viewOf b) (sound b bytes ok) in (fitted (viewOf b) fresh (g .fitting), g .sized)
 
-  pub stepFits : (d : Device) (e : Event) → Sized d → fits (viewOf b) d ≡ true → (fits (viewOf b) (step b d e .device) ≡ true) × Sized (step b d e .device)
+  pub stepFits : (d : Device) (e : Event) → Sized d → fitsOn b d ≡ true → (fitsOn b (step b d e .device) ≡ true) × Sized (step b d e .device)
   unfolding step
   stepFits d e z p = rw (ok, p) (fitted (viewOf b) (respond (viewOf b) d e .device) (next .fitting), next .sized)
     where
@@ -53,7 +53,7 @@ module _ (b : Board) (bytes : Bytes (b .set)) (ok : accepted b ≡ true) where
       next = respondedFits (b .set) (viewOf b) (sound b bytes ok) d (record { fitting = fitting (viewOf b) d p; sized = z }) (responded (viewOf b) d e)
 
   -- ---- over images
-  imageFits : (d : Device) → (fits (viewOf b) d ≡ true) × Sized d → FitImage b (imageOf d)
+  imageFits : (d : Device) → (fitsOn b d ≡ true) × Sized d → FitImage b (imageOf d)
   imageFits d (p, z) = record { long = image-length d (z .sixteen); fit = rw (device-image d z) p; sized = rw (device-image d z) z }
 
   pub openedFits : (image : List ℕ) → length image ≡ 32 → FitImage b (opened b image .image)

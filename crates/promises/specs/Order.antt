@@ -11,146 +11,149 @@ use borrow.Author.Tests.{eq-eqb}
 use Rattle.octets.specs.Sentences.{every, only, isSome}
 use Rattle.octets.proofs.Sentences.{both, every-alike}
 use Rattle.sets.specs.Opening.{Board}
-use Rattle.sets.specs.View.{View, viewOf, accepted}
+use Rattle.sets.specs.View.{accepted}
 use Rattle.records.specs.declared.Device.{Device}
-use Rattle.records.specs.Fits.{fits}
+use Rattle.records.specs.Fits.{fitsOn}
 use Rattle.records.specs.Image.{deviceOf, imageOf}
 use Rattle.records.proofs.Image.{Sized, device-image, image-device, image-length, device-sized}
 use Rattle.events.specs.declared.Answer.{Answer}
 use Rattle.events.specs.declared.Event.{Event}
 use Rattle.events.specs.declared.Outcome.{Outcome}
-use Rattle.events.specs.Concerns.{concerns}
-use Rattle.events.specs.Step.{respond, step, Reply, replyOf, event}
-use Rattle.order.specs.Run.{log, own, run-shown, answers-shown, log-shown}
-use Rattle.order.specs.Shuffle.{all-shuffle}
-use Rattle.order.specs.Places.{Reordered, shuffle-of, own-places, places-own}
+use Rattle.events.specs.Concerns.{concernsOn}
+use Rattle.events.specs.Step.{step, Reply, replyOf, event}
+use Rattle.order.specs.Run.{log, own}
+use Rattle.order.proofs.Run.{run-shown, answers-shown, log-shown}
+use Rattle.order.proofs.Shuffle.{all-shuffle}
+use Rattle.order.specs.Places.{Permuted}
+use Rattle.order.proofs.Places.{shuffle-of, own-places, places-own}
 use Rattle.order.specs.Strike.{strike, left}
-use Rattle.order.specs.Owners.{Owners, others, along, ordered, ordered-places, fair-always, unnoticed-by}
+use Rattle.order.specs.Owners.{Owners, others}
+use Rattle.order.proofs.Owners.{along, ordered, ordered-places, fair-always, unnoticed-by}
 use Rattle.sets.proofs.Sound.{Bytes}
 use Rattle.sets.proofs.Acceptance.{sound}
 use Rattle.promises.specs.Keeps.{stepFits}
-use Rattle.promises.specs.Parts.{Good, Same, rest, owned, who, kind, settle}
-use Rattle.promises.specs.Locality.{concerns-by, idle, locality}
+use Rattle.laws.specs.Parts.{Good, Same, rest, owned, who, kind, settle}
+use Rattle.laws.proofs.Locality.{respondOn, concerns-by, idle, locality}
 use Rattle.promises.specs.Rearranged.{Concerned, isThis, Rearranged, answerOf, nextOf, after, answered, heard, Values, valuesOf, imageAnswer, imageNext, imageAfter, imageAnswered, imageHeard}
-use Rattle.promises.specs.Picking.{own-is, all-of, of-all, every-log, only-map, map-at, mapped-at}
+use Rattle.laws.proofs.Picking.{own-is, all-of, of-all, every-log, only-map, map-at, mapped-at}
 
 -- ---- another order, said by each interface's events and said by places, is one thing
-module _ (v : View) (d : Device) (xs ys : List Event) where
-  own-same : Rearranged v d xs ys → (k : ℕ) → own (who v d) k xs ≡ own (who v d) k ys
-  own-same r k = own-is (concerns v d) k xs (r .one) ∙ r .same k ∙ sym (own-is (concerns v d) k ys (r .other))
+module _ (b : Board) (d : Device) (xs ys : List Event) where
+  own-same : Rearranged b d xs ys → (k : ℕ) → own (who b d) k xs ≡ own (who b d) k ys
+  own-same r k = own-is (concernsOn b d) k xs (r .one) ∙ r .same k ∙ sym (own-is (concernsOn b d) k ys (r .other))
 
-  pub places : Rearranged v d xs ys → Reordered (who v d) xs ys
+  pub places : Rearranged b d xs ys → Permuted (who b d) xs ys
   places r = places-own xs ys (own-same r)
 
-  pub placed : Concerned v d xs → Reordered (who v d) xs ys → Rearranged v d xs ys
+  pub placed : Concerned b d xs → Permuted (who b d) xs ys → Rearranged b d xs ys
   placed p w =
-      let moved = all-shuffle (λ e. owned v d e ≡ true) (shuffle-of (who v d) xs ys w) (all-of (owned v d) xs p) in
-      let q : Concerned v d ys = of-all (owned v d) ys moved in
-      record { one = p; other = q; same = λ k. sym (own-is (concerns v d) k xs p) ∙ own-places xs ys w k ∙ own-is (concerns v d) k ys q }
+      let moved = all-shuffle (λ e. owned b d e ≡ true) (shuffle-of (who b d) xs ys w) (all-of (owned b d) xs p) in
+      let q : Concerned b d ys = of-all (owned b d) ys moved in
+      record { one = p; other = q; same = λ k. sym (own-is (concernsOn b d) k xs p) ∙ own-places xs ys w k ∙ own-is (concernsOn b d) k ys q }
 
 -- an event that arrives in Configured and concerns another interface than k
 abbrev pub struckFor : Board → ℕ → Device → Event → Bool
-struckFor b = others (owned (viewOf b)) (who (viewOf b))
+struckFor b = others (owned b) (who b)
 
 -- ---- for one accepted set and serial block
 module _ (b : Board) (bytes : Bytes (b .set)) (ok : accepted b ≡ true) where
   -- at a record that fits, an event is answered by its own rules
-  steps : (d : Device) (e : Event) → Good (viewOf b) d → step b d e ≡ respond (viewOf b) d e
+  steps : (d : Device) (e : Event) → Good b d → step b d e ≡ respondOn b d e
   unfolding step
   steps d e g = rw (ok, g .1)
 
-  keeps : (d : Device) (e : Event) → Good (viewOf b) d → Good (viewOf b) (step b d e .device)
+  keeps : (d : Device) (e : Event) → Good b d → Good b (step b d e .device)
   keeps d e g = let (f, z) = stepFits b bytes ok d e (g .0) (g .1) in (z, f)
 
   -- ---- locality of the step, for every event
-  pub stepLocality : Owners (answerOf b) (nextOf b) (Good (viewOf b)) (owned (viewOf b)) (who (viewOf b)) (Same (viewOf b)) rest kind settle
+  pub stepLocality : Owners (answerOf b) (nextOf b) (Good b) (owned b) (who b) (Same b) rest kind settle
   stepLocality = along
-      (locality (b .set) (viewOf b) (sound b bytes ok) (λ d e g. rw (steps d e g) at (keeps d e g)))
+      (locality b (sound b bytes ok) (λ d e g. rw (steps d e g) at (keeps d e g)))
       (λ d e g. ap (λ (o : Outcome). o .answer) (steps d e g))
       (λ d e g. ap (λ (o : Outcome). o .device) (steps d e g))
 
   -- an event concerns throughout a run whom it concerns at its start
-  concerns-next : (d : Device) (e f : Event) → Good (viewOf b) d → owned (viewOf b) d e ≡ true
-      → concerns (viewOf b) (step b d e .device) f ≡ concerns (viewOf b) d f
+  concerns-next : (d : Device) (e f : Event) → Good b d → owned b d e ≡ true
+      → concernsOn b (step b d e .device) f ≡ concernsOn b d f
   concerns-next d e f g o =
-      let unseen = stepLocality .apart (suc (who (viewOf b) d e)) d e g o (λ p. omega arith) in
-      concerns-by (viewOf b) (step b d e .device) d f (unseen .firm)
+      let unseen = stepLocality .apart (suc (who b d e)) d e g o (λ p. omega arith) in
+      concerns-by b (step b d e .device) d f (unseen .firm)
 
-  pub concernsThroughout : (d : Device) (xs : List Event) → Good (viewOf b) d → Concerned (viewOf b) d xs
-      → (f : Event) → concerns (viewOf b) (after b d xs) f ≡ concerns (viewOf b) d f
+  pub concernsThroughout : (d : Device) (xs : List Event) → Good b d → Concerned b d xs
+      → (f : Event) → concernsOn b (after b d xs) f ≡ concernsOn b d f
   unfolding every
   concernsThroughout d [] g p f = refl
   concernsThroughout d (e ∷ xs) g p f =
-      let (o, q) = both (owned (viewOf b) d e) (every (owned (viewOf b) d) xs) p in
-      let still = every-alike (owned (viewOf b) (step b d e .device)) (owned (viewOf b) d) xs (λ x m. ap isSome (concerns-next d e x g o)) in
+      let (o, q) = both (owned b d e) (every (owned b d) xs) p in
+      let still = every-alike (owned b (step b d e .device)) (owned b d) xs (λ x m. ap isSome (concerns-next d e x g o)) in
       concernsThroughout (step b d e .device) xs (keeps d e g) (still ∙ q) f ∙ concerns-next d e f g o
 
-  module _ (d : Device) (sized : Sized d) (fit : fits (viewOf b) d ≡ true) where
+  module _ (d : Device) (sized : Sized d) (fit : fitsOn b d ≡ true) where
     -- ---- demand 3: the record after both runs is the same, and so is each interface's list of events and answers: its n-th event is the
     -- same in both and gets the same answer. (That an event concerns an interface says that the record is Configured.)
-    pub order : (xs ys : List Event) → Rearranged (viewOf b) d xs ys
+    pub order : (xs ys : List Event) → Rearranged b d xs ys
         → (after b d xs ≡ after b d ys) × ((k : ℕ) → heard b d k xs ≡ heard b d k ys)
     order xs ys r =
-        let (end, logs) = ordered stepLocality d (sized, fit) xs ys (all-of (owned (viewOf b) d) xs (r .one)) (own-same (viewOf b) d xs ys r) in
+        let (end, logs) = ordered stepLocality d (sized, fit) xs ys (all-of (owned b d) xs (r .one)) (own-same b d xs ys r) in
         (end, λ k. sym (picked k xs (r .one)) ∙ logs k ∙ picked k ys (r .other))
       where
-        picked : (k : ℕ) (zs : List Event) → Concerned (viewOf b) d zs
-            → own (λ (p : Event × Answer). who (viewOf b) d (p .0)) k (log (answerOf b) (nextOf b) d zs) ≡ heard b d k zs
-        picked k zs p = own-is (λ (p : Event × Answer). concerns (viewOf b) d (p .0)) k (log (answerOf b) (nextOf b) d zs)
-            (every-log (owned (viewOf b) d) (answerOf b) (nextOf b) d zs p)
+        picked : (k : ℕ) (zs : List Event) → Concerned b d zs
+            → own (λ (p : Event × Answer). who b d (p .0)) k (log (answerOf b) (nextOf b) d zs) ≡ heard b d k zs
+        picked k zs p = own-is (λ (p : Event × Answer). concernsOn b d (p .0)) k (log (answerOf b) (nextOf b) d zs)
+            (every-log (owned b d) (answerOf b) (nextOf b) d zs p)
 
     -- the same place by place: the event at place i of xs, which stands at place `to i` of ys, gets the same answer there
-    pub orderPlaces : (xs ys : List Event) → Concerned (viewOf b) d xs → (w : Reordered (who (viewOf b) d) xs ys)
+    pub orderPlaces : (xs ys : List Event) → Concerned b d xs → (w : Permuted (who b d) xs ys)
         → (after b d xs ≡ after b d ys)
         × ((i : ℕ) (a : Answer) → getElem? (answered b d xs) i ≡ some a → getElem? (answered b d ys) (w .to i) ≡ some a)
-    orderPlaces xs ys p w = ordered-places stepLocality d (sized, fit) xs ys (all-of (owned (viewOf b) d) xs p) w
+    orderPlaces xs ys p w = ordered-places stepLocality d (sized, fit) xs ys (all-of (owned b d) xs p) w
 
     -- ---- one driver does not notice the other: strike out the events that concern another interface than k, and every event left gets the
     -- same answer; the shared fields, k's setting, halts and toggles, and the rest end the same
     pub unnoticed : (k : ℕ) (xs : List Event) → (let kept = strike (nextOf b) (struckFor b k) d xs in
         (left (answerOf b) (nextOf b) (struckFor b k) d xs ≡ log (answerOf b) (nextOf b) d kept)
-        × Same (viewOf b) k (after b d xs) (after b d kept)
+        × Same b k (after b d xs) (after b d kept)
         × (rest (after b d xs) ≡ rest (after b d kept)))
     unnoticed k xs =
-        let fair = fair-always stepLocality (λ r e g o. idle (viewOf b) r e (g .1) o) k d (sized, fit) xs in
+        let fair = fair-always stepLocality (λ r e g o. idle b r e (answerOf b r e) (g .1) o) k d (sized, fit) xs in
         unnoticed-by stepLocality k d (sized, fit) xs fair
 
   -- ---- demand 3 on the 32 bytes that C hands over
-  module _ (image : List ℕ) (long : length image ≡ 32) (octets : Bytes image) (fit : fits (viewOf b) (deviceOf image) ≡ true) where
-    good : Good (viewOf b) (deviceOf image)
+  module _ (image : List ℕ) (long : length image ≡ 32) (octets : Bytes image) (fit : fitsOn b (deviceOf image) ≡ true) where
+    good : Good b (deviceOf image)
     good = (device-sized image long octets, fit)
 
-    shows : (d : Device) (e : Event) → Good (viewOf b) d → event b (imageOf d) e ≡ replyOf (step b d e)
+    shows : (d : Device) (e : Event) → Good b d → event b (imageOf d) e ≡ replyOf (step b d e)
     unfolding event
     shows d e g = rw (eq-eqb (length (imageOf d)) 32 (image-length d (g .0 .sixteen)), device-image d (g .0))
 
-    same-values : (d : Device) (e : Event) → Good (viewOf b) d → imageAnswer b (imageOf d) e ≡ valuesOf (answerOf b d e)
+    same-values : (d : Device) (e : Event) → Good b d → imageAnswer b (imageOf d) e ≡ valuesOf (answerOf b d e)
     same-values d e g = ap (λ (r : Reply). valuesOf (r .answer)) (shows d e g)
 
-    same-image : (d : Device) (e : Event) → Good (viewOf b) d → imageNext b (imageOf d) e ≡ imageOf (nextOf b d e)
+    same-image : (d : Device) (e : Event) → Good b d → imageNext b (imageOf d) e ≡ imageOf (nextOf b d e)
     same-image d e g = ap (λ (r : Reply). r .image) (shows d e g)
 
     -- the run of images is the images of the run
     module _ (xs : List Event) where
       after-shown : imageAfter b image xs ≡ imageOf (after b (deviceOf image) xs)
       after-shown = ap (λ i. imageAfter b i xs) (sym (image-device image long octets))
-          ∙ run-shown (answerOf b) (nextOf b) (imageAnswer b) (imageNext b) (Good (viewOf b)) imageOf valuesOf keeps same-values same-image
+          ∙ run-shown (answerOf b) (nextOf b) (imageAnswer b) (imageNext b) (Good b) imageOf valuesOf keeps same-values same-image
           (deviceOf image) xs good
 
       answered-shown : imageAnswered b image xs ≡ map valuesOf (answered b (deviceOf image) xs)
       answered-shown = ap (λ i. imageAnswered b i xs) (sym (image-device image long octets))
-          ∙ answers-shown (answerOf b) (nextOf b) (imageAnswer b) (imageNext b) (Good (viewOf b)) imageOf valuesOf keeps same-values same-image
+          ∙ answers-shown (answerOf b) (nextOf b) (imageAnswer b) (imageNext b) (Good b) imageOf valuesOf keeps same-values same-image
           (deviceOf image) xs good
 
       heard-shown : (k : ℕ) → imageHeard b image k xs ≡ map (λ p. (p .0, valuesOf (p .1))) (heard b (deviceOf image) k xs)
       heard-shown k =
-          let f : Event × Values → Bool = λ p. isThis k (concerns (viewOf b) (deviceOf image) (p .0)) in
+          let f : Event × Values → Bool = λ p. isThis k (concernsOn b (deviceOf image) (p .0)) in
           ap (λ i. only f (log (imageAnswer b) (imageNext b) i xs)) (sym (image-device image long octets))
-          ∙ ap (only f) (log-shown (answerOf b) (nextOf b) (imageAnswer b) (imageNext b) (Good (viewOf b)) imageOf valuesOf keeps
+          ∙ ap (only f) (log-shown (answerOf b) (nextOf b) (imageAnswer b) (imageNext b) (Good b) imageOf valuesOf keeps
           same-values same-image (deviceOf image) xs good)
           ∙ only-map f (λ p. (p .0, valuesOf (p .1))) (log (answerOf b) (nextOf b) (deviceOf image) xs)
 
-    pub orderImages : (xs ys : List Event) → Rearranged (viewOf b) (deviceOf image) xs ys
+    pub orderImages : (xs ys : List Event) → Rearranged b (deviceOf image) xs ys
         → (imageAfter b image xs ≡ imageAfter b image ys) × ((k : ℕ) → imageHeard b image k xs ≡ imageHeard b image k ys)
     orderImages xs ys r =
         let (end, same) = order (deviceOf image) (good .0) fit xs ys r in (
@@ -158,7 +161,7 @@ module _ (b : Board) (bytes : Bytes (b .set)) (ok : accepted b ≡ true) where
           λ k. heard-shown xs k ∙ ap (map (λ p. (p .0, valuesOf (p .1)))) (same k) ∙ sym (heard-shown ys k),
         )
 
-    pub orderImagesPlaces : (xs ys : List Event) → Concerned (viewOf b) (deviceOf image) xs → (w : Reordered (who (viewOf b) (deviceOf image)) xs ys)
+    pub orderImagesPlaces : (xs ys : List Event) → Concerned b (deviceOf image) xs → (w : Permuted (who b (deviceOf image)) xs ys)
         → (imageAfter b image xs ≡ imageAfter b image ys)
         × ((i : ℕ) (a : Values) → getElem? (imageAnswered b image xs) i ≡ some a → getElem? (imageAnswered b image ys) (w .to i) ≡ some a)
     orderImagesPlaces xs ys p w =

@@ -2,41 +2,35 @@
 -- interface's events are answered.
 use Prim.Native.Nat.{ℕ}
 use mathlib.Core.Path.{_≡_}
-use mathlib.Core.Bool.{Bool, true, false}
+use mathlib.Core.Bool.{true}
 use mathlib.Core.List.{List}
-use mathlib.Core.Option.{Option, some, none}
-use lib.Dec.{eqb}
 use Rattle.octets.specs.Sentences.{every, only}
 use Rattle.sets.specs.Opening.{Board}
-use Rattle.sets.specs.View.{View, viewOf}
 use Rattle.records.specs.declared.Device.{Device}
 use Rattle.records.specs.Image.{deviceOf}
 use Rattle.events.specs.declared.Answer.{Answer}
 use Rattle.events.specs.declared.Event.{Event}
 use Rattle.events.specs.Answer.{numberOf, bytesOf, Part, partOf}
-use Rattle.events.specs.Concerns.{concerns}
+use Rattle.events.specs.Concerns.{concernsOn}
+pub use Rattle.events.specs.Concerns.{isThis}
 use Rattle.events.specs.Step.{step, event}
 use Rattle.order.specs.Run.{run, answers, log}
-use Rattle.promises.specs.Parts.{owned}
+use Rattle.laws.specs.Parts.{owned}
 
 -- ---- another order
 -- every event of the run concerns an interface that exists. Whom an event concerns hangs on the state and the configuration alone, which
 -- no such event changes: it is the same at every record of the run (`concernsThroughout`)
-abbrev pub Concerned : View → Device → List Event → Type 0
-Concerned v d xs = every (owned v d) xs ≡ true
-
-abbrev pub isThis : ℕ → Option ℕ → Bool
-isThis k none = false
-isThis k (some j) = eqb j k
+abbrev pub Concerned : Board → Device → List Event → Type 0
+Concerned b d xs = every (owned b d) xs ≡ true
 
 -- the events of a run that concern interface k, in their order
-abbrev pub eventsOf : View → Device → ℕ → List Event → List Event
-eventsOf v d k = only (λ e. isThis k (concerns v d e))
+abbrev pub eventsOf : Board → Device → ℕ → List Event → List Event
+eventsOf b d k = only (λ e. isThis k (concernsOn b d e))
 
-pub record Rearranged (v : View) (d : Device) (xs ys : List Event) : Type 0 where
-  pub one : Concerned v d xs
-  pub other : Concerned v d ys
-  pub same : (k : ℕ) → eventsOf v d k xs ≡ eventsOf v d k ys
+pub record Rearranged (b : Board) (d : Device) (xs ys : List Event) : Type 0 where
+  pub one : Concerned b d xs
+  pub other : Concerned b d ys
+  pub same : (k : ℕ) → eventsOf b d k xs ≡ eventsOf b d k ys
 
 -- ---- a run over the record
 abbrev pub answerOf : Board → Device → Event → Answer
@@ -55,7 +49,7 @@ answered b = answers (answerOf b) (nextOf b)
 
 -- its events that concern interface k, in their order, each with the answer that it gets
 abbrev pub heard : Board → Device → ℕ → List Event → List (Event × Answer)
-heard b d k xs = only (λ p. isThis k (concerns (viewOf b) d (p .0))) (log (answerOf b) (nextOf b) d xs)
+heard b d k xs = only (λ p. isThis k (concernsOn b d (p .0))) (log (answerOf b) (nextOf b) d xs)
 
 -- ---- the same over the 32 bytes that C hands over, with document 01's number, bytes and part
 pub record Values : Type 0 where
@@ -80,4 +74,4 @@ imageAnswered b = answers (imageAnswer b) (imageNext b)
 
 abbrev pub imageHeard : Board → List ℕ → ℕ → List Event → List (Event × Values)
 imageHeard b image k xs =
-    only (λ p. isThis k (concerns (viewOf b) (deviceOf image) (p .0))) (log (imageAnswer b) (imageNext b) image xs)
+    only (λ p. isThis k (concernsOn b (deviceOf image) (p .0))) (log (imageAnswer b) (imageNext b) image xs)

@@ -1,32 +1,31 @@
--- The words of demand 1: what a refusal may leave and hand back, which numbers there are, and where a part lies.
-use Prim.Native.Nat.{ℕ, _+_, _≤_}
+-- The words of demand 1: what a refusal may leave and hand back, and which numbers there are.
+use Prim.Native.Nat.{ℕ}
 use mathlib.Core.List.{List}
 use mathlib.Core.Bool.{Bool, false, _&&_, _||_}
-use lib.ListN.{length, set}
+use lib.ListN.{length}
 use lib.Dec.{eqb, leb}
 use Rattle.octets.specs.Sentences.{pick}
 use Rattle.sets.specs.Opening.{Board}
-use Rattle.sets.specs.View.{viewOf, accepted}
+use Rattle.sets.specs.View.{accepted}
 use Rattle.records.specs.declared.Device.{Device}
-use Rattle.records.specs.Device.{nothing, withWaiting}
-use Rattle.records.specs.Image.{deviceOf}
-use Rattle.records.specs.Fits.{fits}
+use Rattle.records.specs.Device.{settled}
+use Rattle.records.specs.Image.{deviceOf, settledImage}
+use Rattle.records.specs.Fits.{fitsOn}
 use Rattle.events.specs.declared.Event.{Event}
 use Rattle.events.specs.declared.Event.the-variants.{Request, Malformed, StatusEnd, BusReset, Halt, PacketPassed}
 use Rattle.events.specs.Answer.{ofSet, Part}
-use Rattle.events.specs.Places.{inBlock}
 
--- "10 .. drops a waiting address only", 11 to 14 "as 10"
-abbrev pub drops : ℕ → Bool
-drops n = leb 10 n && leb n 14
+-- "10 .. drops a waiting address only", 11 to 14 "as 10": the refusals of a setup that has settled
+abbrev pub afterSettling : ℕ → Bool
+afterSettling n = leb 10 n && leb n 14
 
 -- the record that a refusal numbered n leaves: as it was, but that 10 to 14 drop an address still waiting
 abbrev pub leftBy : ℕ → Device → Device
-leftBy n d = pick (drops n) (withWaiting nothing d) d
+leftBy n d = pick (afterSettling n) (settled d) d
 
 -- an event's own refusals: "for a setup 9 to 14, for a function event 16"; a status end and a bus reset have none
 abbrev pub refuses : Event → ℕ → Bool
-refuses (Request s) n = drops n
+refuses (Request s) n = afterSettling n
 refuses Malformed n = eqb n 9
 refuses StatusEnd n = false
 refuses BusReset n = false
@@ -35,11 +34,7 @@ refuses (PacketPassed a) n = eqb n 16
 
 -- "Order: 7, 8, then for a setup 9 to 14, for a function event 16"; 0 is done
 abbrev pub allows : Board → Device → Event → ℕ → Bool
-allows b d e n = pick (accepted b) (pick (fits (viewOf b) d) (eqb n 0 || refuses e n) (eqb n 8)) (eqb n 7)
-
--- a part lies inside its slice
-abbrev pub Inside : Board → Part → Type 0
-Inside b p = p .offset + p .length ≤ length (inBlock (b .set) (b .serial) (p .block))
+allows b d e n = pick (accepted b) (pick (fitsOn b d) (eqb n 0 || refuses e n) (eqb n 8)) (eqb n 7)
 
 -- "an empty part"
 abbrev pub emptyPart : Part
@@ -48,11 +43,11 @@ emptyPart = record { block = ofSet; offset = 0; length = 0 }
 -- ---- on images
 -- as for records, but that an image of another length does not fit
 abbrev pub allowsImage : Board → List ℕ → Event → ℕ → Bool
-allowsImage b image e n = pick (accepted b) (pick (eqb (length image) 32 && fits (viewOf b) (deviceOf image)) (eqb n 0 || refuses e n) (eqb n 8)) (eqb n 7)
+allowsImage b image e n = pick (accepted b) (pick (eqb (length image) 32 && fitsOn b (deviceOf image)) (eqb n 0 || refuses e n) (eqb n 8)) (eqb n 7)
 
 -- the image that a refusal numbered n leaves: byte for byte as it was, but that 10 to 14 put 255 ("none") into byte 2, the waiting address
 abbrev pub imageLeftBy : ℕ → List ℕ → List ℕ
-imageLeftBy n image = pick (drops n) (set image 2 nothing) image
+imageLeftBy n image = pick (afterSettling n) (settledImage image) image
 
 -- ---- at opening
 -- 8 where the image is not 32 bytes, and then it stays as it was; otherwise 0 to 6, and the fresh record, accepted or not

@@ -2,32 +2,35 @@
 -- Assumes nothing.
 use Prim.Native.Nat.{ℕ}
 use native.Mathlib.Omega.{arith}
-use mathlib.Core.Path.{_≡_, refl, ap, _∙_}
+use mathlib.Core.Path.{_≡_, refl, sym, ap, _∙_}
 use mathlib.Core.List.{List, []}
-use mathlib.Core.Bool.{true}
+use mathlib.Core.Bool.{true, false, _||_}
 use lib.ListN.{length}
 use lib.Dec.{eqb}
-use borrow.Author.Tests.{eqb-true, le-leb}
+use borrow.Author.Tests.{eqb-true, eq-eqb, le-leb}
 use Rattle.octets.specs.Sentences.{pick}
-use Rattle.octets.proofs.Sentences.{cases}
+use Rattle.octets.proofs.Sentences.{cases, joined, or-left, or-right}
 use Rattle.descriptors.specs.Limits.{fullSpeed}
 use Rattle.sets.specs.Opening.{Board, opening}
-use Rattle.sets.specs.View.{viewOf, accepted}
+use Rattle.sets.specs.View.{accepted}
 use Rattle.records.specs.declared.Device.{Device}
-use Rattle.records.specs.Device.{nothing, fresh}
+use Rattle.records.specs.Device.{nothing, fresh, settled}
 use Rattle.records.specs.Image.{deviceOf, imageOf}
 use Rattle.records.proofs.Image.{image-device}
-use Rattle.records.specs.Fits.{fits}
+use Rattle.records.specs.Current.{viewAt}
+use Rattle.records.specs.Fits.{fitsOn}
 use Rattle.events.specs.declared.Answer.{Answer}
 use Rattle.events.specs.declared.Answer.the-variants.{Done, OneByte, TwoBytes, SetPart, SerialPart, Refused}
 use Rattle.events.specs.declared.Event.{Event}
+use Rattle.events.specs.declared.Outcome.{Outcome}
 use Rattle.events.specs.Answer.{numberOf, bytesOf, partOf}
+use Rattle.events.specs.Places.{Inside}
 use Rattle.events.specs.Step.{step, event, opened}
 use Rattle.sets.proofs.Sound.{Bytes}
-use Rattle.promises.specs.Refusal.{drops, leftBy, allows, Inside, emptyPart, allowsImage, imageLeftBy, opens}
+use Rattle.promises.specs.Refusal.{afterSettling, leftBy, refuses, allows, emptyPart, allowsImage, imageLeftBy, opens}
 use Rattle.sets.proofs.Groups.{groups}
-use Rattle.promises.specs.Refusing.{refusal, ownNumber, undropped, placed, leftImage, openingNumber}
-use Rattle.promises.specs.Outcomes.{responded}
+use Rattle.laws.proofs.Outcomes.{Refusable, malformed, noHalt, noPass, responded}
+use Rattle.laws.proofs.Refusing.{Numbered, notRefused, refusedSetup, refusedOther, numbered, placed, nothing-settled, left-image, opening-number}
 
 -- ---- over the step
 -- "Refusals hand back no bytes and an empty part."
@@ -39,30 +42,46 @@ refusalEmpty (SetPart offset size) z = absurd (z refl)
 refusalEmpty (SerialPart size) z = absurd (z refl)
 refusalEmpty (Refused n) z = (refl, refl)
 
+-- a refusal that settles nothing is one of the event's own, and none of 10 to 14
+settlesNothing : {e : Event} {n : ℕ} → Refusable e n → (refuses e n ≡ true) × (afterSettling n ≡ false)
+settlesNothing malformed = (refl, refl)
+settlesNothing noHalt = (refl, refl)
+settlesNothing noPass = (refl, refl)
+
+ownNumber : {d : Device} {e : Event} {o : Outcome} → Numbered d e o → (eqb (numberOf (o .answer)) 0 || refuses e (numberOf (o .answer))) ≡ true
+ownNumber {e} {o} (notRefused z) = or-left (refuses e (numberOf (o .answer))) (eq-eqb _ 0 z)
+ownNumber (refusedSetup {n = n} l h) = or-right (eqb n 0) (joined (le-leb 10 n l) (le-leb n 14 h))
+ownNumber (refusedOther {n = n} r) = or-right (eqb n 0) (settlesNothing r .0)
+
+keeps : {d : Device} {e : Event} {o : Outcome} → Numbered d e o → (numberOf (o .answer) ≡ 0 → ⊥) → o .device ≡ leftBy (numberOf (o .answer)) d
+keeps (notRefused z) refused = absurd (refused z)
+keeps {d} (refusedSetup {n = n} l h) refused = ap (λ b. pick b (settled d) d) (sym (joined (le-leb 10 n l) (le-leb n 14 h)))
+keeps {d} (refusedOther r) refused = ap (λ b. pick b (settled d) d) (sym (settlesNothing r .1))
+
 module _ (b : Board) (d : Device) (e : Event) where
   -- every number is one of document 01's for that board, record and event, in its order
   pub stepNumber : allows b d e (numberOf (step b d e .answer)) ≡ true
   unfolding step
   stepNumber = cases (accepted b)
-      (λ p. cases (fits (viewOf b) d) (λ q. rw (p, q) (ownNumber (responded (viewOf b) d e))) (λ q. rw (p, q)))
+      (λ p. cases (fitsOn b d) (λ q. rw (p, q) (ownNumber (numbered (responded (viewAt b d) d e)))) (λ q. rw (p, q)))
       (λ p. rw p)
 
   -- where the number is not 0 the record stays as it was, but that 10 to 14 drop an address still waiting
   pub stepKeeps : (numberOf (step b d e .answer) ≡ 0 → ⊥) → step b d e .device ≡ leftBy (numberOf (step b d e .answer)) d
   unfolding step
   stepKeeps = cases (accepted b)
-      (λ p. cases (fits (viewOf b) d) (λ q. rw (p, q) (λ z. refusal (responded (viewOf b) d e) z .1)) (λ q. rw (p, q) (λ z. refl)))
+      (λ p. cases (fitsOn b d) (λ q. rw (p, q) (keeps (numbered (responded (viewAt b d) d e)))) (λ q. rw (p, q) (λ z. refl)))
       (λ p. rw p (λ z. refl))
 
   -- so with nothing waiting, as in Configured, every refusal leaves all as it was
   pub stepKeepsAll : d .waiting ≡ nothing → (numberOf (step b d e .answer) ≡ 0 → ⊥) → step b d e .device ≡ d
-  stepKeepsAll w z = stepKeeps z ∙ undropped d w (drops (numberOf (step b d e .answer)))
+  stepKeepsAll w z = stepKeeps z ∙ nothing-settled d w (afterSettling (numberOf (step b d e .answer)))
 
   -- every part lies inside its slice
-  pub stepInside : Inside b (partOf (step b d e .answer))
+  pub stepInside : Inside (b .set) (b .serial) (partOf (step b d e .answer))
   unfolding step
   stepInside = cases (accepted b)
-      (λ p. cases (fits (viewOf b) d) (λ q. rw (p, q) (placed b (groups fullSpeed b (eqb-true (opening fullSpeed b) 0 p)) (responded (viewOf b) d e))) (λ q. rw (p, q) (omega arith)))
+      (λ p. cases (fitsOn b d) (λ q. rw (p, q) (placed b (groups fullSpeed b (eqb-true (opening fullSpeed b) 0 p)) (responded (viewAt b d) d e))) (λ q. rw (p, q) (omega arith)))
       (λ p. rw p (omega arith))
 
 -- ---- over events on images
@@ -75,10 +94,10 @@ module _ (b : Board) (image : List ℕ) (e : Event) where
   pub eventKeeps : Bytes image → (numberOf (event b image e .answer) ≡ 0 → ⊥) → event b image e .image ≡ imageLeftBy (numberOf (event b image e .answer)) image
   unfolding event
   eventKeeps bytes = cases (eqb (length image) 32)
-      (λ p. rw p (λ z. ap imageOf (stepKeeps b (deviceOf image) e z) ∙ leftImage image (image-device image (eqb-true (length image) 32 p) bytes) (drops (numberOf (step b (deviceOf image) e .answer)))))
+      (λ p. rw p (λ z. ap imageOf (stepKeeps b (deviceOf image) e z) ∙ left-image image (image-device image (eqb-true (length image) 32 p) bytes) (afterSettling (numberOf (step b (deviceOf image) e .answer)))))
       (λ p. cases (accepted b) (λ q. rw (p, q) (λ z. refl)) (λ q. rw (p, q) (λ z. refl)))
 
-  pub eventInside : Inside b (partOf (event b image e .answer))
+  pub eventInside : Inside (b .set) (b .serial) (partOf (event b image e .answer))
   unfolding event
   eventInside = cases (eqb (length image) 32) (λ p. rw p (stepInside b (deviceOf image) e)) (λ p. rw p (omega arith))
 
@@ -87,7 +106,7 @@ module _ (b : Board) (image : List ℕ) where
   -- 8 where the image is not 32 bytes, else 0 to 6
   pub openedNumber : opens image (opened b image .number) ≡ true
   unfolding opened
-  openedNumber = cases (eqb (length image) 32) (λ p. rw p (le-leb (opening fullSpeed b) 6 (openingNumber fullSpeed b))) (λ p. rw p)
+  openedNumber = cases (eqb (length image) 32) (λ p. rw p (le-leb (opening fullSpeed b) 6 (opening-number fullSpeed b))) (λ p. rw p)
 
   -- "else it becomes the fresh record, accepted or not"
   pub openedLeaves : opened b image .image ≡ pick (eqb (length image) 32) (imageOf fresh) image

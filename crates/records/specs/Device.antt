@@ -32,6 +32,10 @@ withWaiting w d = record { state = d .state; address = d .address; waiting = w; 
 abbrev pub withWakeup : ℕ → Device → Device
 withWakeup w d = record { state = d .state; address = d .address; waiting = d .waiting; configuration = d .configuration; wakeup = w; power = d .power; suspended = d .suspended; speed = d .speed; alternates = d .alternates; halts = d .halts; toggles = d .toggles }
 
+-- what a setup settles, past 7 to 9: it "first drops any waiting address". The step, the refusals and the order of events cite this
+abbrev pub settled : Device → Device
+settled d = withWaiting nothing d
+
 -- its state and address, nothing waiting any more
 abbrev pub withAddress : ℕ → ℕ → Device → Device
 withAddress s a d = record { state = s; address = a; waiting = nothing; configuration = d .configuration; wakeup = d .wakeup; power = d .power; suspended = d .suspended; speed = d .speed; alternates = d .alternates; halts = d .halts; toggles = d .toggles }

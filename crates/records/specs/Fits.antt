@@ -8,10 +8,11 @@ use Rattle.octets.specs.Bit.{bit}
 use Rattle.octets.specs.Sentences.{pick, _⇒_, any, below}
 use Rattle.descriptors.specs.declared.Endpoint.{Endpoint}
 use Rattle.descriptors.specs.Configuration.{Configuration, hasInterface, hasSetting, canHalt, bitOf}
+use Rattle.sets.specs.Opening.{Board}
 use Rattle.sets.specs.View.{View, hasValue, wakes}
 use Rattle.records.specs.declared.Device.{Device}
 use Rattle.records.specs.Device.{inDefault, inAddress, inConfigured, nothing}
-use Rattle.records.specs.Current.{selected, currentEndpoints}
+use Rattle.records.specs.Current.{viewAt, selected, currentEndpoints}
 
 -- "those ranges hold": the state, the wakeup byte, and 5–7 zero
 abbrev pub inRange : Device → Bool
@@ -44,3 +45,7 @@ fits v d =
     goodAlternates (selected v d) d &&
     standsAt es (d .halts) && standsAt es (d .toggles) &&
     (eqb (d .wakeup) 1 ⇒ wakes v)
+
+-- a board: the set in use there
+abbrev pub fitsOn : Board → Device → Bool
+fitsOn b d = fits (viewAt b d) d

@@ -1,8 +1,10 @@
 -- The record's 32-byte image, and back (document 01: "For C its image is 32 bytes").
 use Prim.Native.Nat.{ℕ, _+_, _*_, _/_, _%_}
 use mathlib.Core.List.{List, [], _∷_, _++_}
+use lib.ListN.{set}
 use Rattle.octets.specs.Octets.{byte, part}
 use Rattle.records.specs.declared.Device.{Device}
+use Rattle.records.specs.Device.{nothing}
 
 -- "24–27 halts, 28–31 toggles": a number of four bytes
 unfoldable pub fourBytes : List ℕ → ℕ → ℕ
@@ -31,3 +33,7 @@ unfoldable pub imageOf : Device → List ℕ
 imageOf d =
     d .state ∷ d .address ∷ d .waiting ∷ d .configuration ∷ d .wakeup ∷ d .power ∷ d .suspended ∷ d .speed ∷
     d .alternates ++ bytesOfFour (d .halts) ++ bytesOfFour (d .toggles)
+
+-- what a setup settles (`settled`), on the image: byte 2, the waiting address, is 255 ("none")
+abbrev pub settledImage : List ℕ → List ℕ
+settledImage image = set image 2 nothing

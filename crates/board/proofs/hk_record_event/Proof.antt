@@ -62,8 +62,7 @@ use Rattle.events.proofs.step_lent.Symbol as step-lent-def
 use Rattle.events.proofs.step_lent.Symbol.{name as #step-lent}
 use Rattle.events.proofs.step_lent.Met as step-lent-thm
 use Rattle.promises.specs.Refusals.{stepInside}
-use Rattle.board.specs.Statements.{lent, spotOf, Hands}
-use Rattle.board.specs.Lent.{numbered, Answers}
+use Rattle.board.specs.Exports.{lent, spotOf, Hands, numbered, AnswersRecordEvent}
 use Rattle.board.proofs.numbers.event_of as event-of
 use Rattle.board.proofs.numbers.event_of.Symbol as event-of-def
 use Rattle.board.proofs.numbers.event_of.Symbol.{name as #event-of}
@@ -303,7 +302,7 @@ module _ {M : Type 1} (𝓤 : URA M) (H : Heap 𝓤) (At : Atoms 𝓤) (W : Give
         move ! (2 ∷ 1 ∷ []) $ join ! $ move ! (4 ∷ 0 ∷ []) $ join ! $ move ! (1 ∷ 0 ∷ []) $ join ! $ done !))
       where
         ends : (e : Event) (w : Device) → e ≡ event₀ → gives r w ≡ step board (device .now) e → (n : ℕ) (ws : List ℕ × (ℕ × (Bytes × Unit {0}))) → Says n ws
-            → Answers board (spotOf (set .ptr)) (spotOf (serial .ptr)) (device .now) event₀ n w (ws .0) (ws .1 .0) (ws .1 .1 .0 .now) (spotOf (ws .1 .1 .0 .ptr))
+            → AnswersRecordEvent board (spotOf (set .ptr)) (spotOf (serial .ptr)) (device .now) event₀ n w (ws .0) (ws .1 .0) (ws .1 .1 .0 .now) (spotOf (ws .1 .1 .0 .ptr))
         ends e w e₁ e₂ n ws handed =
             let is : gives r w ≡ step board (device .now) event₀ = e₂ ∙ ap (step board (device .now)) e₁ in
             record { leaves = ap (λ (o : Outcome). o .device) is; answers = subst (λ (o : Outcome). Hands board (spotOf (set .ptr)) (spotOf (serial .ptr)) (o .answer) n (ws .0) (ws .1 .0) (ws .1 .1 .0 .now) (spotOf (ws .1 .1 .0 .ptr))) is handed }

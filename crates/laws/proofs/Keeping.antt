@@ -26,7 +26,7 @@ use Rattle.records.specs.Fits.{goodAlternates, standsAt}
 use Rattle.records.proofs.Image.{Sized}
 use Rattle.events.specs.Requests.{withSetting}
 use Rattle.sets.proofs.Sound.{SoundConfiguration, Sound}
-use Rattle.promises.specs.Fitting.{Fitting}
+use Rattle.laws.proofs.Fitting.{Fitting}
 
 -- ---- words of bits
 -- a bit of the word stands at an endpoint of the list that can halt
@@ -127,7 +127,7 @@ module _ (bytes : List ℕ) (v : View) (s : Sound bytes v) where
       where
         go : (k : ℕ) → k < 16 → Dec (k ≡ j) → pick (hasInterface (selected v d) k) (hasSetting (selected v d) k (getD (set (d .alternates) j a) k 0)) (eqb (getD (set (d .alternates) j a) k 0) 0) ≡ true
         go k l (yes i) = rw (i, getD-set-same (d .alternates) j a 0 (rw (z .sixteen) there), there-is) h
-        go k l (no n) = rw (getD-set-other (d .alternates) j k a 0 n) (below-at (λ k. pick (hasInterface (selected v d) k) (hasSetting (selected v d) k (getD (d .alternates) k 0)) (eqb (getD (d .alternates) k 0) 0)) 16 (f .alternates) k l)
+        go k l (no n) = rw (getD-set-other (d .alternates) j k a 0 n) (below-at (λ k. pick (hasInterface (selected v d) k) (hasSetting (selected v d) k (getD (d .alternates) k 0)) (eqb (getD (d .alternates) k 0) 0)) 16 (f .stands .alternates) k l)
 
     -- what stays halted, or toggled, stands at another interface's endpoint, which stays current
     pub set-stands : (word : ℕ) → standsAt (currentEndpoints v d) word ≡ true

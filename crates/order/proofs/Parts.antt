@@ -3,31 +3,29 @@
 -- over, the rest, only by a settling that may stand anywhere. Assumes nothing.
 use Prim.Native.Nat.{ℕ}
 use native.Mathlib.Decide.{ℕ-discrete}
-use mathlib.Core.Path.{_≡_, refl, sym, _∙_}
-use mathlib.Core.Bool.{Bool, true, false}
-use Rattle.order.specs.Order.{Square}
+use mathlib.Core.Path.{_≡_, sym, _∙_}
+use Rattle.order.proofs.Order.{Square}
 
 -- Same j r s: what j's events can see of r and s is the same. rest r: what of the shared part considered events may change.
--- settle m: the change, by a kind m. kind r e: the kind that e makes at r.
+-- settle m: the change, by a kind m. kind e a: the kind that e makes where a is its answer.
 pub record Parts {R E A W M : Type 0} (answer : R → E → A) (next : R → E → R) (Ok : E → Type 0) (who : E → ℕ) (Good : R → Type 0)
-    (Same : ℕ → R → R → Type 0) (rest : R → W) (kind : R → E → M) (settle : M → W → W) : Type 0 where
+    (Same : ℕ → R → R → Type 0) (rest : R → W) (kind : E → A → M) (settle : M → W → W) : Type 0 where
   pub keeps : (r : R) (e : E) → Good r → Ok e → Good (next r e)
   pub turn : (k : ℕ) (r s : R) → Same k r s → Same k s r
   pub join : (k : ℕ) (r s t : R) → Same k r s → Same k s t → Same k r t
-  -- (a) from records that its owner cannot tell apart an event gets one answer, settles alike, and leaves such records again
+  -- (a) from records that its owner cannot tell apart an event gets one answer, so settles alike, and leaves such records again
   pub reply : (r s : R) (e : E) → Good r → Good s → Ok e → Same (who e) r s → answer r e ≡ answer s e
-  pub kinds : (r s : R) (e : E) → Good r → Good s → Ok e → Same (who e) r s → kind r e ≡ kind s e
   pub local : (r s : R) (e : E) → Good r → Good s → Ok e → Same (who e) r s → Same (who e) (next r e) (next s e)
   -- (b) it leaves what every other owner sees
   pub apart : (r : R) (e : E) (k : ℕ) → Good r → Ok e → (who e ≡ k → ⊥) → Same k (next r e) r
   -- (c) it changes the rest only by its settling, and two settlings may change places
-  pub rests : (r : R) (e : E) → Good r → Ok e → rest (next r e) ≡ settle (kind r e) (rest r)
+  pub rests : (r : R) (e : E) → Good r → Ok e → rest (next r e) ≡ settle (kind e (answer r e)) (rest r)
   pub commute : (m n : M) (w : W) → settle m (settle n w) ≡ settle n (settle m w)
   -- (d) a good record is its parts and its rest
   pub whole : (r s : R) → Good r → Good s → ((k : ℕ) → Same k r s) → rest r ≡ rest s → r ≡ s
 
 module _ {R E A W M : Type 0} {answer : R → E → A} {next : R → E → R} {Ok : E → Type 0} {who : E → ℕ} {Good : R → Type 0}
-    {Same : ℕ → R → R → Type 0} {rest : R → W} {kind : R → E → M} {settle : M → W → W}
+    {Same : ℕ → R → R → Type 0} {rest : R → W} {kind : E → A → M} {settle : M → W → W}
     (P : Parts answer next Ok who Good Same rest kind settle) where
   -- after e and f of different owners, e's owner sees the same in either order
   half : (r : R) (e f : E) → Good r → Ok e → Ok f → (who e ≡ who f → ⊥) → Same (who e) (next (next r e) f) (next (next r f) e)
@@ -49,11 +47,11 @@ module _ {R E A W M : Type 0} {answer : R → E → A} {next : R → E → R} {O
   each r e f g oe of n k (no a) (no b) = P .join _ _ _ _ (third r e f k g oe of a b) (P .turn _ _ _ (third r f e k g of oe b a))
 
   rests2 : (r : R) (e f : E) → Good r → Ok e → Ok f → (who e ≡ who f → ⊥)
-      → rest (next (next r e) f) ≡ settle (kind r f) (settle (kind r e) (rest r))
+      → rest (next (next r e) f) ≡ settle (kind f (answer r f)) (settle (kind e (answer r e)) (rest r))
   rests2 r e f g oe of n =
       let ge = P .keeps r e g oe in
-      let same-kind : kind (next r e) f ≡ kind r f = P .kinds (next r e) r f ge g of (P .apart r e (who f) g oe n) in
-      P .rests (next r e) f ge of ∙ rw (same-kind, P .rests r e g oe)
+      let deaf : answer (next r e) f ≡ answer r f = P .reply (next r e) r f ge g of (P .apart r e (who f) g oe n) in
+      P .rests (next r e) f ge of ∙ rw (deaf, P .rests r e g oe)
 
   pub square-of : Square answer next Ok who Good
   square-of = record {
@@ -63,33 +61,3 @@ module _ {R E A W M : Type 0} {answer : R → E → A} {next : R → E → R} {O
         (λ k. each r e f g oe of n k (ℕ-discrete (who e) k) (ℕ-discrete (who f) k))
         (rests2 r e f g oe of n ∙ P .commute _ _ _ ∙ sym (rests2 r f e g of oe (λ q. n (sym q))));
   }
-
--- ---- settling by a flag: some events settle, others do not
-abbrev pub calm : {W : Type 0} → (W → W) → Bool → W → W
-calm quiet true w = quiet w
-calm quiet false w = w
-
--- twice is once where `quiet` is so
-calm-again : {W : Type 0} (quiet : W → W) → ((w : W) → quiet (quiet w) ≡ quiet w) → (m : Bool) (w : W)
-    → calm quiet m (calm quiet m w) ≡ calm quiet m w
-calm-again quiet q true w = q w
-calm-again quiet q false w = refl
-
--- any two such settlings may change places, whatever `quiet` is
-calm-commute : {W : Type 0} (quiet : W → W) (m n : Bool) (w : W) → calm quiet m (calm quiet n w) ≡ calm quiet n (calm quiet m w)
-calm-commute quiet true true w = refl
-calm-commute quiet true false w = refl
-calm-commute quiet false true w = refl
-calm-commute quiet false false w = refl
-
--- two things that settle apart (what waits, and the sleep byte): a flag for each
-abbrev pub calm₂ : {W X : Type 0} → (W → W) → (X → X) → Bool × Bool → W × X → W × X
-calm₂ quiet still m w = (calm quiet (m .0) (w .0), calm still (m .1) (w .1))
-
-pub calm₂-again : {W X : Type 0} (quiet : W → W) (still : X → X) → ((w : W) → quiet (quiet w) ≡ quiet w) → ((x : X) → still (still x) ≡ still x)
-    → (m : Bool × Bool) (w : W × X) → calm₂ quiet still m (calm₂ quiet still m w) ≡ calm₂ quiet still m w
-calm₂-again quiet still p q m w = λ i. (calm-again quiet p (m .0) (w .0) i, calm-again still q (m .1) (w .1) i)
-
-pub calm₂-commute : {W X : Type 0} (quiet : W → W) (still : X → X) (m n : Bool × Bool) (w : W × X)
-    → calm₂ quiet still m (calm₂ quiet still n w) ≡ calm₂ quiet still n (calm₂ quiet still m w)
-calm₂-commute quiet still m n w = λ i. (calm-commute quiet (m .0) (n .0) (w .0) i, calm-commute still (m .1) (n .1) (w .1) i)

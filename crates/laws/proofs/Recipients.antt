@@ -1,30 +1,45 @@
--- The recipients of the table's requests: 05, 06, 08 and 09 are a device's, 00, 01 and 03 anybody's, 0A and 0B an interface's. Assumes nothing.
+-- The row that lets a setup through, and the recipients of the table's requests: 05, 06, 08 and 09 are a device's, 00, 01 and 03 anybody's, 0A and 0B an interface's. Assumes nothing.
 use Prim.Native.Nat.{ℕ, _%_, _≤_}
 use native.Mathlib.Omega.{arith}
-use mathlib.Core.Path.{_≡_, refl}
+use mathlib.Core.Path.{_≡_, refl, sym, ap, _∙_}
 use mathlib.Core.Bool.{Bool, true, false, _&&_, _||_}
 use mathlib.Core.Option.{Option, some, none}
+use mathlib.Core.List.{List·Memᴰ}
 use lib.Dec.{eqb, leb}
 use borrow.Author.Tests.{eqb-true, leb-true}
-use Rattle.octets.specs.Sentences.{_⇒_, every}
+use Rattle.octets.specs.Sentences.{pick, _⇒_, every}
 use Rattle.octets.proofs.Sentences.{both, if-then, first-some, every-member}
 use Rattle.requests.specs.declared.Setup.{Setup}
 use Rattle.requests.specs.declared.Row.{Row}
 use Rattle.requests.specs.Setup.{recipient}
-use Rattle.requests.specs.Table.{table, rowOf, refusalAt, refusal}
+use Rattle.requests.specs.Table.{table, rowOf, inState, fieldsFit, refusalAt, refusal}
 
--- what holds of every row's type and code holds of a setup that the table does not refuse
-tabled : (P : ℕ → ℕ → Bool) → every (λ r. P (r .kind) (r .code)) table ≡ true
-    → (state : ℕ) (s : Setup) → refusal state s ≡ 0 → P (s .kind) (s .code) ≡ true
+-- the row that let a setup through
+pub let-through : (state : ℕ) (s : Setup) → refusal state s ≡ 0
+    → (r : Row) × List·Memᴰ r table × (r .kind ≡ s .kind) × (r .code ≡ s .code) × (inState r state ≡ true) × (fieldsFit r s ≡ true)
 unfolding refusal
-tabled P all state s p = go (rowOf s) refl p
+let-through state s p = go (rowOf s) refl p
   where
-    go : (o : Option Row) → rowOf s ≡ o → refusalAt o state s ≡ 0 → P (s .kind) (s .code) ≡ true
+    passed : (a b : Bool) → pick {A = ℕ} a (pick b 0 12) 11 ≡ 0 → (a ≡ true) × (b ≡ true)
+    passed true true e = (refl, refl)
+    passed true false e = absurd (omega arith)
+    passed false b e = absurd (omega arith)
+
+    go : (o : Option Row) → rowOf s ≡ o → refusalAt o state s ≡ 0
+        → (r : Row) × List·Memᴰ r table × (r .kind ≡ s .kind) × (r .code ≡ s .code) × (inState r state ≡ true) × (fieldsFit r s ≡ true)
     go none q n = absurd (omega arith)
     go (some r) q n =
         let (m, e) = first-some (λ x. eqb (x .kind) (s .kind) && eqb (x .code) (s .code)) table q in
         let (k, c) = both (eqb (r .kind) (s .kind)) (eqb (r .code) (s .code)) e in
-        rw (← (eqb-true (r .kind) (s .kind) k), ← (eqb-true (r .code) (s .code) c)) (every-member (λ x. P (x .kind) (x .code)) all m)
+        let (i, h) = passed (inState r state) (fieldsFit r s) n in
+        (r, m, eqb-true (r .kind) (s .kind) k, eqb-true (r .code) (s .code) c, i, h)
+
+-- what holds of every row's type and code holds of a setup that the table does not refuse
+tabled : (P : ℕ → ℕ → Bool) → every (λ r. P (r .kind) (r .code)) table ≡ true
+    → (state : ℕ) (s : Setup) → refusal state s ≡ 0 → P (s .kind) (s .code) ≡ true
+tabled P all state s p =
+    let (r, m, k, c, i, h) = let-through state s p in
+    sym (ap (λ x. P x (r .code)) k ∙ ap (P (s .kind)) c) ∙ every-member (λ x. P (x .kind) (x .code)) all m
 
 -- the requests of a device alone; those of a device, an interface or an endpoint; the others are an interface's
 abbrev pub ofDevice : ℕ → Bool

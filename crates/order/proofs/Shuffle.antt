@@ -11,7 +11,8 @@ use mathlib.Core.Bool.{Bool, true, false}
 use lib.Dec.{eqb}
 use lib.ListN.{length}
 use borrow.Author.Tests.{eqb-true}
-use Rattle.order.specs.Run.{keep, own, All, own-mine, own-other}
+use Rattle.order.specs.Run.{keep, own, All}
+use Rattle.order.proofs.Run.{own-mine, own-other}
 
 pub data Shuffle {E : Type 0} (who : E → ℕ) : List E → List E → Type 0 where
   stay : {xs : List E} → Shuffle who xs xs

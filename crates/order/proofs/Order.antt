@@ -4,7 +4,7 @@ use Prim.Native.Nat.{ℕ}
 use mathlib.Core.Path.{_≡_, refl, sym, ap, _∙_}
 use mathlib.Core.List.{List, _∷_}
 use Rattle.order.specs.Run.{run, answers, log, All, own, logOf}
-use Rattle.order.specs.Shuffle.{Shuffle, stay, same, swap, then, move, all-shuffle, own-shuffle, sort}
+use Rattle.order.proofs.Shuffle.{Shuffle, stay, same, swap, then, move, all-shuffle, own-shuffle, sort}
 
 -- Ok: the events considered. who: their owners. Good: an invariant of the records.
 pub record Square {R E A : Type 0} (answer : R → E → A) (next : R → E → R) (Ok : E → Type 0) (who : E → ℕ) (Good : R → Type 0) : Type 0 where

@@ -1,4 +1,4 @@
--- Every outcome of an event on a record that fits, by kind, with what is known where it comes about: the one walk over the
+-- Every outcome of an event on a record that fits, by kind, with what is known where it comes about: the one walk over the events and
 -- requests from which the promises about the step are proved. Assumes nothing.
 use Prim.Native.Nat.{ℕ, _≤_, min, _/_, _%_}
 use mathlib.Core.Path.{_≡_, refl, _∙_}
@@ -11,82 +11,73 @@ use native.Mathlib.Omega.{arith}
 use Rattle.octets.specs.Bit.{bit, flipBit}
 use Rattle.octets.specs.Sentences.{pick, _⇒_, any, every, first, member}
 use Rattle.octets.proofs.Sentences.{both, if-then, conjunct, every-member, first-some}
+use Rattle.laws.proofs.Recipients.{let-through}
 use Rattle.descriptors.specs.declared.Endpoint.{Endpoint}
 use Rattle.descriptors.specs.Configuration.{hasInterface, hasSetting, canHalt, bitOf}
 use Rattle.sets.specs.declared.Entry.{Entry}
 use Rattle.sets.specs.View.{View, wakes}
 use Rattle.records.specs.declared.Device.{Device}
-use Rattle.records.specs.Device.{inDefault, inAddress, inConfigured, nothing, fresh, withWaiting, withWakeup, withAddress, withConfiguration, withEndpoints}
+use Rattle.records.specs.Device.{inDefault, inAddress, inConfigured, nothing, fresh, settled, withWaiting, withWakeup, withAddress, withConfiguration, withEndpoints}
 use Rattle.records.specs.Current.{selected, currentEndpoints, endpointAt}
 use Rattle.requests.specs.declared.Setup.{Setup}
 use Rattle.requests.specs.declared.Row.{Row}
 use Rattle.requests.specs.Setup.{recipient}
 use Rattle.requests.specs.Table.{table, rowOf, inState, fieldsFit, refusalAt, refusal}
 use Rattle.events.specs.declared.Answer.{Answer}
-use Rattle.events.specs.declared.Answer.the-variants.{SetPart, SerialPart}
+use Rattle.events.specs.declared.Answer.the-variants.{Done, SetPart, SerialPart}
 use Rattle.events.specs.declared.Event.{Event}
 use Rattle.events.specs.declared.Event.the-variants.{Request, Malformed, StatusEnd, BusReset, Halt, PacketPassed}
 use Rattle.events.specs.declared.Outcome.{Outcome}
 use Rattle.events.specs.Answer.{numberOf, partOf, gives, done, refused}
 use Rattle.events.specs.Requests.{byRecipient, isEndpointZero, deviceFeature, interfaceFeature, endpointFeature, endpointStatus, haltFeature, clearHalt, setHalt, setPart, isEntry, languageFor, withSetting, getStatus, clearFeature, setFeature, setAddress, getDescriptor, getConfiguration, setConfiguration, getInterface, setInterface}
 use Rattle.events.specs.Step.{request, answerSetup, statusEnd, haltAt, halt, passAt, packetPassed, respond}
-use Rattle.promises.specs.Refusal.{emptyPart}
 
--- a setup's outcome, on the record d with nothing waiting
+-- a change of a record that fits, with what is known where it comes about
+pub data Changed (v : View) (d : Device) : Device → Type 0 where
+  wakeup : (on : ℕ) → on ≤ 1 → wakes v ≡ true → Changed v d (withWakeup on d)
+  halted : (e : Endpoint) → List·Memᴰ e (currentEndpoints v d) → canHalt e ≡ true → Changed v d (setHalt d (bitOf (e .address)))
+  unhalted : (e : Endpoint) → List·Memᴰ e (currentEndpoints v d) → canHalt e ≡ true → Changed v d (clearHalt d (bitOf (e .address)))
+  toggled : (e : Endpoint) → List·Memᴰ e (currentEndpoints v d) → canHalt e ≡ true
+      → Changed v d (withEndpoints (d .alternates) (d .halts) (flipBit (d .toggles) (bitOf (e .address))) d)
+  waits : (a : ℕ) → a ≤ 127 → d .state ≤ 1 → Changed v d (withWaiting a d)
+  applies : (d .waiting ≡ nothing → ⊥) → Changed v d (withAddress (pick (eqb (d .waiting) 0) inDefault inAddress) (d .waiting) d)
+  unconfigures : 1 ≤ d .state → Changed v d (withConfiguration inAddress 0 d)
+  configures : (c : ℕ) → 1 ≤ d .state → d .waiting ≡ nothing → any (λ k. eqb (k .value) c) (v .configurations) ≡ true
+      → Changed v d (withConfiguration inConfigured c d)
+  sets : (j a : ℕ) → hasSetting (selected v d) j a ≡ true → Changed v d (withSetting v d j a)
+  resets : Changed v d fresh
+
+-- a setup's outcome, on the record d that it has settled
 pub data Answered (v : View) (d : Device) : Outcome → Type 0 where
-  reads : (a : Answer) → numberOf a ≡ 0 → partOf a ≡ emptyPart → Answered v d (gives a d)
-  refusedWith : (n : ℕ) → 10 ≤ n → n ≤ 14 → Answered v d (refused n d)
+  reads : (a : Answer) → numberOf a ≡ 0 → partOf a ≡ partOf Done → Answered v d (gives a d)
   fromSet : (e : Entry) (asked : ℕ) → List·Memᴰ e (v .entries) → Answered v d (gives (SetPart (e .offset) (min (e .length) asked)) d)
   fromSerial : (asked : ℕ) → Answered v d (gives (SerialPart (min (v .block) asked)) d)
-  wakeup : (on : ℕ) → on ≤ 1 → wakes v ≡ true → Answered v d (done (withWakeup on d))
-  haltSet : (e : Endpoint) → List·Memᴰ e (currentEndpoints v d) → canHalt e ≡ true → Answered v d (done (setHalt d (bitOf (e .address))))
-  haltCleared : (e : Endpoint) → List·Memᴰ e (currentEndpoints v d) → canHalt e ≡ true → Answered v d (done (clearHalt d (bitOf (e .address))))
-  waits : (a : ℕ) → a ≤ 127 → d .state ≤ 1 → Answered v d (done (withWaiting a d))
-  unconfigures : 1 ≤ d .state → Answered v d (done (withConfiguration inAddress 0 d))
-  configures : (c : ℕ) → 1 ≤ d .state → any (λ k. eqb (k .value) c) (v .configurations) ≡ true → Answered v d (done (withConfiguration inConfigured c d))
-  sets : (j a : ℕ) → hasSetting (selected v d) j a ≡ true → Answered v d (done (withSetting v d j a))
+  changes : {x : Device} → Changed v d x → Answered v d (done x)
+  refusedWith : (n : ℕ) → 10 ≤ n → n ≤ 14 → Answered v d (refused n d)
+
+-- the refusals of an event that settles nothing: "not 8 bytes" 9, a function event 16
+pub data Refusable : Event → ℕ → Type 0 where
+  malformed : Refusable Malformed 9
+  noHalt : {a : ℕ} → Refusable (Halt a) 16
+  noPass : {a : ℕ} → Refusable (PacketPassed a) 16
 
 -- an event's outcome
 pub data Responded (v : View) (d : Device) : Event → Outcome → Type 0 where
-  answers : {s : Setup} {o : Outcome} → Answered v (withWaiting nothing d) o → Responded v d (Request s) o
-  malformed : Responded v d Malformed (refused 9 d)
-  nothingWaits : Responded v d StatusEnd (done d)
-  applies : (d .waiting ≡ nothing → ⊥) → Responded v d StatusEnd (done (withAddress (pick (eqb (d .waiting) 0) inDefault inAddress) (d .waiting) d))
-  resets : Responded v d BusReset (done fresh)
-  noHalt : {a : ℕ} → Responded v d (Halt a) (refused 16 d)
-  halts : {a : ℕ} (e : Endpoint) → List·Memᴰ e (currentEndpoints v d) → canHalt e ≡ true → Responded v d (Halt a) (done (setHalt d (bitOf (e .address))))
-  noPass : {a : ℕ} → Responded v d (PacketPassed a) (refused 16 d)
-  passes : {a : ℕ} (e : Endpoint) → List·Memᴰ e (currentEndpoints v d) → canHalt e ≡ true
-      → Responded v d (PacketPassed a) (done (withEndpoints (d .alternates) (d .halts) (flipBit (d .toggles) (bitOf (e .address))) d))
+  answers : {s : Setup} {o : Outcome} → Answered v (settled d) o → Responded v d (Request s) o
+  leaves : {e : Event} → Responded v d e (done d)
+  becomes : {e : Event} {x : Device} → Changed v d x → Responded v d e (done x)
+  refuses : {e : Event} {n : ℕ} → Refusable e n → Responded v d e (refused n d)
 
 -- by cases on the test of a choice
-chosen : (P : Outcome → Type 0) (b : Bool) {x y : Outcome} → (b ≡ true → P x) → (b ≡ false → P y) → P (pick b x y)
+pub chosen : {A : Type 0} (P : A → Type 0) (b : Bool) {x y : A} → (b ≡ true → P x) → (b ≡ false → P y) → P (pick b x y)
 chosen P true p q = p refl
 chosen P false p q = q refl
 
 -- ---- the table: what holds of a setup that it lets through
 -- a rule of the table's rows, of the row that let a setup through
-ruled : (f : Row → Bool) → every f table ≡ true → (state : ℕ) (s : Setup) → refusal state s ≡ 0
+pub ruled : (f : Row → Bool) → every f table ≡ true → (state : ℕ) (s : Setup) → refusal state s ≡ 0
     → (r : Row) × (f r ≡ true) × (r .code ≡ s .code) × (inState r state ≡ true) × (fieldsFit r s ≡ true)
-unfolding refusal
-ruled f p state s q = go (rowOf s) refl q
-  where
-    passed : (r : Row) → refusalAt (some r) state s ≡ 0 → (inState r state ≡ true) × (fieldsFit r s ≡ true)
-    passed r = within (inState r state) (fieldsFit r s)
-      where
-        within : (a b : Bool) → pick {A = ℕ} a (pick b 0 12) 11 ≡ 0 → (a ≡ true) × (b ≡ true)
-        within true true e = (refl, refl)
-        within true false e = absurd (omega arith)
-        within false b e = absurd (omega arith)
-
-    go : (o : Option Row) → rowOf s ≡ o → refusalAt o state s ≡ 0
-        → (r : Row) × (f r ≡ true) × (r .code ≡ s .code) × (inState r state ≡ true) × (fieldsFit r s ≡ true)
-    go none e z = absurd (omega arith)
-    go (some r) e z =
-        let (m, t) = first-some (λ r. eqb (r .kind) (s .kind) && eqb (r .code) (s .code)) table e in
-        let (k, c) = both (eqb (r .kind) (s .kind)) (eqb (r .code) (s .code)) t in
-        let (i, h) = passed r z in
-        (r, every-member f p m, eqb-true (r .code) (s .code) c, i, h)
+ruled f p state s q = let (r, m, k, c, i, h) = let-through state s q in (r, every-member f p m, c, i, h)
 
 -- 05 is for Default and Address alone, with an address up to 127; 09 is not for Default
 addressAllowed : (state : ℕ) (s : Setup) → refusal state s ≡ 0 → s .code ≡ 5 → (s .value ≤ 127) × (state ≤ 1)
@@ -143,17 +134,17 @@ module _ (v : View) (d : Device) (s : Setup) where
       at (some e) = reads _ refl refl
 
   features : (change : Device → ℕ → Device) (on : ℕ) → on ≤ 1
-      → ((e : Endpoint) → List·Memᴰ e (currentEndpoints v d) → canHalt e ≡ true → Answered v d (done (change d (bitOf (e .address)))))
+      → ((e : Endpoint) → List·Memᴰ e (currentEndpoints v d) → canHalt e ≡ true → Changed v d (change d (bitOf (e .address))))
       → Answered v d (byRecipient s (deviceFeature on v d s) (interfaceFeature v d s) (endpointFeature change v d s))
   features change on l changed = recipients
-      (chosen (Answered v d) (eqb (s .value) 1 && wakes v) (λ e. wakeup on l (both (eqb (s .value) 1) (wakes v) e .1)) (λ e. noFeature))
+      (chosen (Answered v d) (eqb (s .value) 1 && wakes v) (λ e. changes (wakeup on l (both (eqb (s .value) 1) (wakes v) e .1))) (λ e. noFeature))
       (chosen (Answered v d) (hasInterface (selected v d) (s .index)) (λ e. noFeature) (λ e. missing))
       (chosen (Answered v d) (isEndpointZero (s .index)) (λ e. noFeature) (λ e. at (endpointAt v d (s .index)) refl))
     where
       at : (o : Option Endpoint) → endpointAt v d (s .index) ≡ o → Answered v d (haltFeature change d s o)
       at none e = missing
       at (some x) e = chosen (Answered v d) (eqb (s .value) 0 && canHalt x)
-          (λ t. changed x (first-some (λ x. eqb (x .address) (s .index)) (currentEndpoints v d) e .0) (both (eqb (s .value) 0) (canHalt x) t .1)) (λ t. noFeature)
+          (λ t. changes (changed x (first-some (λ x. eqb (x .address) (s .index)) (currentEndpoints v d) e .0) (both (eqb (s .value) 0) (canHalt x) t .1))) (λ t. noFeature)
 
   descriptors : Answered v d (getDescriptor v d s)
   unfolding getDescriptor
@@ -169,30 +160,30 @@ module _ (v : View) (d : Device) (s : Setup) where
       at kind index language none e = missing
       at kind index language (some x) e = fromSet x (s .length) (first-some (isEntry kind index language) (v .entries) e .0)
 
-  configurations : 1 ≤ d .state → Answered v d (setConfiguration v d s)
+  configurations : 1 ≤ d .state → d .waiting ≡ nothing → Answered v d (setConfiguration v d s)
   unfolding setConfiguration
-  configurations l = chosen (Answered v d) (eqb (s .value) 0) (λ e. unconfigures l)
-      (λ e. chosen (Answered v d) (any (λ c. eqb (c .value) (s .value)) (v .configurations)) (λ e. configures (s .value) l e) (λ e. missing))
+  configurations l w = chosen (Answered v d) (eqb (s .value) 0) (λ e. changes (unconfigures l))
+      (λ e. chosen (Answered v d) (any (λ c. eqb (c .value) (s .value)) (v .configurations)) (λ e. changes (configures (s .value) l w e)) (λ e. missing))
 
-  answered : refusal (d .state) s ≡ 0 → Answered v d (request v d s)
+  answered : d .waiting ≡ nothing → refusal (d .state) s ≡ 0 → Answered v d (request v d s)
   unfolding request clearFeature setFeature setAddress getConfiguration getInterface setInterface
-  answered p =
+  answered w p =
       chosen (Answered v d) (eqb (s .code) 0x00) (λ e. status)
-      (λ e. chosen (Answered v d) (eqb (s .code) 0x01) (λ e. features clearHalt 0 (lit≤ tt) haltCleared)
-      (λ e. chosen (Answered v d) (eqb (s .code) 0x03) (λ e. features setHalt 1 (lit≤ tt) haltSet)
-      (λ e. chosen (Answered v d) (eqb (s .code) 0x05) (λ e. let (a, b) = addressAllowed (d .state) s p (eqb-true (s .code) 5 e) in waits (s .value) a b)
+      (λ e. chosen (Answered v d) (eqb (s .code) 0x01) (λ e. features clearHalt 0 (lit≤ tt) unhalted)
+      (λ e. chosen (Answered v d) (eqb (s .code) 0x03) (λ e. features setHalt 1 (lit≤ tt) halted)
+      (λ e. chosen (Answered v d) (eqb (s .code) 0x05) (λ e. let (a, b) = addressAllowed (d .state) s p (eqb-true (s .code) 5 e) in changes (waits (s .value) a b))
       (λ e. chosen (Answered v d) (eqb (s .code) 0x06) (λ e. descriptors)
       (λ e. chosen (Answered v d) (eqb (s .code) 0x08) (λ e. reads _ refl refl)
-      (λ e. chosen (Answered v d) (eqb (s .code) 0x09) (λ e. configurations (configurationAllowed (d .state) s p (eqb-true (s .code) 9 e)))
+      (λ e. chosen (Answered v d) (eqb (s .code) 0x09) (λ e. configurations (configurationAllowed (d .state) s p (eqb-true (s .code) 9 e)) w)
       (λ e. chosen (Answered v d) (eqb (s .code) 0x0A) (λ e. chosen (Answered v d) (hasInterface (selected v d) (s .index)) (λ e. reads _ refl refl) (λ e. missing))
-      (λ e. chosen (Answered v d) (hasSetting (selected v d) (s .index) (s .value)) (λ e. sets (s .index) (s .value) e) (λ e. missing)))))))))
+      (λ e. chosen (Answered v d) (hasSetting (selected v d) (s .index) (s .value)) (λ e. changes (sets (s .index) (s .value) e)) (λ e. missing)))))))))
 
 -- ---- the events
 module _ (v : View) (d : Device) where
-  setup : (s : Setup) → Answered v (withWaiting nothing d) (answerSetup v d s)
+  setup : (s : Setup) → Answered v (settled d) (answerSetup v d s)
   unfolding answerSetup
-  setup s = chosen (Answered v (withWaiting nothing d)) (eqb (refusal (d .state) s) 0)
-      (λ e. answered v (withWaiting nothing d) s (eqb-true (refusal (d .state) s) 0 e))
+  setup s = chosen (Answered v (settled d)) (eqb (refusal (d .state) s) 0)
+      (λ e. answered v (settled d) s refl (eqb-true (refusal (d .state) s) 0 e))
       (λ e. let (l, h) = tableRefuses (d .state) s (eqb-false (refusal (d .state) s) 0 e) in refusedWith (refusal (d .state) s) l h)
 
   found : (a : ℕ) {e : Endpoint} → endpointAt v d a ≡ some e → List·Memᴰ e (currentEndpoints v d)
@@ -201,17 +192,17 @@ module _ (v : View) (d : Device) where
   pub responded : (e : Event) → Responded v d e (respond v d e)
   unfolding statusEnd halt packetPassed
   responded (Request s) = answers (setup s)
-  responded Malformed = malformed
-  responded StatusEnd = chosen (Responded v d StatusEnd) (eqb (d .waiting) nothing) (λ e. nothingWaits) (λ e. applies (eqb-false (d .waiting) nothing e))
-  responded BusReset = resets
+  responded Malformed = refuses malformed
+  responded StatusEnd = chosen (Responded v d StatusEnd) (eqb (d .waiting) nothing) (λ e. leaves) (λ e. becomes (applies (eqb-false (d .waiting) nothing e)))
+  responded BusReset = becomes resets
   responded (Halt a) = at (endpointAt v d a) refl
     where
       at : (o : Option Endpoint) → endpointAt v d a ≡ o → Responded v d (Halt a) (haltAt d o)
-      at none p = noHalt
-      at (some e) p = chosen (Responded v d (Halt a)) (canHalt e) (λ t. halts e (found a p) t) (λ t. noHalt)
+      at none p = refuses noHalt
+      at (some e) p = chosen (Responded v d (Halt a)) (canHalt e) (λ t. becomes (halted e (found a p) t)) (λ t. refuses noHalt)
   responded (PacketPassed a) = at (endpointAt v d a) refl
     where
       at : (o : Option Endpoint) → endpointAt v d a ≡ o → Responded v d (PacketPassed a) (passAt d o)
-      at none p = noPass
+      at none p = refuses noPass
       at (some e) p = chosen (Responded v d (PacketPassed a)) (canHalt e && not (bit (d .halts) (bitOf (e .address))))
-          (λ t. passes e (found a p) (both (canHalt e) (not (bit (d .halts) (bitOf (e .address)))) t .0)) (λ t. noPass)
+          (λ t. becomes (toggled e (found a p) (both (canHalt e) (not (bit (d .halts) (bitOf (e .address)))) t .0))) (λ t. refuses noPass)

@@ -17,7 +17,7 @@ use Rattle.descriptors.specs.Configuration.{Configuration, hasInterface, hasSet
 use Rattle.sets.specs.declared.Entry.{Entry}
 use Rattle.sets.specs.View.{View, byIndex, byValue, wakes}
 use Rattle.records.specs.declared.Device.{Device}
-use Rattle.records.specs.Device.{inDefault, inAddress, inConfigured, nothing, fresh, withWaiting, withWakeup, withConfiguration, withEndpoints}
+use Rattle.records.specs.Device.{inDefault, inAddress, inConfigured, nothing, fresh, settled, withWaiting, withWakeup, withAddress, withConfiguration, withEndpoints}
 use Rattle.records.specs.Current.{selected, endpointAt}
 use Rattle.requests.specs.declared.Setup.{Setup}
 use Rattle.requests.specs.Setup.{recipient}
@@ -32,9 +32,10 @@ use Rattle.events.specs.Requests.{byRecipient, getStatus, endpointStatus, isEnd
 use Rattle.events.specs.Step.{request, answerSetup, statusEnd, haltAt, halt, passAt, packetPassed, respond}
 use Rattle.events.specs.Concerns.{setupConcerns, eventConcerns}
 use Rattle.sets.proofs.Sound.{SoundConfiguration}
-use Rattle.promises.specs.Parts.{home, Shared, shared, Same, rest, self}
-use Rattle.promises.specs.Homes.{AllIn, all-in, found-home, found-alike, set-both, clear-both, flip-both, cleared-both}
-use Rattle.promises.specs.Recipients.{Tabled, table-fits}
+use Rattle.laws.specs.Parts.{home, Shared, shared, SameIn, rest, withCommon}
+use Rattle.laws.proofs.Same.{self}
+use Rattle.laws.proofs.Homes.{AllIn, all-in, found-home, found-alike, set-both, clear-both, flip-both, cleared-both}
+use Rattle.laws.proofs.Recipients.{Tabled, table-fits}
 
 -- two choices by equal tests
 pick-alike : {A : Type 0} (P : A → A → Type 0) (a b : Bool) → a ≡ b → {x y u w : A} → (a ≡ true → P x u) → (a ≡ false → P y w)
@@ -57,7 +58,7 @@ has-setting c S j a p =
 
 -- ---- records that k cannot tell apart, and outcomes that it cannot; T: whether the rest is compared too
 pub record Near (v : View) (T : Type 0) (k : ℕ) (d s : Device) : Type 0 where
-  pub part : Same v k d s
+  pub part : SameIn v k d s
   pub still : T → rest d ≡ rest s
 
 pub record Alike (v : View) (T : Type 0) (k : ℕ) (o p : Outcome) : Type 0 where
@@ -80,30 +81,22 @@ module _ (v : View) (T : Type 0) (k : ℕ) (d s : Device) (h : Near v T k d s) w
   refuse n = give refl
 
   -- ---- records that differ from them in the same fields
-  near-waiting : (w : ℕ) → Near v T k (withWaiting w d) (withWaiting w s)
-  near-waiting w = record {
-    part = record { firm = h .part .firm; alternate = h .part .alternate; halts = h .part .halts; toggles = h .part .toggles };
-    still = λ t. ap (λ (r : ℕ × ℕ). (w, r .1)) (h .still t);
+  -- other shared fields and another rest, at the same configuration: all that an event does which names no interface and no endpoint
+  near-common : {x y : Shared} {u w : ℕ × ℕ} → x ≡ y → x .configuration ≡ d .configuration → (T → u ≡ w) → Near v T k (withCommon x u d) (withCommon y w s)
+  unfolding home
+  near-common p c q = record {
+    part = record { firm = p; alternate = h .part .alternate; halts = λ e m. h .part .halts e (rw (← c) m); toggles = λ e m. h .part .toggles e (rw (← c) m) };
+    still = q;
   }
 
+  near-waiting : (w : ℕ) → Near v T k (withWaiting w d) (withWaiting w s)
+  near-waiting w = near-common (h .part .firm) refl (λ t. ap (λ (r : ℕ × ℕ). (w, r .1)) (h .still t))
+
+  near-settled : Near v T k (settled d) (settled s)
+  near-settled = near-waiting nothing
+
   near-wakeup : (on : ℕ) → Near v T k (withWakeup on d) (withWakeup on s)
-  unfolding home
-  near-wakeup on = record {
-    part = record {
-      firm = λ i. record {
-        state = h .part .firm i .state;
-        address = h .part .firm i .address;
-        configuration = h .part .firm i .configuration;
-        wakeup = on;
-        power = h .part .firm i .power;
-        speed = h .part .firm i .speed;
-      };
-      alternate = h .part .alternate;
-      halts = h .part .halts;
-      toggles = h .part .toggles;
-    };
-    still = h .still;
-  }
+  near-wakeup on = near-common (ap (λ (x : Shared). shared (withWakeup on (withCommon x (rest d) d))) (h .part .firm)) refl (h .still)
 
   near-configuration : (state value : ℕ) → Near v T k (withConfiguration state value d) (withConfiguration state value s)
   near-configuration state value = record {
@@ -322,42 +315,27 @@ module _ (v : View) (T : Type 0) (k : ℕ) (d s : Device) (h : Near v T k d s) w
         test (eqb (q .code) 0x0A) (λ p. alike-get-interface r) (λ n. alike-set-interface r))))))))
 
   alike-status-end : rest d ≡ rest s → Alike v T k (statusEnd d) (statusEnd s)
-  unfolding statusEnd home
+  unfolding statusEnd
   alike-status-end w = tests (eqb (d .waiting) nothing) (eqb (s .waiting) nothing) (ap (λ (r : ℕ × ℕ). eqb (r .0) nothing) w)
       (λ p. give refl)
-      (λ p. record {
-        answer = refl;
-        near = record {
-          part = record {
-            firm = λ i. record {
-              state = pick (eqb (w i .0) 0) inDefault inAddress;
-              address = w i .0;
-              configuration = h .part .firm i .configuration;
-              wakeup = h .part .firm i .wakeup;
-              power = h .part .firm i .power;
-              speed = h .part .firm i .speed;
-            };
-            alternate = h .part .alternate;
-            halts = h .part .halts;
-            toggles = h .part .toggles;
-          };
-          still = λ t. ap (λ (r : ℕ × ℕ). (nothing, r .1)) w;
-        };
-      })
+      (λ p. record { answer = refl; near = near-common (λ i. taken (h .part .firm i) (w i)) refl (λ t. ap (λ (r : ℕ × ℕ). (nothing, r .1)) w) })
+    where
+      taken : Shared → ℕ × ℕ → Shared
+      taken x r = shared (withAddress (pick (eqb (r .0) 0) inDefault inAddress) (r .0) (withCommon x r d))
 
 alike-setup : (v : View) (T : Type 0) (k : ℕ) (d s : Device) → Near v T k d s → SoundConfiguration (selected v d) → Sixteen d → Sixteen s
     → (q : Setup) → ((j : ℕ) → setupConcerns (selected v d) q ≡ some j → j ≡ k) → Alike v T k (answerSetup v d q) (answerSetup v s q)
 unfolding answerSetup
 alike-setup v T k d s h S zd zs q w =
     pick-alike (Alike v T k) (eqb (refusal (d .state) q) 0) (eqb (refusal (s .state) q) 0) (ap (λ n. eqb n 0) same-refusal)
-    (λ p. alike-request v T k (withWaiting nothing d) (withWaiting nothing s) dropped S zd zs q (table-fits (d .state) q (eqb-true _ _ p)) w)
-    (λ p. record { answer = ap Refused same-refusal; near = dropped })
+    (λ p. alike-request v T k (settled d) (settled s) both-settled S zd zs q (table-fits (d .state) q (eqb-true _ _ p)) w)
+    (λ p. record { answer = ap Refused same-refusal; near = both-settled })
   where
     same-refusal : refusal (d .state) q ≡ refusal (s .state) q
     same-refusal = ap (λ (x : Shared). refusal (x .state) q) (h .part .firm)
 
-    dropped : Near v T k (withWaiting nothing d) (withWaiting nothing s)
-    dropped = near-waiting v T k d s h nothing
+    both-settled : Near v T k (settled d) (settled s)
+    both-settled = near-settled v T k d s h
 
 -- every event that concerns k or nobody
 pub alike-event : (v : View) (T : Type 0) (k : ℕ) (d s : Device) (e : Event) → SoundConfiguration (selected v d) → Sixteen d → Sixteen s

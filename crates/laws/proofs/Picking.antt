@@ -9,8 +9,8 @@ use lib.Dec.{eqb}
 use Rattle.octets.specs.Sentences.{pick, every, only, isSome}
 use Rattle.octets.proofs.Sentences.{both, joined}
 use Rattle.order.specs.Run.{log, keep, All, own}
-use Rattle.promises.specs.Parts.{orNobody}
-use Rattle.promises.specs.Rearranged.{isThis}
+use Rattle.laws.specs.Parts.{orNobody}
+use Rattle.events.specs.Concerns.{isThis}
 
 module _ {A : Type 0} (f : A → Option ℕ) (k : ℕ) where
   pub own-is : (l : List A) → every (λ a. isSome (f a)) l ≡ true → own (λ a. orNobody (f a)) k l ≡ only (λ a. isThis k (f a)) l

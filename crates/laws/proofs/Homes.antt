@@ -22,7 +22,7 @@ use Rattle.descriptors.specs.Interfaces.{apart}
 use Rattle.descriptors.specs.Configuration.{Configuration, isCurrent, currentOf, addressed, bitOf, cleared}
 use Rattle.events.specs.Concerns.{listedBy}
 use Rattle.sets.proofs.Sound.{SoundConfiguration}
-use Rattle.promises.specs.Parts.{homeIn, orNobody}
+use Rattle.laws.specs.Parts.{homeIn, orNobody}
 
 eqb-turn : (a b : ℕ) → eqb a b ≡ eqb b a
 eqb-turn a b = same-test (eqb a b) (eqb b a) (λ p. eq-eqb b a (sym (eqb-true a b p))) (λ p. eq-eqb a b (sym (eqb-true b a p)))

@@ -1,4 +1,4 @@
--- An event that concerns interface j changes j's part alone, and drops what waits if it is a setup. Assumes nothing.
+-- An event that concerns interface j changes j's part alone, once it has settled what it settles. Assumes nothing.
 use Prim.Native.Nat.{ℕ}
 use native.Mathlib.Omega.{arith}
 use mathlib.Core.Path.{_≡_, refl, sym, ap, _∙_}
@@ -18,7 +18,7 @@ use Rattle.descriptors.specs.declared.Endpoint.{Endpoint}
 use Rattle.descriptors.specs.Configuration.{Configuration, hasInterface, hasSetting, canHalt, bitOf, ofEither}
 use Rattle.sets.specs.View.{View}
 use Rattle.records.specs.declared.Device.{Device}
-use Rattle.records.specs.Device.{nothing, withWaiting, withEndpoints}
+use Rattle.records.specs.Device.{settled, withEndpoints}
 use Rattle.records.specs.Current.{selected, endpointAt}
 use Rattle.requests.specs.declared.Setup.{Setup}
 use Rattle.requests.specs.Setup.{recipient}
@@ -30,18 +30,16 @@ use Rattle.events.specs.Requests.{getStatus, endpointStatus, isEndpointZero, in
 use Rattle.events.specs.Step.{request, answerSetup, haltAt, halt, passAt, packetPassed, respond}
 use Rattle.events.specs.Concerns.{listedBy, setupConcerns, eventConcerns}
 use Rattle.sets.proofs.Sound.{SoundConfiguration}
-use Rattle.promises.specs.Parts.{home, homeIn, shared, Same, rest, isSetup, self}
-use Rattle.promises.specs.Homes.{AllIn, all-in, at-home, found-home, cleared-other}
-use Rattle.promises.specs.Recipients.{ofDevice, Tabled, table-fits}
-
-pick-one : {A : Type 0} (P : A → Type 0) (b : Bool) {x y : A} → (b ≡ true → P x) → (b ≡ false → P y) → P (pick b x y)
-pick-one P true f g = f refl
-pick-one P false f g = g refl
+use Rattle.laws.specs.Parts.{home, homeIn, shared, SameIn, rest, settledBy, kind}
+use Rattle.laws.proofs.Same.{self}
+use Rattle.laws.proofs.Outcomes.{chosen}
+use Rattle.laws.proofs.Homes.{AllIn, all-in, at-home, found-home, cleared-other}
+use Rattle.laws.proofs.Recipients.{ofDevice, Tabled, table-fits}
 
 -- x differs from d in j's part alone
 pub record Touches (v : View) (j : ℕ) (d x : Device) : Type 0 where
   pub still : rest x ≡ rest d
-  pub others : (k : ℕ) → (j ≡ k → ⊥) → Same v k x d
+  pub others : (k : ℕ) → (j ≡ k → ⊥) → SameIn v k x d
 
 module _ (v : View) (j : ℕ) (d : Device) where
   touch-none : (x : Device) → x ≡ d → Touches v j d x
@@ -85,19 +83,19 @@ module _ (v : View) (j : ℕ) (d : Device) where
     touch-halt : (a : ℕ) → AllIn (selected v d) a j → Touches v j d (halt v d a .device)
     unfolding halt
     touch-halt a w = touch-at a w (λ o. Touches v j d (haltAt d o .device)) (touch-none d refl)
-        (λ e p. pick-one After (canHalt e) (λ t. touch-set (bitOf (e .address)) p) (λ t. touch-none d refl))
+        (λ e p. chosen After (canHalt e) (λ t. touch-set (bitOf (e .address)) p) (λ t. touch-none d refl))
 
     touch-pass : (a : ℕ) → AllIn (selected v d) a j → Touches v j d (packetPassed v d a .device)
     unfolding packetPassed
     touch-pass a w = touch-at a w (λ o. Touches v j d (passAt d o .device)) (touch-none d refl)
-        (λ e p. pick-one After (canHalt e && not (bit (d .halts) (bitOf (e .address))))
+        (λ e p. chosen After (canHalt e && not (bit (d .halts) (bitOf (e .address))))
         (λ t. touch-flip (bitOf (e .address)) p) (λ t. touch-none d refl))
 
     touch-feature : (change : Device → ℕ → Device) → ((e : ℕ) → home v (shared d) e ≡ j → Touches v j d (change d e))
         → (q : Setup) → AllIn (selected v d) (q .index) j → Touches v j d (endpointFeature change v d q .device)
-    touch-feature change f q w = pick-one After (isEndpointZero (q .index)) (λ z. touch-none d refl)
+    touch-feature change f q w = chosen After (isEndpointZero (q .index)) (λ z. touch-none d refl)
         (λ z. touch-at (q .index) w (λ o. Touches v j d (haltFeature change d q o .device)) (touch-none d refl)
-        (λ e p. pick-one After (eqb (q .value) 0 && canHalt e) (λ t. f (bitOf (e .address)) p) (λ t. touch-none d refl)))
+        (λ e p. chosen After (eqb (q .value) 0 && canHalt e) (λ t. f (bitOf (e .address)) p) (λ t. touch-none d refl)))
 
     -- SET_INTERFACE: every endpoint of the old and the new setting stands in j
     touch-setting : (a : ℕ) → Touches v j d (withSetting v d j a)
@@ -114,7 +112,7 @@ module _ (v : View) (j : ℕ) (d : Device) where
     touch-set-interface : (q : Setup) → q .index ≡ j → Touches v j d (setInterface v d q .device)
     unfolding setInterface
     touch-set-interface q p =
-        rw p (pick-one After (hasSetting (selected v d) j (q .value)) (λ t. touch-setting (q .value)) (λ t. touch-none d refl))
+        rw p (chosen After (hasSetting (selected v d) j (q .value)) (λ t. touch-setting (q .value)) (λ t. touch-none d refl))
 
 -- ---- the requests that change nothing
 module _ (v : View) (d : Device) (q : Setup) where
@@ -123,20 +121,20 @@ module _ (v : View) (d : Device) (q : Setup) where
 
   status-leaves : getStatus v d q .device ≡ d
   unfolding getStatus
-  status-leaves = pick-one Left (eqb (recipient q) 0) (λ p. refl) (λ p. pick-one Left (eqb (recipient q) 1)
-      (λ p. pick-one Left (hasInterface (selected v d) (q .index)) (λ p. refl) (λ p. refl))
-      (λ p. pick-one Left (isEndpointZero (q .index)) (λ p. refl) (λ p. at (endpointAt v d (q .index)))))
+  status-leaves = chosen Left (eqb (recipient q) 0) (λ p. refl) (λ p. chosen Left (eqb (recipient q) 1)
+      (λ p. chosen Left (hasInterface (selected v d) (q .index)) (λ p. refl) (λ p. refl))
+      (λ p. chosen Left (isEndpointZero (q .index)) (λ p. refl) (λ p. at (endpointAt v d (q .index)))))
     where
       at : (o : Option Endpoint) → endpointStatus d o .device ≡ d
       at none = refl
       at (some e) = refl
 
   feature-leaves : interfaceFeature v d q .device ≡ d
-  feature-leaves = pick-one Left (hasInterface (selected v d) (q .index)) (λ p. refl) (λ p. refl)
+  feature-leaves = chosen Left (hasInterface (selected v d) (q .index)) (λ p. refl) (λ p. refl)
 
   interface-leaves : getInterface v d q .device ≡ d
   unfolding getInterface
-  interface-leaves = pick-one Left (hasInterface (selected v d) (q .index)) (λ p. refl) (λ p. refl)
+  interface-leaves = chosen Left (hasInterface (selected v d) (q .index)) (λ p. refl) (λ p. refl)
 
 -- ---- a setup that concerns j
 -- to interface j, or to an endpoint whose address j lists
@@ -166,14 +164,14 @@ module _ (v : View) (j : ℕ) (d : Device) (S : SoundConfiguration (selected v d
   unfolding request
   touch-code n clear set interface =
       let P : Outcome → Type 0 = λ o. Touches v j d (o .device) in
-      pick-one P (eqb (q .code) 0x00) (λ p. touch-none v j d _ (status-leaves v d q)) (λ n0.
-      pick-one P (eqb (q .code) 0x01) (λ p. clear) (λ n1.
-      pick-one P (eqb (q .code) 0x03) (λ p. set) (λ n3.
-      pick-one P (eqb (q .code) 0x05) (λ p. absurd (not-device n 0x05 refl p)) (λ n5.
-      pick-one P (eqb (q .code) 0x06) (λ p. absurd (not-device n 0x06 refl p)) (λ n6.
-      pick-one P (eqb (q .code) 0x08) (λ p. absurd (not-device n 0x08 refl p)) (λ n8.
-      pick-one P (eqb (q .code) 0x09) (λ p. absurd (not-device n 0x09 refl p)) (λ n9.
-      pick-one P (eqb (q .code) 0x0A) (λ p. touch-none v j d _ (interface-leaves v d q)) (λ m.
+      chosen P (eqb (q .code) 0x00) (λ p. touch-none v j d _ (status-leaves v d q)) (λ n0.
+      chosen P (eqb (q .code) 0x01) (λ p. clear) (λ n1.
+      chosen P (eqb (q .code) 0x03) (λ p. set) (λ n3.
+      chosen P (eqb (q .code) 0x05) (λ p. absurd (not-device n 0x05 refl p)) (λ n5.
+      chosen P (eqb (q .code) 0x06) (λ p. absurd (not-device n 0x06 refl p)) (λ n6.
+      chosen P (eqb (q .code) 0x08) (λ p. absurd (not-device n 0x08 refl p)) (λ n8.
+      chosen P (eqb (q .code) 0x09) (λ p. absurd (not-device n 0x09 refl p)) (λ n9.
+      chosen P (eqb (q .code) 0x0A) (λ p. touch-none v j d _ (interface-leaves v d q)) (λ m.
       interface (F .other (rw (n5, n6, n8, n9)) (rw (n0, n1, n3)))))))))))
 
   touch-request : ((recipient q ≡ 1) × (q .index ≡ j)) ⊎ ((recipient q ≡ 2) × AllIn (selected v d) (q .index) j)
@@ -192,19 +190,15 @@ module _ (v : View) (j : ℕ) (d : Device) (S : SoundConfiguration (selected v d
       (rw r (touch-feature v j d S setHalt (touch-set v j d) q (p .1)))
       (λ t. absurd (omega arith))
 
--- the record once a setup has dropped what waits
-abbrev pub settled : Device → Event → Device
-settled d e = pick (isSetup e) (withWaiting nothing d) d
-
 touch-setup : (v : View) (j : ℕ) (d : Device) → SoundConfiguration (selected v d) → (q : Setup) → setupConcerns (selected v d) q ≡ some j
-    → Touches v j (withWaiting nothing d) (answerSetup v d q .device)
+    → Touches v j (settled d) (answerSetup v d q .device)
 unfolding answerSetup
-touch-setup v j d S q c = pick-one (λ (o : Outcome). Touches v j (withWaiting nothing d) (o .device)) (eqb (refusal (d .state) q) 0)
-    (λ p. touch-request v j (withWaiting nothing d) S q (table-fits (d .state) q (eqb-true _ _ p)) (setup-of (selected v d) S q j c))
-    (λ p. touch-none v j (withWaiting nothing d) _ refl)
+touch-setup v j d S q c = chosen (λ (o : Outcome). Touches v j (settled d) (o .device)) (eqb (refusal (d .state) q) 0)
+    (λ p. touch-request v j (settled d) S q (table-fits (d .state) q (eqb-true _ _ p)) (setup-of (selected v d) S q j c))
+    (λ p. touch-none v j (settled d) _ refl)
 
 pub touch-event : (v : View) (j : ℕ) (d : Device) → SoundConfiguration (selected v d) → (e : Event) → eventConcerns (selected v d) e ≡ some j
-    → Touches v j (settled d e) (respond v d e .device)
+    → Touches v j (settledBy (kind e (respond v d e .answer)) d) (respond v d e .device)
 touch-event v j d S (Request q) c = touch-setup v j d S q c
 touch-event v j d S Malformed c = absurd (let z : _≡_ {A = ℕ} 0 1 = cc in omega arith)
 touch-event v j d S StatusEnd c = absurd (let z : _≡_ {A = ℕ} 0 1 = cc in omega arith)

@@ -1,0 +1,12 @@
+pub mod Recipients
+pub mod Fitting
+pub mod Keeping
+pub mod Outcomes
+pub mod Changes
+pub mod Refusing
+pub mod Homes
+pub mod Same
+pub mod Alike
+pub mod Touches
+pub mod Locality
+pub mod Picking

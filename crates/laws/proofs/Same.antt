@@ -1,0 +1,87 @@
+-- The laws of the record's parts: `SameIn` and `Same` are equivalences, a record that fits is its parts and its rest (`whole`), and settling leaves every
+-- interface's part, may be done again and may change places. Assumes nothing.
+use Prim.Native.Nat.{ℕ}
+use mathlib.Core.Path.{_≡_, refl, sym, ap, subst, _∙_}
+use lib.Seq.{ext-getD}
+use Rattle.octets.proofs.Bits.{ext-bits}
+use Rattle.sets.specs.Opening.{Board}
+use Rattle.sets.specs.View.{View}
+use Rattle.records.specs.declared.Device.{Device}
+use Rattle.records.specs.Current.{viewFor, viewAt}
+use Rattle.records.proofs.Image.{Sized}
+use Rattle.laws.specs.Parts.{Shared, shared, home, SameIn, Same, rest, Settling, keeps, settles, settledBy, settle}
+
+-- ---- the laws of Same
+module _ (v : View) where
+  pub self : (k : ℕ) (r : Device) → SameIn v k r r
+  self k r = record { firm = refl; alternate = refl; halts = λ e p. refl; toggles = λ e p. refl }
+
+  moved : {a b : Shared} {k : ℕ} (e : ℕ) → a ≡ b → home v b e ≡ k → home v a e ≡ k
+  moved e f p = ap (λ c. home v c e) f ∙ p
+
+  pub turn : (k : ℕ) (r s : Device) → SameIn v k r s → SameIn v k s r
+  turn k r s h = record {
+    firm = sym (h .firm);
+    alternate = sym (h .alternate);
+    halts = λ e p. sym (h .halts e (moved e (h .firm) p));
+    toggles = λ e p. sym (h .toggles e (moved e (h .firm) p));
+  }
+
+  pub join : (k : ℕ) (r s t : Device) → SameIn v k r s → SameIn v k s t → SameIn v k r t
+  join k r s t h i = record {
+    firm = h .firm ∙ i .firm;
+    alternate = h .alternate ∙ i .alternate;
+    halts = λ e p. h .halts e p ∙ i .halts e (moved e (sym (h .firm)) p);
+    toggles = λ e p. h .toggles e p ∙ i .toggles e (moved e (sym (h .firm)) p);
+  }
+
+  pub whole : (r s : Device) → Sized r → Sized s → ((k : ℕ) → SameIn v k r s) → rest r ≡ rest s → r ≡ s
+  whole r s g d h w =
+      let f = h 0 .firm in
+      let at : ℕ → ℕ = home v (shared r) in
+      let a : r .alternates ≡ s .alternates = ext-getD 0 (r .alternates) (s .alternates) (g .sixteen ∙ sym (d .sixteen)) (λ i l. h i .alternate) in
+      let b : r .halts ≡ s .halts = ext-bits 32 (r .halts) (s .halts) (g .halts-fit) (d .halts-fit) (λ e l. h (at e) .halts e refl) in
+      let c : r .toggles ≡ s .toggles = ext-bits 32 (r .toggles) (s .toggles) (g .toggles-fit) (d .toggles-fit) (λ e l. h (at e) .toggles e refl) in
+      λ i. record {
+        state = f i .state;
+        address = f i .address;
+        waiting = w i .0;
+        configuration = f i .configuration;
+        wakeup = f i .wakeup;
+        power = f i .power;
+        suspended = w i .1;
+        speed = f i .speed;
+        alternates = a i;
+        halts = b i;
+        toggles = c i;
+      }
+
+-- ---- on a board
+-- records that anybody cannot tell apart are at one speed, so one set is in use
+pub same-view : (b : Board) (r s : Device) → shared r ≡ shared s → viewAt b r ≡ viewAt b s
+same-view b r s p = ap (λ (x : Shared). viewFor b (x .speed)) p
+
+pub turn-on : (b : Board) (k : ℕ) (r s : Device) → Same b k r s → Same b k s r
+turn-on b k r s h = subst (λ v. SameIn v k s r) (same-view b r s (h .firm)) (turn (viewAt b r) k r s h)
+
+pub join-on : (b : Board) (k : ℕ) (r s t : Device) → Same b k r s → Same b k s t → Same b k r t
+join-on b k r s t h i = join (viewAt b r) k r s t h (subst (λ v. SameIn v k s t) (sym (same-view b r s (h .firm))) i)
+
+-- ---- settling
+pub settled-same : (b : Board) (k : ℕ) (d : Device) (m : Settling) → Same b k (settledBy m d) d
+settled-same b k d keeps = self (viewAt b d) k d
+settled-same b k d settles = record { firm = refl; alternate = refl; halts = λ e p. refl; toggles = λ e p. refl }
+
+pub settled-rest : (d : Device) (m : Settling) → rest (settledBy m d) ≡ settle m (rest d)
+settled-rest d keeps = refl
+settled-rest d settles = refl
+
+pub settle-again : (m : Settling) (w : ℕ × ℕ) → settle m (settle m w) ≡ settle m w
+settle-again keeps w = refl
+settle-again settles w = refl
+
+pub settle-commute : (m n : Settling) (w : ℕ × ℕ) → settle m (settle n w) ≡ settle n (settle m w)
+settle-commute keeps keeps w = refl
+settle-commute keeps settles w = refl
+settle-commute settles keeps w = refl
+settle-commute settles settles w = refl
