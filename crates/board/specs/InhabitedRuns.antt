@@ -9,7 +9,7 @@ use borrow.Author.Tests.{ne-eqb}
 use Rattle.octets.specs.Sentences.{only}
 use Rattle.promises.specs.Examples.{bytes, computed, T}
 use Rattle.promises.specs.Inhabited.{bytesT}
-use Rattle.promises.specs.InhabitedOrder.{configuredImage, imageBytes}
+use Rattle.promises.specs.InhabitedOrder.{configuredImage}
 use Rattle.board.specs.Statements.{Opens, Spot}
 use Rattle.board.specs.Runs.{Call, setup, statusEnd, halt, packetPassed, Given, number, handed, Runs, runs, decided, Refuses, refusals, NotEight, Throughout, freshImage, neverEightAfter}
 use Rattle.board.specs.Order.{concernsThis, Reordered, orderAfterOpening}
@@ -76,4 +76,4 @@ oneEnds = runs T setSpot serialSpot configuredImage oneOrder
 -- whatever the other run gives and leaves, it leaves that
 pub otherEnds : {gs : List Given} {last : List ℕ} → Runs T setSpot serialSpot configuredImage otherOrder gs last → lastImage ≡ last
 unfolding computed
-otherEnds r = orderAfterOpening T setSpot serialSpot bytesT refl opens configures imageBytes oneEnds r reordered .0
+otherEnds r = orderAfterOpening T setSpot serialSpot bytesT refl opens configures oneEnds r reordered .0

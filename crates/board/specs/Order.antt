@@ -18,7 +18,7 @@ use Rattle.order.specs.Run.{run, answers, log}
 use Rattle.promises.specs.Rearranged.{isThis, Rearranged, Values, imageAnswer, imageNext, imageAfter, imageHeard}
 use Rattle.promises.specs.Picking.{only-map}
 use Rattle.promises.specs.Order.{orderImages}
-use Rattle.promises.specs.Keeps.{reachedFits}
+use Rattle.promises.specs.Keeps.{FitImage, fitImage, reachedFits}
 use Rattle.board.specs.Statements.{Opens, Spot}
 use Rattle.board.specs.Runs.{Call, eventOf, Given, Runs, givenAs, gives, leaves, ran, opening, reached, openedReached}
 
@@ -107,12 +107,12 @@ module _ (b : Board) (set serial : Spot) where
 
   -- for an accepted board and an image of 32 bytes whose record fits: both runs leave the same image, and each interface's calls are the
   -- same and are given the same
-  pub order : Bytes (b .set) → accepted b ≡ true → (image : List ℕ) → length image ≡ 32 → Bytes image → fits (viewOf b) (deviceOf image) ≡ true
+  pub orderFit : Bytes (b .set) → accepted b ≡ true → (image : List ℕ) → FitImage b image
       → {xs ys : List Call} {gs others : List Given} {last other : List ℕ}
       → Runs b set serial image xs gs last → Runs b set serial image ys others other → Reordered b image xs ys
       → (last ≡ other) × ((k : ℕ) → toldTo b image k xs gs ≡ toldTo b image k ys others)
-  order bytes ok image long octets fit {xs} {ys} one two r =
-      let (end, heard) = orderImages b bytes ok image long octets fit (map eventOf xs) (map eventOf ys) (rearranged image xs ys r) in (
+  orderFit bytes ok image f {xs} {ys} one two r =
+      let (end, heard) = orderImages b bytes ok image f (map eventOf xs) (map eventOf ys) (rearranged image xs ys r) in (
         ran b set serial one .1 ∙ run-events image xs ∙ end ∙ sym (ran b set serial two .1 ∙ run-events image ys),
         λ k. own-given image k xs one ∙ ap (map (λ p. (p .0, givenAs b set serial (p .0) (p .1)))) (same-own k (heard k)) ∙ sym (own-given image k ys two),
       )
@@ -126,13 +126,19 @@ module _ (b : Board) (set serial : Spot) where
           (own-calls image k xs ∙ r .same k ∙ sym (own-calls image k ys))
           (sym (seconds k xs) ∙ ap (map (λ (p : Event × Values). p .1)) h ∙ seconds k ys)
 
+  pub order : Bytes (b .set) → accepted b ≡ true → (image : List ℕ) → length image ≡ 32 → Bytes image → fits (viewOf b) (deviceOf image) ≡ true
+      → {xs ys : List Call} {gs others : List Given} {last other : List ℕ}
+      → Runs b set serial image xs gs last → Runs b set serial image ys others other → Reordered b image xs ys
+      → (last ≡ other) × ((k : ℕ) → toldTo b image k xs gs ≡ toldTo b image k ys others)
+  order bytes ok image long octets fit = orderFit bytes ok image (fitImage b image long octets fit)
+
   -- so after an opening that gave 0 and any calls: two orders of what follows end the same. (C's set and images are of bytes.)
   pub orderAfterOpening : Bytes (b .set) → {start image now : List ℕ} {cs : List Call} {gs : List Given}
-      → length start ≡ 32 → Opens b start 0 image → Runs b set serial image cs gs now → Bytes now
+      → length start ≡ 32 → Opens b start 0 image → Runs b set serial image cs gs now
       → {xs ys : List Call} {some others : List Given} {last other : List ℕ}
       → Runs b set serial now xs some last → Runs b set serial now ys others other → Reordered b now xs ys
       → (last ≡ other) × ((k : ℕ) → toldTo b now k xs some ≡ toldTo b now k ys others)
-  orderAfterOpening bytes {now = now} l o r octets one two =
+  orderAfterOpening bytes {now = now} l o r one two =
       let ok = opening l o .0 refl in
       let f = reachedFits b bytes ok (reached (openedReached l o) r) in
-      order bytes ok now (f .long) octets (f .fit) one two
+      orderFit bytes ok now f one two

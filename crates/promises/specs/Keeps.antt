@@ -2,7 +2,7 @@
 -- So 8 never follows from the library's own calls. Assumes nothing.
 use Prim.Native.Nat.{ℕ}
 use native.Mathlib.Omega.{arith}
-use mathlib.Core.Path.{_≡_, sym, _∙_}
+use mathlib.Core.Path.{_≡_, sym, ap, _∙_}
 use mathlib.Core.List.{List}
 use mathlib.Core.Bool.{true, false, _||_, false≢true}
 use lib.ListN.{length}
@@ -15,7 +15,7 @@ use Rattle.records.specs.declared.Device.{Device}
 use Rattle.records.specs.Device.{fresh}
 use Rattle.records.specs.Image.{deviceOf, imageOf}
 use Rattle.records.specs.Fits.{fits}
-use Rattle.records.proofs.Image.{Sized, device-image, image-length}
+use Rattle.records.proofs.Image.{Sized, device-image, image-device, image-length, device-sized}
 use Rattle.events.specs.declared.Event.{Event}
 use Rattle.events.specs.declared.Event.the-variants.{Request, Malformed, StatusEnd, BusReset, Halt, PacketPassed}
 use Rattle.events.specs.Answer.{numberOf}
@@ -29,11 +29,15 @@ use Rattle.promises.specs.Fitting.{fitting, fitted}
 use Rattle.promises.specs.Changes.{Fit, freshFits, respondedFits}
 
 -- ---- what the statements say
--- an image of 32 bytes, of a record that fits
+-- an image of 32 bytes, of a record that fits; it is that record's image (C's 32 bytes always are: `fitImage`)
 pub record FitImage (b : Board) (image : List ℕ) : Type 0 where
   pub long : length image ≡ 32
   pub fit : fits (viewOf b) (deviceOf image) ≡ true
   pub sized : Sized (deviceOf image)
+  pub back : imageOf (deviceOf image) ≡ image
+
+pub fitImage : (b : Board) (image : List ℕ) → length image ≡ 32 → Bytes image → fits (viewOf b) (deviceOf image) ≡ true → FitImage b image
+fitImage b image long octets fit = record { long = long; fit = fit; sized = device-sized image long octets; back = image-device image long octets }
 
 -- the images that the library's own calls leave, one after the other: opening's, of any 32 bytes, and every event's from such an image
 pub data Reached (b : Board) : List ℕ → Type 0 where
@@ -54,7 +58,7 @@ module _ (b : Board) (bytes : Bytes (b .set)) (ok : accepted b ≡ true) where
 
   -- ---- over images
   imageFits : (d : Device) → (fits (viewOf b) d ≡ true) × Sized d → FitImage b (imageOf d)
-  imageFits d (p, z) = record { long = image-length d (z .sixteen); fit = rw (device-image d z) p; sized = rw (device-image d z) z }
+  imageFits d (p, z) = record { long = image-length d (z .sixteen); fit = rw (device-image d z) p; sized = rw (device-image d z) z; back = ap imageOf (device-image d z) }
 
   pub openedFits : (image : List ℕ) → length image ≡ 32 → FitImage b (opened b image .image)
   unfolding opened

@@ -15,7 +15,7 @@ use Rattle.sets.specs.View.{View, viewOf, accepted}
 use Rattle.records.specs.declared.Device.{Device}
 use Rattle.records.specs.Fits.{fits}
 use Rattle.records.specs.Image.{deviceOf, imageOf}
-use Rattle.records.proofs.Image.{Sized, device-image, image-device, image-length, device-sized}
+use Rattle.records.proofs.Image.{Sized, device-image, image-length}
 use Rattle.events.specs.declared.Answer.{Answer}
 use Rattle.events.specs.declared.Event.{Event}
 use Rattle.events.specs.declared.Outcome.{Outcome}
@@ -28,7 +28,7 @@ use Rattle.order.specs.Strike.{strike, left}
 use Rattle.order.specs.Owners.{Owners, others, along, ordered, ordered-places, fair-always, unnoticed-by}
 use Rattle.sets.proofs.Sound.{Bytes}
 use Rattle.sets.proofs.Acceptance.{sound}
-use Rattle.promises.specs.Keeps.{stepFits}
+use Rattle.promises.specs.Keeps.{FitImage, stepFits}
 use Rattle.promises.specs.Parts.{Good, Same, rest, owned, who, kind, settle}
 use Rattle.promises.specs.Locality.{concerns-by, idle, locality}
 use Rattle.promises.specs.Rearranged.{Concerned, isThis, Rearranged, answerOf, nextOf, after, answered, heard, Values, valuesOf, imageAnswer, imageNext, imageAfter, imageAnswered, imageHeard}
@@ -116,9 +116,9 @@ module _ (b : Board) (bytes : Bytes (b .set)) (ok : accepted b ≡ true) where
         unnoticed-by stepLocality k d (sized, fit) xs fair
 
   -- ---- demand 3 on the 32 bytes that C hands over
-  module _ (image : List ℕ) (long : length image ≡ 32) (octets : Bytes image) (fit : fits (viewOf b) (deviceOf image) ≡ true) where
+  module _ (image : List ℕ) (f : FitImage b image) where
     good : Good (viewOf b) (deviceOf image)
-    good = (device-sized image long octets, fit)
+    good = (f .sized, f .fit)
 
     shows : (d : Device) (e : Event) → Good (viewOf b) d → event b (imageOf d) e ≡ replyOf (step b d e)
     unfolding event
@@ -133,27 +133,27 @@ module _ (b : Board) (bytes : Bytes (b .set)) (ok : accepted b ≡ true) where
     -- the run of images is the images of the run
     module _ (xs : List Event) where
       after-shown : imageAfter b image xs ≡ imageOf (after b (deviceOf image) xs)
-      after-shown = ap (λ i. imageAfter b i xs) (sym (image-device image long octets))
+      after-shown = ap (λ i. imageAfter b i xs) (sym (f .back))
           ∙ run-shown (answerOf b) (nextOf b) (imageAnswer b) (imageNext b) (Good (viewOf b)) imageOf valuesOf keeps same-values same-image
           (deviceOf image) xs good
 
       answered-shown : imageAnswered b image xs ≡ map valuesOf (answered b (deviceOf image) xs)
-      answered-shown = ap (λ i. imageAnswered b i xs) (sym (image-device image long octets))
+      answered-shown = ap (λ i. imageAnswered b i xs) (sym (f .back))
           ∙ answers-shown (answerOf b) (nextOf b) (imageAnswer b) (imageNext b) (Good (viewOf b)) imageOf valuesOf keeps same-values same-image
           (deviceOf image) xs good
 
       heard-shown : (k : ℕ) → imageHeard b image k xs ≡ map (λ p. (p .0, valuesOf (p .1))) (heard b (deviceOf image) k xs)
       heard-shown k =
-          let f : Event × Values → Bool = λ p. isThis k (concerns (viewOf b) (deviceOf image) (p .0)) in
-          ap (λ i. only f (log (imageAnswer b) (imageNext b) i xs)) (sym (image-device image long octets))
-          ∙ ap (only f) (log-shown (answerOf b) (nextOf b) (imageAnswer b) (imageNext b) (Good (viewOf b)) imageOf valuesOf keeps
+          let own : Event × Values → Bool = λ p. isThis k (concerns (viewOf b) (deviceOf image) (p .0)) in
+          ap (λ i. only own (log (imageAnswer b) (imageNext b) i xs)) (sym (f .back))
+          ∙ ap (only own) (log-shown (answerOf b) (nextOf b) (imageAnswer b) (imageNext b) (Good (viewOf b)) imageOf valuesOf keeps
           same-values same-image (deviceOf image) xs good)
-          ∙ only-map f (λ p. (p .0, valuesOf (p .1))) (log (answerOf b) (nextOf b) (deviceOf image) xs)
+          ∙ only-map own (λ p. (p .0, valuesOf (p .1))) (log (answerOf b) (nextOf b) (deviceOf image) xs)
 
     pub orderImages : (xs ys : List Event) → Rearranged (viewOf b) (deviceOf image) xs ys
         → (imageAfter b image xs ≡ imageAfter b image ys) × ((k : ℕ) → imageHeard b image k xs ≡ imageHeard b image k ys)
     orderImages xs ys r =
-        let (end, same) = order (deviceOf image) (good .0) fit xs ys r in (
+        let (end, same) = order (deviceOf image) (f .sized) (f .fit) xs ys r in (
           after-shown xs ∙ ap imageOf end ∙ sym (after-shown ys),
           λ k. heard-shown xs k ∙ ap (map (λ p. (p .0, valuesOf (p .1)))) (same k) ∙ sym (heard-shown ys k),
         )
@@ -162,7 +162,7 @@ module _ (b : Board) (bytes : Bytes (b .set)) (ok : accepted b ≡ true) where
         → (imageAfter b image xs ≡ imageAfter b image ys)
         × ((i : ℕ) (a : Values) → getElem? (imageAnswered b image xs) i ≡ some a → getElem? (imageAnswered b image ys) (w .to i) ≡ some a)
     orderImagesPlaces xs ys p w =
-        let (end, same) = orderPlaces (deviceOf image) (good .0) fit xs ys p w in (
+        let (end, same) = orderPlaces (deviceOf image) (f .sized) (f .fit) xs ys p w in (
           after-shown xs ∙ ap imageOf end ∙ sym (after-shown ys),
           λ i a q.
               let (x, r, t) = mapped-at valuesOf (answered b (deviceOf image) xs) i (ap (λ l. getElem? l i) (sym (answered-shown xs)) ∙ q) in
