@@ -1,5 +1,6 @@
 pub mod Examples
 pub mod Bench
+pub mod Opening
 pub mod Rules
 pub mod Mistakes
 pub mod Packets
@@ -7,6 +8,7 @@ pub mod Refusal
 pub mod Refusals
 pub mod Refusing
 pub mod Outcomes
+pub mod Replies
 pub mod Keeps
 pub mod Changes
 pub mod Keeping
