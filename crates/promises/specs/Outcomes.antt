@@ -60,13 +60,13 @@ pub data Responded (v : View) (d : Device) : Event → Outcome → Type 0 where
       → Responded v d (PacketPassed a) (done (withEndpoints (d .alternates) (d .halts) (flipBit (d .toggles) (bitOf (e .address))) d))
 
 -- by cases on the test of a choice
-chosen : (P : Outcome → Type 0) (b : Bool) {x y : Outcome} → (b ≡ true → P x) → (b ≡ false → P y) → P (pick b x y)
+pub chosen : (P : Outcome → Type 0) (b : Bool) {x y : Outcome} → (b ≡ true → P x) → (b ≡ false → P y) → P (pick b x y)
 chosen P true p q = p refl
 chosen P false p q = q refl
 
 -- ---- the table: what holds of a setup that it lets through
 -- a rule of the table's rows, of the row that let a setup through
-ruled : (f : Row → Bool) → every f table ≡ true → (state : ℕ) (s : Setup) → refusal state s ≡ 0
+pub ruled : (f : Row → Bool) → every f table ≡ true → (state : ℕ) (s : Setup) → refusal state s ≡ 0
     → (r : Row) × (f r ≡ true) × (r .code ≡ s .code) × (inState r state ≡ true) × (fieldsFit r s ≡ true)
 unfolding refusal
 ruled f p state s q = go (rowOf s) refl q
