@@ -10,10 +10,12 @@ pub mod Refusing
 pub mod Outcomes
 pub mod Replies
 pub mod Keeps
+pub mod Images
 pub mod Changes
 pub mod Keeping
 pub mod Fitting
 pub mod Inhabited
+pub mod Selected
 pub mod Parts
 pub mod Homes
 pub mod Recipients

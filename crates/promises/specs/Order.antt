@@ -6,8 +6,7 @@ use mathlib.Core.Path.{_≡_, refl, sym, ap, _∙_}
 use mathlib.Core.Bool.{Bool, true}
 use mathlib.Core.List.{List, [], _∷_, map}
 use mathlib.Core.Option.{some, Option·map}
-use lib.ListN.{length, getElem?}
-use borrow.Author.Tests.{eq-eqb}
+use lib.ListN.{getElem?}
 use Rattle.octets.specs.Sentences.{every, only, isSome}
 use Rattle.octets.proofs.Sentences.{both, every-alike}
 use Rattle.sets.specs.Opening.{Board}
@@ -15,7 +14,7 @@ use Rattle.sets.specs.View.{View, viewOf, accepted}
 use Rattle.records.specs.declared.Device.{Device}
 use Rattle.records.specs.Fits.{fits}
 use Rattle.records.specs.Image.{deviceOf, imageOf}
-use Rattle.records.proofs.Image.{Sized, device-image, image-length}
+use Rattle.records.proofs.Image.{Sized}
 use Rattle.events.specs.declared.Answer.{Answer}
 use Rattle.events.specs.declared.Event.{Event}
 use Rattle.events.specs.declared.Outcome.{Outcome}
@@ -29,6 +28,7 @@ use Rattle.order.specs.Owners.{Owners, others, along, ordered, ordered-places, 
 use Rattle.sets.proofs.Sound.{Bytes}
 use Rattle.sets.proofs.Acceptance.{sound}
 use Rattle.promises.specs.Keeps.{FitImage, stepFits}
+use Rattle.promises.specs.Images.{onImage}
 use Rattle.promises.specs.Parts.{Good, Same, rest, owned, who, kind, settle}
 use Rattle.promises.specs.Locality.{concerns-by, idle, locality}
 use Rattle.promises.specs.Rearranged.{Concerned, isThis, Rearranged, answerOf, nextOf, after, answered, heard, Values, valuesOf, imageAnswer, imageNext, imageAfter, imageAnswered, imageHeard}
@@ -121,8 +121,7 @@ module _ (b : Board) (bytes : Bytes (b .set)) (ok : accepted b ≡ true) where
     good = (f .sized, f .fit)
 
     shows : (d : Device) (e : Event) → Good (viewOf b) d → event b (imageOf d) e ≡ replyOf (step b d e)
-    unfolding event
-    shows d e g = rw (eq-eqb (length (imageOf d)) 32 (image-length d (g .0 .sixteen)), device-image d (g .0))
+    shows d e g = onImage b d e (g .0)
 
     same-values : (d : Device) (e : Event) → Good (viewOf b) d → imageAnswer b (imageOf d) e ≡ valuesOf (answerOf b d e)
     same-values d e g = ap (λ (r : Reply). valuesOf (r .answer)) (shows d e g)

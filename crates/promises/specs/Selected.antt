@@ -1,0 +1,56 @@
+-- "Interfaces and endpoints other than zero exist only in Configured": elsewhere a record that fits selects no configuration, so it has no
+-- interface and no current endpoint. No axiom.
+use Prim.Native.Nat.{ℕ, _≤_}
+use native.Mathlib.Omega.{arith}
+use mathlib.Core.Path.{_≡_, refl, ap, _∙_}
+use mathlib.Core.Bool.{true, false, _&&_}
+use mathlib.Core.List.{[], _∷_}
+use mathlib.Core.Option.{none}
+use lib.Dec.{eqb, leb}
+use borrow.Author.Tests.{eqb-true, eqb-false, eq-eqb, ne-eqb, leb-true}
+use Rattle.octets.specs.Sentences.{any, only, first}
+use Rattle.octets.proofs.Sentences.{cases, both, if-then, conjunct, none-first}
+use Rattle.descriptors.specs.Configuration.{hasInterface}
+use Rattle.sets.specs.Opening.{Board}
+use Rattle.sets.specs.View.{View, viewOf, accepted, orNone, unconfigured}
+use Rattle.sets.proofs.Sound.{Bytes, Sound}
+use Rattle.sets.proofs.Acceptance.{sound}
+use Rattle.records.specs.declared.Device.{Device}
+use Rattle.records.specs.Device.{fresh, inConfigured}
+use Rattle.records.specs.Current.{selected, currentEndpoints, endpointAt}
+use Rattle.records.specs.Fits.{fits}
+use Rattle.promises.specs.Examples.{computed, S}
+use Rattle.promises.specs.Fitting.{fitting}
+use Rattle.promises.specs.Inhabited.{acceptedS, bytesS}
+
+-- its configuration value is 0
+pub unselected : (v : View) (d : Device) → fits v d ≡ true → (d .state ≡ inConfigured → ⊥) → d .configuration ≡ 0
+unselected v d f n = cases (eqb (d .state) 0)
+    (λ p. eqb-true _ _ (both (eqb (d .address) 0) (eqb (d .configuration) 0) (if-then _ _ (fitting v d f .default) p) .1))
+    (λ p. eqb-true _ _ (both (leb 1 (d .address) && leb (d .address) 127) (eqb (d .configuration) 0) (if-then _ _ (fitting v d f .address) (one p)) .1))
+  where
+    one : eqb (d .state) 0 ≡ false → eqb (d .state) 1 ≡ true
+    one p =
+        let range = leb (d .state) 2 ∷ leb (d .wakeup) 1 ∷ eqb (d .power) 0 ∷ eqb (d .suspended) 0 ∷ eqb (d .speed) 0 ∷ [] in
+        let l : d .state ≤ 2 = leb-true _ _ (conjunct 0 range (fitting v d f .range)) in
+        let z : d .state ≡ 0 → ⊥ = eqb-false _ _ p in
+        eq-eqb (d .state) 1 (omega arith)
+
+-- which no configuration of an accepted set has
+pub outsideConfigured : (b : Board) → Bytes (b .set) → accepted b ≡ true → (d : Device) → fits (viewOf b) d ≡ true → (d .state ≡ inConfigured → ⊥)
+    → selected (viewOf b) d ≡ unconfigured
+outsideConfigured b bytes ok d f n =
+    let z = unselected (viewOf b) d f n in
+    ap orNone (none-first (λ c. eqb (c .value) (d .configuration)) (viewOf b .configurations)
+    (λ c m. ne-eqb (c .value) (d .configuration) (λ p. let l : 1 ≤ c .value = sound b bytes ok .values c m .0 in omega arith)))
+
+-- so nothing is there
+pub nothingThere : (b : Board) → Bytes (b .set) → accepted b ≡ true → (d : Device) → fits (viewOf b) d ≡ true → (d .state ≡ inConfigured → ⊥)
+    → ((j : ℕ) → hasInterface (selected (viewOf b) d) j ≡ false) × (currentEndpoints (viewOf b) d ≡ []) × ((a : ℕ) → endpointAt (viewOf b) d a ≡ none)
+unfolding any only first
+nothingThere b bytes ok d f n = rw (outsideConfigured b bytes ok d f n) (λ j. refl, refl, λ a. refl)
+
+-- ---- inhabited: S, fresh
+pub freshSelects : selected (viewOf S) fresh ≡ unconfigured
+unfolding computed
+freshSelects = outsideConfigured S bytesS acceptedS fresh refl (λ p. omega arith)
