@@ -18,13 +18,14 @@ use Rattle.records.specs.Image.{deviceOf}
 use Rattle.records.specs.Fits.{fits}
 use Rattle.events.specs.declared.Event.the-variants.{Malformed}
 use Rattle.events.specs.Answer.{numberOf}
-use Rattle.events.specs.Step.{step, event}
+use Rattle.events.specs.Step.{step, event, setupEvent}
 use Rattle.packets.specs.Packets.{count, canCut, packet}
 use Rattle.promises.specs.Examples.{bytes, computed, S}
 use Rattle.promises.specs.Inhabited.{acceptedS}
+use Rattle.promises.specs.Refusal.{freshImage}
 use Rattle.board.specs.Statements.{Opens, Spot, Cuts}
 use Rattle.board.specs.Lent.{numbered, Answers}
-use Rattle.board.specs.Runs.{Call, setup, statusEnd, busReset, Given, numberGiven, Meets, gives, leaves, met, meets, freshImage, opening}
+use Rattle.board.specs.Runs.{Call, setup, statusEnd, busReset, Given, numberGiven, Meets, gives, leaves, met, meets, opening}
 
 -- ---- a build: from the calls before, which it may keep to itself, the image lent and the call, to what it gives and the image that it leaves
 abbrev pub Build : Type 0
@@ -122,3 +123,14 @@ module _ (reply : List ℕ) (at : Spot) (asked size : ℕ) (number : ℕ → ℕ
       (λ p. cases (ltb right made)
       (λ q. absurd (let z = counts right .1 (ltb-true right made q) in let f = beyond right (omega arith) in omega arith))
       (λ q. let l = ltb-false made right p in let m = ltb-false right made q in omega arith))
+
+abbrev unknown : List ℕ
+unknown = bytes 8 0xFFFF000000000000
+
+unknown-refused : (b : Board) (image : List ℕ) → numberOf (event b image (setupEvent unknown) .answer) ≡ 0 → ⊥
+unfolding computed
+unknown-refused b image = cases (eqb (length image) 32)
+    (λ p. cases (accepted b)
+    (λ q. cases (fits (viewOf b) (deviceOf image)) (λ r. rw (p, q, r) (λ z. omega arith)) (λ r. rw (p, q, r) (λ z. omega arith)))
+    (λ q. rw (p, q) (λ z. omega arith)))
+    (λ p. cases (accepted b) (λ q. rw (p, q) (λ z. omega arith)) (λ q. rw (p, q) (λ z. omega arith)))

@@ -9,9 +9,10 @@ use borrow.Author.Tests.{ne-eqb}
 use Rattle.octets.specs.Sentences.{only}
 use Rattle.promises.specs.Examples.{bytes, computed, T}
 use Rattle.promises.specs.Inhabited.{bytesT}
+use Rattle.promises.specs.Refusal.{freshImage}
 use Rattle.promises.specs.InhabitedOrder.{configuredImage}
 use Rattle.board.specs.Statements.{Opens, Spot}
-use Rattle.board.specs.Runs.{Call, setup, statusEnd, halt, packetPassed, Given, number, handed, Runs, runs, decided, Refuses, refusals, NotEight, Throughout, freshImage, neverEightAfter}
+use Rattle.board.specs.Runs.{Call, setup, statusEnd, halt, packetPassed, Given, number, handed, Runs, runs, decided, Refuses, refusals, NotEight, Throughout, neverEightAfter}
 use Rattle.board.specs.Order.{concernsThis, Reordered, orderAfterOpening}
 
 -- ---- any 32 bytes, opened; then SET_ADDRESS 5, its status end, SET_CONFIGURATION 1

@@ -1,32 +1,36 @@
 -- Runs of exported calls over one 32-byte image: demands 1, 2 and 3 for any device whose calls meet the exports' statements, whatever it is
--- inside. Assumes nothing.
+-- inside. No axiom.
 use Prim.Native.Nat.{ℕ}
 use mathlib.Core.Path.{_≡_, refl, sym, ap, _∙_}
 use mathlib.Core.List.{List, [], _∷_}
 use mathlib.Core.Bool.{true}
-use lib.ListN.{length, replicate}
+use lib.ListN.{length}
 use borrow.Author.Tests.{eq-eqb, ne-eqb, eqb-true}
 use Rattle.sets.specs.Opening.{Board}
 use Rattle.sets.specs.View.{accepted}
 use Rattle.sets.proofs.Sound.{Bytes}
 use Rattle.records.specs.Image.{bytesOfFour, imageOf}
+use Rattle.events.specs.declared.Answer.{Answer}
 use Rattle.events.specs.declared.Event.{Event}
 use Rattle.events.specs.declared.Event.the-variants.{StatusEnd, BusReset, Halt, PacketPassed}
 use Rattle.events.specs.Answer.{Part, numberOf, partOf}
 use Rattle.events.specs.Places.{bytesIn}
 use Rattle.events.specs.Step.{setupEvent, event, opened}
 use Rattle.order.specs.Run.{run, answers}
-use Rattle.promises.specs.Rearranged.{Values, imageAnswer, imageNext}
-use Rattle.promises.specs.Refusal.{Inside, allowsImage, imageLeftBy}
+use Rattle.promises.specs.Rearranged.{Values, valuesOf, imageAnswer, imageNext}
+use Rattle.promises.specs.Refusal.{Inside, allowsImage, imageLeftBy, freshImage}
 use Rattle.promises.specs.Refusals.{eventNumber, eventKeeps, eventInside, refusalEmpty}
 use Rattle.promises.specs.Keeps.{Reached, afterOpening, afterEvent, neverEight}
 use Rattle.board.specs.Statements.{Opens, Happens, Replies, Spot, padded, spotOfPart}
+use Rattle.board.specs.Lent.{numbered, AnswersImage}
 
 -- ---- a call as C makes it, but for the set, the serial block and the image, which a run lends to each of its calls
 pub data Call : Type 0 where
   setup : List ℕ → Call
   statusEnd busReset : Call
   halt packetPassed : ℕ → Call
+  -- hk_record_event on the record whose image it is: an event's number, an endpoint, and a setup's bytes
+  recordEvent : ℕ → ℕ → List ℕ → Call
 
 -- the event that it tells
 abbrev pub eventOf : Call → Event
@@ -35,8 +39,9 @@ eventOf statusEnd = StatusEnd
 eventOf busReset = BusReset
 eventOf (halt endpoint) = Halt endpoint
 eventOf (packetPassed endpoint) = PacketPassed endpoint
+eventOf (recordEvent kind endpoint bytes) = numbered kind endpoint bytes
 
--- what it gives back: a number alone, or of a setup the number, the two bytes, how many of them count, the part's bytes and where they lie
+-- what it gives back: a number alone, or of a setup and of hk_record_event the number, the two bytes, how many of them count, the part's bytes and where they lie
 pub data Given : Type 0 where
   number : ℕ → Given
   handed : ℕ → List ℕ → ℕ → List ℕ → Spot → Given
@@ -54,6 +59,9 @@ pub data Meets (b : Board) (set serial : Spot) (image : List ℕ) : Call → Giv
   byHalt : {endpoint n : ℕ} {left : List ℕ} → Happens b image (Halt endpoint) n left → Meets b set serial image (halt endpoint) (number n) left
   byPacketPassed : {endpoint n : ℕ} {left : List ℕ}
       → Happens b image (PacketPassed endpoint) n left → Meets b set serial image (packetPassed endpoint) (number n) left
+  byRecordEvent : {kind endpoint : ℕ} {bytes : List ℕ} {n : ℕ} {left handedBack : List ℕ} {count : ℕ} {shown : List ℕ} {spot : Spot}
+      → AnswersImage b set serial image (numbered kind endpoint bytes) n left handedBack count shown spot
+      → Meets b set serial image (recordEvent kind endpoint bytes) (handed n handedBack count shown spot) left
 
 -- ---- a run: each call meets its statement, and the image that it leaves is lent to the next
 pub data Runs (b : Board) (set serial : Spot) : List ℕ → List Call → List Given → List ℕ → Type 0 where
@@ -63,13 +71,17 @@ pub data Runs (b : Board) (set serial : Spot) : List ℕ → List Call → List 
 
 -- ---- what the statements say of a call, as functions of the image
 -- document 01's number, bytes and part, as the call hands them out
-abbrev pub givenAs : Board → Spot → Spot → Call → Values → Given
-givenAs b set serial (setup bytes) v =
+abbrev pub handedAs : Board → Spot → Spot → Values → Given
+handedAs b set serial v =
     handed (v .number) (padded (v .bytes)) (length (v .bytes)) (bytesIn (b .set) (b .serial) (v .part)) (spotOfPart set serial (v .part))
+
+abbrev pub givenAs : Board → Spot → Spot → Call → Values → Given
+givenAs b set serial (setup bytes) v = handedAs b set serial v
 givenAs b set serial statusEnd v = number (v .number)
 givenAs b set serial busReset v = number (v .number)
 givenAs b set serial (halt endpoint) v = number (v .number)
 givenAs b set serial (packetPassed endpoint) v = number (v .number)
+givenAs b set serial (recordEvent kind endpoint bytes) v = handedAs b set serial v
 
 module _ (b : Board) (set serial : Spot) where
   abbrev pub gives : List ℕ → Call → Given
@@ -89,6 +101,7 @@ module _ (b : Board) (set serial : Spot) where
   met (byBusReset h) = (ap number (h .number), h .leaves)
   met (byHalt h) = (ap number (h .number), h .leaves)
   met (byPacketPassed h) = (ap number (h .number), h .leaves)
+  met (byRecordEvent r) = let h = r .answers in (hand (h .number) (h .hands) (h .counts) (h .shows) (h .lies), r .leaves)
 
   -- and what gives and leaves this meets it
   pub meets : (image : List ℕ) (c : Call) → Meets b set serial image c (gives image c) (leaves image c)
@@ -97,6 +110,8 @@ module _ (b : Board) (set serial : Spot) where
   meets image busReset = byBusReset (record { number = refl; leaves = refl })
   meets image (halt endpoint) = byHalt (record { number = refl; leaves = refl })
   meets image (packetPassed endpoint) = byPacketPassed (record { number = refl; leaves = refl })
+  meets image (recordEvent kind endpoint bytes) =
+      byRecordEvent (record { leaves = refl; answers = record { number = refl; hands = refl; counts = refl; shows = refl; lies = refl } })
 
   -- ---- so a run is the run of its events: from every image, every list of calls has a run, and one alone
   pub ran : {image : List ℕ} {cs : List Call} {gs : List Given} {last : List ℕ} → Runs b set serial image cs gs last
@@ -146,21 +161,24 @@ pub record Refuses (b : Board) (set serial : Spot) (image : List ℕ) (c : Call)
   pub inside : LiesInside b set serial g
 
 module _ (b : Board) (set serial : Spot) where
-  number-of : (image : List ℕ) (c : Call) → numberGiven (gives b set serial image c) ≡ numberOf (event b image (eventOf c) .answer)
+  pub number-of : (image : List ℕ) (c : Call) → numberGiven (gives b set serial image c) ≡ numberOf (event b image (eventOf c) .answer)
   number-of image (setup bytes) = refl
   number-of image statusEnd = refl
   number-of image busReset = refl
   number-of image (halt endpoint) = refl
   number-of image (packetPassed endpoint) = refl
+  number-of image (recordEvent kind endpoint bytes) = refl
+
+  empty-handed : (a : Answer) → (numberOf a ≡ 0 → ⊥) → NothingHanded (handedAs b set serial (valuesOf a))
+  empty-handed a z = let (p, q) = refusalEmpty a z in (ap padded p, ap length p, ap (bytesIn (b .set) (b .serial)) q)
 
   nothing-handed : (image : List ℕ) (c : Call) → (numberOf (event b image (eventOf c) .answer) ≡ 0 → ⊥) → NothingHanded (gives b set serial image c)
-  nothing-handed image (setup bytes) z =
-      let (p, q) = refusalEmpty (event b image (setupEvent bytes) .answer) z in
-      (ap padded p, ap length p, ap (bytesIn (b .set) (b .serial)) q)
+  nothing-handed image (setup bytes) z = empty-handed (event b image (setupEvent bytes) .answer) z
   nothing-handed image statusEnd z = tt
   nothing-handed image busReset z = tt
   nothing-handed image (halt endpoint) z = tt
   nothing-handed image (packetPassed endpoint) z = tt
+  nothing-handed image (recordEvent kind endpoint bytes) z = empty-handed (event b image (numbered kind endpoint bytes) .answer) z
 
   lies-inside : (image : List ℕ) (c : Call) → LiesInside b set serial (gives b set serial image c)
   lies-inside image (setup bytes) = (partOf (event b image (setupEvent bytes) .answer), eventInside b image (setupEvent bytes), refl, refl)
@@ -168,6 +186,9 @@ module _ (b : Board) (set serial : Spot) where
   lies-inside image busReset = tt
   lies-inside image (halt endpoint) = tt
   lies-inside image (packetPassed endpoint) = tt
+  lies-inside image (recordEvent kind endpoint bytes) =
+      let e = numbered kind endpoint bytes in
+      (partOf (event b image e .answer), eventInside b image e, refl, refl)
 
   pub refusal : {image : List ℕ} {c : Call} {g : Given} {left : List ℕ} → Meets b set serial image c g left → Refuses b set serial image c g left
   refusal {image} {c} m =
@@ -185,10 +206,6 @@ module _ (b : Board) (set serial : Spot) where
   refusals (calls m r) = (refusal m, refusals r)
 
 -- ---- demand 2
--- "Fresh: all zero but byte 2 = 255."
-abbrev pub freshImage : List ℕ
-freshImage = 0 ∷ 0 ∷ 255 ∷ replicate 29 0
-
 -- opening gives 0 exactly for a board that is accepted, and leaves the fresh record either way
 pub opening : {b : Board} {image : List ℕ} {n : ℕ} {left : List ℕ} → length image ≡ 32 → Opens b image n left
     → (n ≡ 0 → accepted b ≡ true) × (accepted b ≡ true → n ≡ 0) × (left ≡ freshImage)
