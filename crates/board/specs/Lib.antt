@@ -1,7 +1,10 @@
 pub mod Statements
 pub mod Lent
 pub mod Decided
+pub mod Opening
 pub mod Runs
+pub mod Transfers
 pub mod Order
+pub mod Records
 pub mod InhabitedRuns
 pub mod Idle

@@ -57,7 +57,7 @@ module _ (b : Board) (bytes : Bytes (b .set)) (ok : accepted b ≡ true) where
       next = respondedFits (b .set) (viewOf b) (sound b bytes ok) d (record { fitting = fitting (viewOf b) d p; sized = z }) (responded (viewOf b) d e)
 
   -- ---- over images
-  imageFits : (d : Device) → (fits (viewOf b) d ≡ true) × Sized d → FitImage b (imageOf d)
+  pub imageFits : (d : Device) → (fits (viewOf b) d ≡ true) × Sized d → FitImage b (imageOf d)
   imageFits d (p, z) = record { long = image-length d (z .sixteen); fit = rw (device-image d z) p; sized = rw (device-image d z) z; back = ap imageOf (device-image d z) }
 
   pub openedFits : (image : List ℕ) → length image ≡ 32 → FitImage b (opened b image .image)

@@ -3,14 +3,14 @@ use Prim.Native.Nat.{ℕ, _+_, _≤_, min, _/_, _%_}
 use native.Mathlib.Omega.{arith}
 use mathlib.Core.Path.{_≡_, refl, _∙_}
 use mathlib.Core.List.{List, [], _∷_}
-use mathlib.Core.Bool.{Bool, true, _&&_, _||_, false≢true}
+use mathlib.Core.Bool.{Bool, true, false, _&&_, _||_, false≢true}
 use mathlib.Core.Option.{Option, some, none}
 use lib.ListN.{length}
 use lib.Dec.{eqb, leb}
 use borrow.Author.Tests.{eq-eqb, eqb-true, leb-true, le-leb}
 use Rattle.octets.specs.Octets.{byte}
 use Rattle.octets.specs.Sentences.{pick, _⇒_, any, every, first, member}
-use Rattle.octets.proofs.Sentences.{if-then, both, joined, conjunct}
+use Rattle.octets.proofs.Sentences.{cases, if-then, both, joined, conjunct}
 use Rattle.descriptors.specs.declared.Endpoint.{Endpoint}
 use Rattle.descriptors.specs.Configuration.{hasInterface, hasSetting, canHalt}
 use Rattle.descriptors.specs.Limits.{fullSpeed, doubled}
@@ -22,19 +22,22 @@ use Rattle.sets.specs.View.{View, viewOf, accepted, wakes}
 use Rattle.records.specs.declared.Device.{Device}
 use Rattle.records.specs.Device.{nothing, withWaiting}
 use Rattle.records.specs.Current.{selected, endpointAt}
+use Rattle.records.specs.Image.{deviceOf}
 use Rattle.records.specs.Fits.{fits}
 use Rattle.requests.specs.declared.Setup.{Setup}
 use Rattle.requests.specs.declared.Row.{Row}
-use Rattle.requests.specs.Setup.{recipient}
+use Rattle.requests.specs.Setup.{recipient, setupOf}
 use Rattle.requests.specs.Table.{table, refusal, largestIndex}
-use Rattle.events.specs.declared.Event.the-variants.{Request}
+use Rattle.events.specs.declared.Event.{Event}
+use Rattle.events.specs.declared.Event.the-variants.{Request, Malformed}
 use Rattle.events.specs.declared.Outcome.{Outcome}
-use Rattle.events.specs.Answer.{bytesOf, partOf, done, refused}
+use Rattle.events.specs.Answer.{numberOf, bytesOf, partOf, refused}
 use Rattle.events.specs.Requests.{byRecipient, isEndpointZero, deviceFeature, interfaceFeature, endpointFeature, endpointStatus, haltFeature, clearHalt, setHalt, setPart, isEntry, languageFor, getStatus, clearFeature, setFeature, setAddress, getDescriptor, getConfiguration, setConfiguration, getInterface, setInterface}
-use Rattle.events.specs.Step.{request, answerSetup, step}
+use Rattle.events.specs.Step.{request, answerSetup, step, event, setupEvent}
 use Rattle.packets.specs.Packets.{canCut}
 use Rattle.sets.proofs.Groups.{groups}
 use Rattle.promises.specs.Outcomes.{ruled, chosen}
+use Rattle.promises.specs.Refusals.{eventNumber}
 
 -- what an answer hands back, bytes and part, is no more than asked
 abbrev pub Within : ℕ → Outcome → Type 0
@@ -141,3 +144,21 @@ sizeCuts b ok r w l =
 pub replyCuts : (b : Board) (d : Device) (s : Setup) → accepted b ≡ true → (let a = step b d (Request s) .answer in
     canCut (length (bytesOf a) + partOf a .length) (s .length) (bMaxPacketSize0 (deviceBody (b .set))) ≡ true)
 replyCuts b d s ok = sizeCuts b ok _ (s .length) (replyWithin b d s)
+
+-- ---- on images
+-- no answer to a setup's bytes, of any length, is longer than their wLength
+pub eventWithin : (b : Board) (image setup : List ℕ) → (let a = event b image (setupEvent setup) .answer in
+    length (bytesOf a) + partOf a .length ≤ setupOf setup .length)
+unfolding event step
+eventWithin b image setup = cases (eqb (length image) 32) (λ p. rw p (whole (eqb (length setup) 8))) (λ p. rw p (omega arith))
+  where
+    whole : (t : Bool) → Within (setupOf setup .length) (step b (deviceOf image) (pick t (Request (setupOf setup)) Malformed))
+    whole true = replyWithin b (deviceOf image) (setupOf setup)
+    whole false = chosen (Within (setupOf setup .length)) (accepted b)
+        (λ p. chosen (Within (setupOf setup .length)) (fits (viewOf b) (deviceOf image)) (λ q. omega arith) (λ q. omega arith))
+        (λ p. omega arith)
+
+-- what is done is done on an accepted board
+pub doneAccepted : (b : Board) (image : List ℕ) (e : Event) → numberOf (event b image e .answer) ≡ 0 → accepted b ≡ true
+doneAccepted b image e z = cases (accepted b) (λ p. p)
+    (λ p. absurd (let q : _≡_ {A = ℕ} 0 7 = eqb-true 0 7 (rw (z, p) at (eventNumber b image e)) in omega arith))
