@@ -8,3 +8,4 @@ pub mod Order
 pub mod Records
 pub mod InhabitedRuns
 pub mod Idle
+pub mod InhabitedExports

@@ -33,6 +33,11 @@ onImage {b} {d = d} {e = e} z a =
     let same = Images.onImage b d e z in
     record { leaves = ap imageOf (a .leaves) ∙ sym (ap (λ (r : Reply). r .image) same); answers = rw same (a .answers) }
 
+-- on every record there is such an answer
+pub answersByRules : (b : Board) (set serial : Spot) (d : Device) (e : Event) → (let a = step b d e .answer in
+    Answers b set serial d e (numberOf a) (step b d e .device) (padded (bytesOf a)) (length (bytesOf a)) (bytesIn (b .set) (b .serial) (partOf a)) (spotOfPart set serial (partOf a)))
+answersByRules b set serial d e = record { leaves = refl; answers = record { number = refl; hands = refl; counts = refl; shows = refl; lies = refl } }
+
 -- ---- a run: each call meets its statement, and the record that it leaves is lent to the next
 pub data RecordRuns (b : Board) (set serial : Spot) : Device → List Call → List Given → Device → Type 0 where
   ended : {d : Device} → RecordRuns b set serial d [] [] d

@@ -102,8 +102,14 @@ module _ {b : Board} {set serial : Spot} {image setup : List ℕ} {n : ℕ} {lef
   replyLength =
       let slice = inBlock (b .set) (b .serial) (partOf answer .block) in
       let most = eventWithin b image setup in
-      rw (r .answers .hands, r .answers .counts, r .answers .shows, unpadded answer,
-        length-append (bytesOf answer) (bytesIn (b .set) (b .serial) (partOf answer)), length-take (partOf answer .length) (drop (partOf answer .offset) slice)) (omega arith)
+      rw (
+        r .answers .hands,
+        r .answers .counts,
+        r .answers .shows,
+        unpadded answer,
+        length-append (bytesOf answer) (bytesIn (b .set) (b .serial) (partOf answer)),
+        length-take (partOf answer .length) (drop (partOf answer .offset) slice),
+      ) (omega arith)
 
   -- so where the setup was answered 0, it can be cut into packets of the set's bMaxPacketSize0
   pub replyCuts : n ≡ 0 → canCut (length (reply bytes counted shown)) (setupOf setup .length) (packetSize b) ≡ true
@@ -116,7 +122,7 @@ pub transfer : {b : Board} {set serial : Spot} {image setup : List ℕ} {left by
     → (at : Spot) (number : ℕ → ℕ) (packets : ℕ → List ℕ) (place : ℕ → Spot)
     → ((k : ℕ) → Cuts (reply bytes counted shown) at (setupOf setup .length) (packetSize b) k (number k) (packets k) (place k))
     → (let many = count (length (reply bytes counted shown)) (setupOf setup .length) (packetSize b) in
-      (flatMap packets (upTo many) ≡ reply bytes counted shown) × ((k : ℕ) → k < many → number k ≡ 0) × ((k : ℕ) → many ≤ k → number k ≡ 15))
+    (flatMap packets (upTo many) ≡ reply bytes counted shown) × ((k : ℕ) → k < many → number k ≡ 0) × ((k : ℕ) → many ≤ k → number k ≡ 15))
 transfer {b} {setup = setup} {bytes = bytes} {counted} {shown} r at number packets place cuts =
     let can = replyCuts r refl in
     let out = reply bytes counted shown in
