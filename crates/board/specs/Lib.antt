@@ -5,6 +5,8 @@ pub mod Opening
 pub mod Runs
 pub mod Transfers
 pub mod Order
+pub mod Places
+pub mod Unnoticed
 pub mod Records
 pub mod InhabitedRuns
 pub mod Idle

@@ -1,5 +1,5 @@
 -- Demand 3: another order of events that concern different interfaces changes no answer and no byte of the record. And, from the same laws,
--- that one interface's driver does not notice the others'. Assumes nothing.
+-- that one interface's driver does not notice the others'. No axiom.
 use Prim.Native.Nat.{ℕ, suc}
 use native.Mathlib.Omega.{arith}
 use mathlib.Core.Path.{_≡_, refl, sym, ap, _∙_}
@@ -23,8 +23,8 @@ use Rattle.events.specs.Step.{respond, step, Reply, replyOf, event}
 use Rattle.order.specs.Run.{log, own, run-shown, answers-shown, log-shown}
 use Rattle.order.specs.Shuffle.{all-shuffle}
 use Rattle.order.specs.Places.{Reordered, shuffle-of, own-places, places-own}
-use Rattle.order.specs.Strike.{strike, left}
-use Rattle.order.specs.Owners.{Owners, others, along, ordered, ordered-places, fair-always, unnoticed-by}
+use Rattle.order.specs.Strike.{strike, left, FairRun}
+use Rattle.order.specs.Owners.{Owners, others, Idle, along, ordered, ordered-places, fair-always, unnoticed-by}
 use Rattle.sets.proofs.Sound.{Bytes}
 use Rattle.sets.proofs.Acceptance.{sound}
 use Rattle.promises.specs.Keeps.{FitImage, stepFits}
@@ -51,6 +51,17 @@ module _ (v : View) (d : Device) (xs ys : List Event) where
 -- an event that arrives in Configured and concerns another interface than k
 abbrev pub struckFor : Board → ℕ → Device → Event → Bool
 struckFor b = others (owned (viewOf b)) (who (viewOf b))
+
+-- it may be struck where it has nothing to settle: what waits and the sleep byte stay as they are
+abbrev pub Fair : Device → Event → Type 0
+Fair = Idle rest kind settle
+
+-- every event left of a run gets the answer that it got; what interface k can tell, and the rest, end the same
+abbrev pub Unnoticed : Board → ℕ → Device → List Event → Type 0
+Unnoticed b k d xs = (let kept = strike (nextOf b) (struckFor b k) d xs in
+    (left (answerOf b) (nextOf b) (struckFor b k) d xs ≡ log (answerOf b) (nextOf b) d kept)
+    × Same (viewOf b) k (after b d xs) (after b d kept)
+    × (rest (after b d xs) ≡ rest (after b d kept)))
 
 -- ---- for one accepted set and serial block
 module _ (b : Board) (bytes : Bytes (b .set)) (ok : accepted b ≡ true) where
@@ -105,15 +116,14 @@ module _ (b : Board) (bytes : Bytes (b .set)) (ok : accepted b ≡ true) where
         × ((i : ℕ) (a : Answer) → getElem? (answered b d xs) i ≡ some a → getElem? (answered b d ys) (w .to i) ≡ some a)
     orderPlaces xs ys p w = ordered-places stepLocality d (sized, fit) xs ys (all-of (owned (viewOf b) d) xs p) w
 
-    -- ---- one driver does not notice the other: strike out the events that concern another interface than k, and every event left gets the
-    -- same answer; the shared fields, k's setting, halts and toggles, and the rest end the same
-    pub unnoticed : (k : ℕ) (xs : List Event) → (let kept = strike (nextOf b) (struckFor b k) d xs in
-        (left (answerOf b) (nextOf b) (struckFor b k) d xs ≡ log (answerOf b) (nextOf b) d kept)
-        × Same (viewOf b) k (after b d xs) (after b d kept)
-        × (rest (after b d xs) ≡ rest (after b d kept)))
-    unnoticed k xs =
-        let fair = fair-always stepLocality (λ r e g o. idle (viewOf b) r e (g .1) o) k d (sized, fit) xs in
-        unnoticed-by stepLocality k d (sized, fit) xs fair
+    -- ---- one driver does not notice the other: where the run is fair, strike out the events that concern another interface than k, and every
+    -- event left gets the same answer; the shared fields, k's setting, halts and toggles, and the rest end the same
+    pub unnoticedFair : (k : ℕ) (xs : List Event) → FairRun (nextOf b) (struckFor b k) Fair d xs → Unnoticed b k d xs
+    unnoticedFair k xs fair = unnoticed-by stepLocality k d (sized, fit) xs fair
+
+    -- today every run is
+    pub unnoticed : (k : ℕ) (xs : List Event) → Unnoticed b k d xs
+    unnoticed k xs = unnoticedFair k xs (fair-always stepLocality (λ r e g o. idle (viewOf b) r e (g .1) o) k d (sized, fit) xs)
 
   -- ---- demand 3 on the 32 bytes that C hands over
   module _ (image : List ℕ) (f : FitImage b image) where
