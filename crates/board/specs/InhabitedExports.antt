@@ -11,9 +11,8 @@ use borrow.Author.Tests.{ne-eqb}
 use Rattle.octets.specs.Sentences.{only, upTo}
 use Rattle.descriptors.specs.Limits.{fullSpeed}
 use Rattle.records.specs.declared.Device.{Device}
-use Rattle.records.specs.Device.{zeros, fresh, withWaiting, withEndpoints}
+use Rattle.records.specs.Device.{zeros, fresh, withWaiting, withEndpoints, Sized}
 use Rattle.records.specs.Image.{imageOf}
-use Rattle.records.proofs.Image.{Sized}
 use Rattle.promises.specs.Examples.{bytes, computed, S, T}
 use Rattle.promises.specs.Bench.{stands, addressed}
 use Rattle.promises.specs.Opening.{groups, AllHold, FirstBroken}

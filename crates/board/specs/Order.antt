@@ -9,7 +9,7 @@ use Rattle.octets.specs.Sentences.{every, only, isSome}
 use Rattle.octets.proofs.Sentences.{every-map}
 use Rattle.sets.specs.Opening.{Board}
 use Rattle.sets.specs.View.{viewOf, accepted}
-use Rattle.sets.proofs.Sound.{Bytes}
+use Rattle.octets.specs.Octets.{Bytes}
 use Rattle.records.specs.Image.{deviceOf}
 use Rattle.records.specs.Fits.{fits}
 use Rattle.events.specs.declared.Event.{Event}

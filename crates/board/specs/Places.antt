@@ -8,7 +8,7 @@ use lib.ListN.{getElem?}
 use Rattle.octets.specs.Sentences.{every}
 use Rattle.sets.specs.Opening.{Board}
 use Rattle.sets.specs.View.{viewOf, accepted}
-use Rattle.sets.proofs.Sound.{Bytes}
+use Rattle.octets.specs.Octets.{Bytes}
 use Rattle.records.specs.Image.{deviceOf, imageOf}
 use Rattle.events.specs.declared.Answer.{Answer}
 use Rattle.order.specs.Order.{Square}

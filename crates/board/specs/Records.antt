@@ -7,11 +7,11 @@ use mathlib.Core.Bool.{true}
 use lib.ListN.{length}
 use Rattle.sets.specs.Opening.{Board}
 use Rattle.sets.specs.View.{viewOf, accepted}
-use Rattle.sets.proofs.Sound.{Bytes}
+use Rattle.octets.specs.Octets.{Bytes}
 use Rattle.records.specs.declared.Device.{Device}
 use Rattle.records.specs.Image.{imageOf}
 use Rattle.records.specs.Fits.{fits}
-use Rattle.records.proofs.Image.{Sized}
+use Rattle.records.specs.Device.{Sized}
 use Rattle.events.specs.declared.Event.{Event}
 use Rattle.events.specs.Answer.{numberOf, bytesOf, partOf}
 use Rattle.events.specs.Places.{bytesIn}

@@ -8,7 +8,7 @@ use lib.ListN.{length}
 use borrow.Author.Tests.{eq-eqb, ne-eqb, eqb-true}
 use Rattle.sets.specs.Opening.{Board}
 use Rattle.sets.specs.View.{accepted}
-use Rattle.sets.proofs.Sound.{Bytes}
+use Rattle.octets.specs.Octets.{Bytes}
 use Rattle.records.specs.Image.{bytesOfFour, imageOf}
 use Rattle.events.specs.declared.Answer.{Answer}
 use Rattle.events.specs.declared.Event.{Event}

@@ -9,7 +9,7 @@ use lib.Dec.{eqb}
 use Rattle.octets.proofs.Sentences.{both}
 use Rattle.sets.specs.Opening.{Board}
 use Rattle.sets.specs.View.{viewOf, accepted}
-use Rattle.sets.proofs.Sound.{Bytes}
+use Rattle.octets.specs.Octets.{Bytes}
 use Rattle.records.specs.Image.{deviceOf}
 use Rattle.order.specs.Run.{keep, run, answers, log}
 use Rattle.order.specs.Strike

@@ -7,11 +7,12 @@ use borrow.Author.Tests.{eq-eqb}
 use Rattle.octets.proofs.Sentences.{cases}
 use Rattle.sets.specs.Opening.{Board}
 use Rattle.sets.specs.View.{viewOf, accepted}
-use Rattle.sets.proofs.Sound.{Bytes}
+use Rattle.octets.specs.Octets.{Bytes}
 use Rattle.records.specs.declared.Device.{Device}
 use Rattle.records.specs.Image.{deviceOf, imageOf}
 use Rattle.records.specs.Fits.{fits}
-use Rattle.records.proofs.Image.{Sized, device-image, image-length}
+use Rattle.records.specs.Device.{Sized}
+use Rattle.records.proofs.Image.{device-image, image-length}
 use Rattle.events.specs.declared.Event.{Event}
 use Rattle.events.specs.Step.{step, Reply, replyOf, event}
 use Rattle.promises.specs.Keeps.{FitImage, stepFits}

@@ -12,9 +12,8 @@ use Rattle.octets.proofs.Sentences.{both}
 use Rattle.sets.specs.Opening.{Board}
 use Rattle.sets.specs.View.{viewOf, accepted}
 use Rattle.records.specs.declared.Device.{Device}
-use Rattle.records.specs.Device.{nothing, zeros, fresh, withWaiting, withEndpoints}
+use Rattle.records.specs.Device.{nothing, zeros, fresh, withWaiting, withEndpoints, Sized}
 use Rattle.records.specs.Fits.{fits}
-use Rattle.records.proofs.Image.{Sized}
 use Rattle.events.specs.declared.Event.{Event}
 use Rattle.events.specs.declared.Event.the-variants.{StatusEnd, BusReset, Halt}
 use Rattle.events.specs.declared.Answer.the-variants.{Refused, SetPart, SerialPart}
@@ -23,8 +22,9 @@ use Rattle.events.specs.Step.{step, event, opened, setupEvent}
 use Rattle.requests.specs.Setup.{setupOf}
 use Rattle.packets.specs.Packets.{canCut}
 use Rattle.promises.specs.Examples.{bytes, computed, S, T}
-use Rattle.sets.proofs.Sound.{Bytes, Sound}
-use Rattle.sets.proofs.Acceptance.{sound}
+use Rattle.octets.specs.Octets.{Bytes}
+use Rattle.sets.specs.Sound.{Sound}
+use Rattle.promises.specs.Sound.{sound}
 use Rattle.promises.specs.Keeps.{FitImage, Reached, afterOpening, afterEvent, stepFits, openedFits, reachedFits}
 use Rattle.promises.specs.Refusals.{stepKeeps, stepKeepsAll, eventKeeps, refusalEmpty}
 use Rattle.promises.specs.Replies.{replyCuts}

@@ -26,7 +26,7 @@ use Rattle.order.specs.Places.{Reordered}
 use Rattle.order.specs.Strike.{strike, left}
 use Rattle.order.specs.Owners.{Owners}
 use Rattle.promises.specs.Examples.{bytes, computed, T}
-use Rattle.sets.proofs.Sound.{Bytes}
+use Rattle.octets.specs.Octets.{Bytes}
 use Rattle.promises.specs.Inhabited.{octets, acceptedT, bytesT, configured, configuredSized}
 use Rattle.promises.specs.Keeps.{FitImage, fitImage}
 use Rattle.promises.specs.Parts.{Good, orNobody, Same, rest, owned, who, kind, settle}

@@ -12,16 +12,16 @@ use Rattle.octets.proofs.Sentences.{cases}
 use Rattle.sets.specs.Opening.{Board}
 use Rattle.sets.specs.View.{viewOf, accepted}
 use Rattle.records.specs.declared.Device.{Device}
-use Rattle.records.specs.Device.{fresh}
+use Rattle.records.specs.Device.{fresh, Sized}
 use Rattle.records.specs.Image.{deviceOf, imageOf}
 use Rattle.records.specs.Fits.{fits}
-use Rattle.records.proofs.Image.{Sized, device-image, image-device, image-length, device-sized}
+use Rattle.records.proofs.Image.{device-image, image-device, image-length, device-sized}
 use Rattle.events.specs.declared.Event.{Event}
 use Rattle.events.specs.declared.Event.the-variants.{Request, Malformed, StatusEnd, BusReset, Halt, PacketPassed}
 use Rattle.events.specs.Answer.{numberOf}
 use Rattle.events.specs.Step.{respond, step, event, opened}
-use Rattle.sets.proofs.Sound.{Bytes}
-use Rattle.sets.proofs.Acceptance.{sound}
+use Rattle.octets.specs.Octets.{Bytes}
+use Rattle.promises.specs.Sound.{sound}
 use Rattle.promises.specs.Outcomes.{responded}
 use Rattle.promises.specs.Refusal.{refuses}
 use Rattle.promises.specs.Refusals.{stepNumber}

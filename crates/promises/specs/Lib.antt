@@ -1,5 +1,6 @@
 pub mod Examples
 pub mod Bench
+pub mod Sound
 pub mod Opening
 pub mod Rules
 pub mod Mistakes

@@ -14,7 +14,7 @@ use Rattle.sets.specs.View.{View, viewOf, accepted}
 use Rattle.records.specs.declared.Device.{Device}
 use Rattle.records.specs.Fits.{fits}
 use Rattle.records.specs.Image.{deviceOf, imageOf}
-use Rattle.records.proofs.Image.{Sized}
+use Rattle.records.specs.Device.{Sized}
 use Rattle.events.specs.declared.Answer.{Answer}
 use Rattle.events.specs.declared.Event.{Event}
 use Rattle.events.specs.declared.Outcome.{Outcome}
@@ -25,8 +25,8 @@ use Rattle.order.specs.Shuffle.{all-shuffle}
 use Rattle.order.specs.Places.{Reordered, shuffle-of, own-places, places-own}
 use Rattle.order.specs.Strike.{strike, left, FairRun}
 use Rattle.order.specs.Owners.{Owners, others, Idle, along, ordered, ordered-places, fair-always, unnoticed-by}
-use Rattle.sets.proofs.Sound.{Bytes}
-use Rattle.sets.proofs.Acceptance.{sound}
+use Rattle.octets.specs.Octets.{Bytes}
+use Rattle.promises.specs.Sound.{sound}
 use Rattle.promises.specs.Keeps.{FitImage, stepFits}
 use Rattle.promises.specs.Images.{onImage}
 use Rattle.promises.specs.Parts.{Good, Same, rest, owned, who, kind, settle}

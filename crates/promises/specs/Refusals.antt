@@ -23,7 +23,7 @@ use Rattle.events.specs.declared.Answer.the-variants.{Done, OneByte, TwoBytes, 
 use Rattle.events.specs.declared.Event.{Event}
 use Rattle.events.specs.Answer.{numberOf, bytesOf, partOf}
 use Rattle.events.specs.Step.{step, event, opened}
-use Rattle.sets.proofs.Sound.{Bytes}
+use Rattle.octets.specs.Octets.{Bytes}
 use Rattle.promises.specs.Refusal.{drops, leftBy, allows, Inside, emptyPart, allowsImage, imageLeftBy, opens}
 use Rattle.sets.proofs.Groups.{groups}
 use Rattle.promises.specs.Refusing.{refusal, ownNumber, undropped, placed, leftImage, openingNumber}

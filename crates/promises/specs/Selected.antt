@@ -13,8 +13,9 @@ use Rattle.octets.proofs.Sentences.{cases, both, if-then, conjunct, none-first}
 use Rattle.descriptors.specs.Configuration.{hasInterface}
 use Rattle.sets.specs.Opening.{Board}
 use Rattle.sets.specs.View.{View, viewOf, accepted, orNone, unconfigured}
-use Rattle.sets.proofs.Sound.{Bytes, Sound}
-use Rattle.sets.proofs.Acceptance.{sound}
+use Rattle.octets.specs.Octets.{Bytes}
+use Rattle.sets.specs.Sound.{Sound}
+use Rattle.promises.specs.Sound.{sound}
 use Rattle.records.specs.declared.Device.{Device}
 use Rattle.records.specs.Device.{fresh, inConfigured}
 use Rattle.records.specs.Current.{selected, currentEndpoints, endpointAt}
