@@ -17,14 +17,15 @@ use Rattle.promises.specs.Examples.{bytes, computed, S, T}
 use Rattle.promises.specs.Bench.{stands, addressed}
 use Rattle.promises.specs.Opening.{groups, AllHold, FirstBroken}
 use Rattle.promises.specs.Refusal.{freshImage, opens}
-use Rattle.promises.specs.Inhabited.{bytesT, acceptedT, configured, configuredSized}
+use Rattle.promises.specs.Inhabited.{bytesT, acceptedT, waiting, configured, configuredSized}
 use Rattle.promises.specs.InhabitedOrder.{configuredFitsT}
 use Rattle.board.specs.Statements.{Opens, Spot, Replies, Cuts}
+use Rattle.board.specs.Lent.{numbered, Answers}
 use Rattle.board.specs.Opening.{openingNumber, openingAccepts, openingRefuses}
 use Rattle.board.specs.Runs.{Call, recordEvent, Given, Throughout, NotEight}
 use Rattle.board.specs.Transfers.{packetNumber, transfer}
 use Rattle.board.specs.Order.{concernsThis, Reordered}
-use Rattle.board.specs.Records.{RecordRuns, ended, called, answersByRules, asImages, decidedRecord, neverEightRecord, orderRecord}
+use Rattle.board.specs.Records.{refusal, RecordRuns, ended, called, answersByRules, asImages, decidedRecord, neverEightRecord, orderRecord}
 use Rattle.board.specs.InhabitedRuns
 use Rattle.board.specs.InhabitedRuns.{start, setSpot, serialSpot, doneAlone}
 
@@ -128,3 +129,9 @@ oneEnds =
 -- whatever the other run gives and leaves, it leaves that
 pub otherEnds : {gs : List Given} {last : Device} → RecordRuns T setSpot serialSpot configured otherOrder gs last → lastRecord ≡ last
 otherEnds r = orderRecord T setSpot serialSpot bytesT acceptedT configuredSized configuredFitsT oneEnds r reordered .0
+
+-- ---- a refusal where the record stands: GET_DESCRIPTOR of type 6 on S with address 5 waiting drops it, whatever else it gives
+pub dropsWhereItStands : {left : Device} {handedBack : List ℕ} {count : ℕ} {shown : List ℕ} {spot : Spot}
+    → Answers S setSpot serialSpot waiting (numbered 0 0 (bytes 8 0x8006000600000A00)) 13 left handedBack count shown spot → left ≡ fresh
+unfolding computed
+dropsWhereItStands a = refusal a .keeps (λ z. omega arith)

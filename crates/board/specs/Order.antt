@@ -1,5 +1,5 @@
 -- Demand 3 over runs of exported calls: another order of calls that concern different interfaces changes nothing that a call gives and no
--- byte of the image left. Assumes nothing.
+-- byte of the image left. No axiom.
 use Prim.Native.Nat.{ℕ}
 use mathlib.Core.Path.{_≡_, refl, sym, ap, _∙_}
 use mathlib.Core.List.{List, [], _∷_, map, map-map}
@@ -105,8 +105,8 @@ module _ (b : Board) (set serial : Spot) where
     same = λ k. only-map _ eventOf xs ∙ ap (map eventOf) (r .same k) ∙ sym (only-map _ eventOf ys);
   }
 
-  -- for an accepted board and an image of 32 bytes whose record fits: both runs leave the same image, and each interface's calls are the
-  -- same and are given the same
+  -- for an accepted board and an image that fits: both runs leave the same image, and each interface's calls are the same and are given the
+  -- same. (Place by place: `orderPlaces` of Places.)
   pub orderFit : Bytes (b .set) → accepted b ≡ true → (image : List ℕ) → FitImage b image
       → {xs ys : List Call} {gs others : List Given} {last other : List ℕ}
       → Runs b set serial image xs gs last → Runs b set serial image ys others other → Reordered b image xs ys
@@ -126,13 +126,14 @@ module _ (b : Board) (set serial : Spot) where
           (own-calls image k xs ∙ r .same k ∙ sym (own-calls image k ys))
           (sym (seconds k xs) ∙ ap (map (λ (p : Event × Values). p .1)) h ∙ seconds k ys)
 
+  -- 32 bytes whose record fits are such an image
   pub order : Bytes (b .set) → accepted b ≡ true → (image : List ℕ) → length image ≡ 32 → Bytes image → fits (viewOf b) (deviceOf image) ≡ true
       → {xs ys : List Call} {gs others : List Given} {last other : List ℕ}
       → Runs b set serial image xs gs last → Runs b set serial image ys others other → Reordered b image xs ys
       → (last ≡ other) × ((k : ℕ) → toldTo b image k xs gs ≡ toldTo b image k ys others)
   order bytes ok image long octets fit = orderFit bytes ok image (fitImage b image long octets fit)
 
-  -- so after an opening that gave 0 and any calls: two orders of what follows end the same. (C's set and images are of bytes.)
+  -- so after an opening that gave 0 and any calls: two orders of what follows end the same. (C's set is of bytes.)
   pub orderAfterOpening : Bytes (b .set) → {start image now : List ℕ} {cs : List Call} {gs : List Given}
       → length start ≡ 32 → Opens b start 0 image → Runs b set serial image cs gs now
       → {xs ys : List Call} {some others : List Given} {last other : List ℕ}

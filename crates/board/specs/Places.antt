@@ -10,8 +10,6 @@ use Rattle.sets.specs.Opening.{Board}
 use Rattle.sets.specs.View.{viewOf, accepted}
 use Rattle.octets.specs.Octets.{Bytes}
 use Rattle.records.specs.Image.{deviceOf, imageOf}
-use Rattle.events.specs.declared.Answer.{Answer}
-use Rattle.order.specs.Order.{Square}
 use Rattle.order.specs.Places.{Reordered, order-places}
 use Rattle.order.specs.Owners.{square-at, like-self}
 use Rattle.order.specs.Beside.{square-beside}

@@ -21,7 +21,7 @@ use Rattle.promises.specs.Refusals.{stepNumber, stepKeeps, stepInside, refusalE
 use Rattle.promises.specs.Keeps.{imageFits}
 use Rattle.promises.specs.Images
 use Rattle.promises.specs.Images.{stepSized, sameImage}
-use Rattle.board.specs.Statements.{Opens, Spot, Hands, padded, spotOfPart}
+use Rattle.board.specs.Statements.{Opens, Spot, padded, spotOfPart}
 use Rattle.board.specs.Lent.{numbered, Answers, AnswersImage}
 use Rattle.board.specs.Runs.{Call, recordEvent, Given, numberGiven, handed, byRecordEvent, Runs, ends, calls, decided, Throughout, NothingHanded, LiesInside, NotEight, neverEightAfter}
 use Rattle.board.specs.Order.{Reordered, toldTo, orderFit}

@@ -1,6 +1,6 @@
 -- Replies and packets: a packet's number is 0 or 15, and 15 shows nothing; the packets of what a setup handed back, cut by any cutter that
 -- meets its statement, are the reply, and only those past the last are refused. No axiom.
-use Prim.Native.Nat.{ℕ, _+_, _<_, _≤_, min}
+use Prim.Native.Nat.{ℕ, _+_, _<_, _≤_}
 use native.Mathlib.Omega.{arith}
 use native.Mathlib.Nat.{add-zero}
 use mathlib.Core.Path.{_≡_, refl, sym, ap, _∙_}
@@ -17,13 +17,13 @@ use Rattle.sets.specs.Opening.{Board}
 use Rattle.requests.specs.Setup.{setupOf}
 use Rattle.events.specs.declared.Answer.{Answer}
 use Rattle.events.specs.declared.Answer.the-variants.{Done, OneByte, TwoBytes, SetPart, SerialPart, Refused}
-use Rattle.events.specs.Answer.{numberOf, bytesOf, partOf}
+use Rattle.events.specs.Answer.{bytesOf, partOf}
 use Rattle.events.specs.Places.{inBlock, bytesIn}
 use Rattle.events.specs.Step.{event, setupEvent}
 use Rattle.packets.specs.Packets.{count, canCut, packetWhere, packet}
 use Rattle.promises.specs.Packets.{joined, whole-reply}
 use Rattle.promises.specs.Replies.{sizeCuts, eventWithin, doneAccepted}
-use Rattle.board.specs.Statements.{Spot, padded, Hands, Replies, Cuts}
+use Rattle.board.specs.Statements.{Spot, padded, Replies, Cuts}
 
 -- ---- one packet
 -- 0 or 15; and 15 shows the reply's first 0 bytes

@@ -11,7 +11,7 @@ use Rattle.sets.specs.Opening.{Board}
 use Rattle.sets.specs.View.{viewOf, accepted}
 use Rattle.octets.specs.Octets.{Bytes}
 use Rattle.records.specs.Image.{deviceOf}
-use Rattle.order.specs.Run.{keep, run, answers, log}
+use Rattle.order.specs.Run.{keep, answers, log}
 use Rattle.order.specs.Strike
 use Rattle.order.specs.Strike.{strike, left, Unwinding}
 use Rattle.order.specs.Owners.{unwinding-by}

@@ -1,9 +1,9 @@
 -- Working definitions for the contracts of what writes lines into a buffer; no promise cites them.
 use Prim.Native.Nat.{ℕ, _+_, _/_, _%_, _≤_}
 use mathlib.Core.Path.{_≡_}
-use mathlib.Core.List.{List, [], _∷_, _++_, flatMap}
+use mathlib.Core.List.{List, [], _∷_, flatMap}
 use mathlib.Core.Bool.{Bool}
-use lib.ListN.{length, take, drop}
+use lib.ListN.{length}
 use lib.Seq.{sets}
 use lib.Dec.{leb}
 use Rattle.octets.specs.Sentences.{pick, _⇒_}
@@ -12,7 +12,6 @@ use Rattle.descriptors.specs.Configuration.{behind, goodConfiguration}
 use Rattle.descriptors.specs.Limits.{fullSpeed}
 use Rattle.sets.specs.declared.Entry.{Entry}
 use Rattle.sets.specs.Contents.{isKind, bodyOf}
-use Rattle.sets.specs.Opening.{Board}
 use Rattle.descriptors.specs.Descriptor.{isInterface, isEndpoint, bInterfaceNumber, bAlternateSetting, bNumEndpoints}
 use Rattle.listing.specs.Listing.{line, endpointLine, configurationLines}
 pub use Rattle.listing.specs.Listed.{room, Listed}

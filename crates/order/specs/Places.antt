@@ -1,6 +1,6 @@
 -- Another order, said by places: the event at place i of xs stands at place `to i` of ys, each place of ys is taken once, and two events
 -- of one owner keep their order. Then event by event the answers are the same: place i of the one run, place `to i` of the other.
--- `Reordered` is a Shuffle (`shuffle-of`) and back (`places-of`), so the three ways to say "another order" are one. Assumes nothing.
+-- `Reordered` is a Shuffle (`shuffle-of`) and back (`places-of`), so the three ways to say "another order" are one. No axiom.
 use Prim.Native.Nat.{ℕ, zero, suc, pred, _<_, _≤_}
 use native.Mathlib.Omega.{arith}
 use mathlib.Core.Path.{_≡_, refl, sym, ap, _∙_}

@@ -1,4 +1,4 @@
--- Runs of events over any system, and what of a run is one owner's. Assumes nothing.
+-- Runs of events over any system, and what of a run is one owner's. No axiom.
 -- A system is two functions: `answer r e`, what event e gets at record r, and `next r e`, the record that it leaves.
 use Prim.Native.Nat.{ℕ}
 use mathlib.Core.Path.{_≡_, refl, ap}

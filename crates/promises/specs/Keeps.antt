@@ -1,5 +1,5 @@
 -- A record keeps fitting: after opening, and after every event from a fitting record, for every accepted set and serial block.
--- So 8 never follows from the library's own calls. Assumes nothing.
+-- So 8 never follows from the library's own calls. No axiom.
 use Prim.Native.Nat.{ℕ}
 use native.Mathlib.Omega.{arith}
 use mathlib.Core.Path.{_≡_, sym, ap, _∙_}

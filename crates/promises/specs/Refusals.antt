@@ -1,5 +1,5 @@
 -- Demand 1 over the step and over opening: what a refusal leaves, what it hands back, which numbers there are, and where parts lie.
--- Assumes nothing.
+-- No axiom.
 use Prim.Native.Nat.{ℕ}
 use native.Mathlib.Omega.{arith}
 use mathlib.Core.Path.{_≡_, refl, ap, _∙_}

@@ -1,5 +1,5 @@
 -- No reply is longer than its setup asked for, and an accepted set's bMaxPacketSize0 is a size that can be cut: so every reply can be. No axiom.
-use Prim.Native.Nat.{ℕ, _+_, _≤_, min, _/_, _%_}
+use Prim.Native.Nat.{ℕ, _+_, _≤_, _/_, _%_}
 use native.Mathlib.Omega.{arith}
 use mathlib.Core.Path.{_≡_, refl, _∙_}
 use mathlib.Core.List.{List, [], _∷_}
@@ -25,7 +25,6 @@ use Rattle.records.specs.Current.{selected, endpointAt}
 use Rattle.records.specs.Image.{deviceOf}
 use Rattle.records.specs.Fits.{fits}
 use Rattle.requests.specs.declared.Setup.{Setup}
-use Rattle.requests.specs.declared.Row.{Row}
 use Rattle.requests.specs.Setup.{recipient, setupOf}
 use Rattle.requests.specs.Table.{table, refusal, largestIndex}
 use Rattle.events.specs.declared.Event.{Event}

@@ -2,7 +2,7 @@
 -- interface and no current endpoint. No axiom.
 use Prim.Native.Nat.{ℕ, _≤_}
 use native.Mathlib.Omega.{arith}
-use mathlib.Core.Path.{_≡_, refl, ap, _∙_}
+use mathlib.Core.Path.{_≡_, refl, ap}
 use mathlib.Core.Bool.{true, false, _&&_}
 use mathlib.Core.List.{[], _∷_}
 use mathlib.Core.Option.{none}
@@ -14,7 +14,6 @@ use Rattle.descriptors.specs.Configuration.{hasInterface}
 use Rattle.sets.specs.Opening.{Board}
 use Rattle.sets.specs.View.{View, viewOf, accepted, orNone, unconfigured}
 use Rattle.octets.specs.Octets.{Bytes}
-use Rattle.sets.specs.Sound.{Sound}
 use Rattle.promises.specs.Sound.{sound}
 use Rattle.records.specs.declared.Device.{Device}
 use Rattle.records.specs.Device.{fresh, inConfigured}
