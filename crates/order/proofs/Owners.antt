@@ -2,7 +2,7 @@
 -- `ordered`: from a good record, a run of events that each have an owner there, in any other order that keeps each owner's events in theirs;
 -- `ordered-places`: the same with the other order given place by place;
 -- `unnoticed-by`: any run, and the events of every owner but k struck out.
--- Assumes nothing.
+-- No axiom.
 use Prim.Native.Nat.{ℕ, suc}
 use native.Mathlib.Omega.{arith}
 use mathlib.Core.Path.{_≡_, refl, sym, _∙_}
