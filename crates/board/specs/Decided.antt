@@ -1,4 +1,4 @@
--- The statements decide: any two results that meet an export's statement are equal in all that it gives and leaves. Assumes nothing.
+-- The statements decide: any two results that meet an export's statement are equal in all that it gives and leaves. No axiom.
 use Prim.Native.Nat.{ℕ}
 use mathlib.Core.Path.{_≡_, sym, _∙_}
 use mathlib.Core.List.{List}

@@ -76,6 +76,11 @@ pub record AnswersRecordEvent (b : Board) (setSpot serialSpot : Spot) (device : 
   pub leaves : left ≡ step b device e .device
   pub answers : Hands b setSpot serialSpot (step b device e .answer) answer bytes count shown spot
 
+-- the image left, and the answer handed out: what AnswersRecordEvent says of a record, it says of its image (`onImage` of Records)
+pub record AnswersImage (b : Board) (setSpot serialSpot : Spot) (image : List ℕ) (e : Event) (answer : ℕ) (left : List ℕ) (bytes : List ℕ) (count : ℕ) (shown : List ℕ) (spot : Spot) : Type 0 where
+  pub leaves : left ≡ event b image e .image
+  pub answers : Hands b setSpot serialSpot (event b image e .answer) answer bytes count shown spot
+
 -- ---- hk_packet: its number, the packet and where it lies in the reply
 pub record CutsPacket (reply : List ℕ) (replySpot : Spot) (asked size k : ℕ) (answer : ℕ) (shown : List ℕ) (spot : Spot) : Type 0 where
   pub number : answer ≡ packet (length reply) asked size k .number

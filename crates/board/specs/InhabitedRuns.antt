@@ -4,15 +4,22 @@ use Prim.Native.Nat.{ℕ, zero, suc}
 use native.Mathlib.Omega.{arith}
 use mathlib.Core.Path.{_≡_, refl}
 use mathlib.Core.List.{List, [], _∷_, _++_}
-use lib.ListN.{replicate}
+use mathlib.Core.Option.{some}
+use lib.ListN.{getElem?, replicate}
 use borrow.Author.Tests.{ne-eqb}
 use Rattle.octets.specs.Sentences.{only}
+use Rattle.order.specs.Run.{own}
+use Rattle.order.specs.Places.{Permuted}
+use Rattle.order.proofs.Places.{places-own}
 use Rattle.promises.specs.Examples.{bytes, computed, T}
-use Rattle.promises.specs.Inhabited.{bytesT}
-use Rattle.promises.specs.InhabitedOrder.{configuredImage, imageBytes}
+use Rattle.promises.specs.Inhabited.{acceptedT, bytesT}
+use Rattle.promises.specs.Refusal.{freshImage}
+use Rattle.promises.specs.InhabitedOrder.{configuredImage, configuredFit}
 use Rattle.board.specs.Exports.{Opens, Spot}
-use Rattle.board.specs.Runs.{Call, setup, tell, statusEnd, halt, packetPassed, Given, number, handed, Runs, runs, decided, Refuses, refusals, NotEight, Throughout, freshImage, neverEightAfter}
-use Rattle.board.specs.Order.{concernsThis, Reordered, orderAfterOpening}
+use Rattle.board.specs.Runs.{Call, setup, tell, statusEnd, halt, packetPassed, Given, number, handed, Runs, runs, decided, Refuses, refusals, NotEight, Throughout, neverEightAfter}
+use Rattle.board.specs.Order.{concernsThis, Reordered, told, orderAfterOpening}
+use Rattle.board.specs.Places.{whom, orderPlaces}
+use Rattle.board.specs.Unnoticed.{kept, keptOf, Alike, unnoticed}
 
 -- ---- any 32 bytes, opened; then SET_ADDRESS 5, its status end, SET_CONFIGURATION 1
 abbrev pub start : List ℕ
@@ -76,4 +83,36 @@ oneEnds = runs T setSpot serialSpot configuredImage oneOrder
 -- whatever the other run gives and leaves, it leaves that
 pub otherEnds : {gs : List Given} {last : List ℕ} → Runs T setSpot serialSpot configuredImage otherOrder gs last → lastImage ≡ last
 unfolding computed
-otherEnds r = orderAfterOpening T setSpot serialSpot bytesT refl opens configures imageBytes oneEnds r reordered .0
+otherEnds r = orderAfterOpening T setSpot serialSpot bytesT refl opens configures oneEnds r reordered .0
+
+-- place by place: the packet at 81 stands first in the one and last in the other, and is given the same
+pub own-same : (k : ℕ) → own (whom T configuredImage) k oneOrder ≡ own (whom T configuredImage) k otherOrder
+unfolding computed
+own-same zero = refl
+own-same (suc zero) = refl
+own-same (suc (suc k)) = rw (ne-eqb 0 (suc (suc k)) (λ p. omega arith), ne-eqb 1 (suc (suc k)) (λ p. omega arith)) refl
+
+abbrev pub moved : Permuted (whom T configuredImage) oneOrder otherOrder
+moved = places-own oneOrder otherOrder own-same
+
+pub samePlace : {gs : List Given} {last : List ℕ} → Runs T setSpot serialSpot configuredImage otherOrder gs last
+    → getElem? gs (moved .to 0) ≡ some (number 0)
+unfolding computed
+samePlace r = orderPlaces T setSpot serialSpot bytesT acceptedT configuredFit oneEnds r refl moved .1 0 (number 0) refl
+
+-- ---- one driver does not notice the other: from the opening on, without interface 0's packet at 81 interface 1 is given the same
+abbrev pub wholeRun : List Call
+wholeRun = configuring ++ oneOrder
+
+abbrev pub leftRun : List Call
+leftRun = configuring ++ setup (bytes 8 0x010B010001000000) ∷ tell (halt 0x85) ∷ []
+
+pub struckOut : kept T setSpot serialSpot 1 freshImage wholeRun ≡ leftRun
+unfolding computed
+struckOut = refl
+
+pub unnoticedByOne : {gs others : List Given} {last other : List ℕ} → (r : Runs T setSpot serialSpot freshImage wholeRun gs last)
+    → Runs T setSpot serialSpot freshImage leftRun others other
+    → (keptOf T setSpot serialSpot 1 r ≡ told leftRun others) × Alike T setSpot serialSpot 1 last other
+unfolding computed
+unnoticedByOne = unnoticed T setSpot serialSpot 1 bytesT {start = start} refl opens

@@ -1,6 +1,12 @@
 pub mod Exports
 pub mod Decided
+pub mod Opening
 pub mod Runs
+pub mod Transfers
 pub mod Order
+pub mod Places
+pub mod Unnoticed
+pub mod Records
 pub mod InhabitedRuns
 pub mod Idle
+pub mod InhabitedExports

@@ -1,5 +1,5 @@
 -- Demand 3 over runs of exported calls: another order of calls that concern different interfaces changes nothing that a call gives and no
--- byte of the image left. Assumes nothing.
+-- byte of the image left. No axiom.
 use Prim.Native.Nat.{ℕ}
 use mathlib.Core.Path.{_≡_, refl, sym, ap, _∙_}
 use mathlib.Core.List.{List, [], _∷_, map, map-map}
@@ -9,7 +9,7 @@ use Rattle.octets.specs.Sentences.{every, only, isSome}
 use Rattle.octets.proofs.Sentences.{every-map}
 use Rattle.sets.specs.Opening.{Board}
 use Rattle.sets.specs.View.{accepted}
-use Rattle.sets.proofs.Sound.{Bytes}
+use Rattle.octets.specs.Octets.{Bytes}
 use Rattle.records.specs.Image.{deviceOf}
 use Rattle.records.specs.Fits.{fitsOn}
 use Rattle.events.specs.declared.Event.{Event}
@@ -18,7 +18,7 @@ use Rattle.order.specs.Run.{run, answers, log}
 use Rattle.promises.specs.Rearranged.{isThis, Rearranged, Values, imageAnswer, imageNext, imageAfter, imageHeard}
 use Rattle.laws.proofs.Picking.{only-map}
 use Rattle.promises.specs.Order.{orderImages}
-use Rattle.promises.specs.Keeps.{reachedFits}
+use Rattle.promises.specs.Keeps.{FitImage, fitImage, reachedFits}
 use Rattle.board.specs.Exports.{Opens, Spot}
 use Rattle.board.specs.Runs.{Call, eventOf, Given, Runs, givenAs, gives, leaves, ran, opening, reached, openedReached}
 
@@ -105,14 +105,14 @@ module _ (b : Board) (set serial : Spot) where
     same = λ k. only-map _ eventOf xs ∙ ap (map eventOf) (r .same k) ∙ sym (only-map _ eventOf ys);
   }
 
-  -- for an accepted board and an image of 32 bytes whose record fits: both runs leave the same image, and each interface's calls are the
-  -- same and are given the same
-  pub order : Bytes (b .set) → accepted b ≡ true → (image : List ℕ) → length image ≡ 32 → Bytes image → fitsOn b (deviceOf image) ≡ true
+  -- for an accepted board and an image that fits: both runs leave the same image, and each interface's calls are the same and are given the
+  -- same. (Place by place: `orderPlaces` of Places.)
+  pub orderFit : Bytes (b .set) → accepted b ≡ true → (image : List ℕ) → FitImage b image
       → {xs ys : List Call} {gs others : List Given} {last other : List ℕ}
       → Runs b set serial image xs gs last → Runs b set serial image ys others other → Reordered b image xs ys
       → (last ≡ other) × ((k : ℕ) → toldTo b image k xs gs ≡ toldTo b image k ys others)
-  order bytes ok image long octets fit {xs} {ys} one two r =
-      let (end, heard) = orderImages b bytes ok image long octets fit (map eventOf xs) (map eventOf ys) (rearranged image xs ys r) in (
+  orderFit bytes ok image f {xs} {ys} one two r =
+      let (end, heard) = orderImages b bytes ok image f (map eventOf xs) (map eventOf ys) (rearranged image xs ys r) in (
         ran b set serial one .1 ∙ run-events image xs ∙ end ∙ sym (ran b set serial two .1 ∙ run-events image ys),
         λ k. own-given image k xs one ∙ ap (map (λ p. (p .0, givenAs b set serial (p .0) (p .1)))) (same-own k (heard k)) ∙ sym (own-given image k ys two),
       )
@@ -126,13 +126,19 @@ module _ (b : Board) (set serial : Spot) where
           (own-calls image k xs ∙ r .same k ∙ sym (own-calls image k ys))
           (sym (seconds k xs) ∙ ap (map (λ (p : Event × Values). p .1)) h ∙ seconds k ys)
 
-  -- so after an opening that gave 0 and any calls: two orders of what follows end the same. (C's set and images are of bytes.)
+  pub order : Bytes (b .set) → accepted b ≡ true → (image : List ℕ) → length image ≡ 32 → Bytes image → fitsOn b (deviceOf image) ≡ true
+      → {xs ys : List Call} {gs others : List Given} {last other : List ℕ}
+      → Runs b set serial image xs gs last → Runs b set serial image ys others other → Reordered b image xs ys
+      → (last ≡ other) × ((k : ℕ) → toldTo b image k xs gs ≡ toldTo b image k ys others)
+  order bytes ok image long octets fit = orderFit bytes ok image (fitImage b image long octets fit)
+
+  -- so after an opening that gave 0 and any calls: two orders of what follows end the same. (C's set is of bytes.)
   pub orderAfterOpening : Bytes (b .set) → {start image now : List ℕ} {cs : List Call} {gs : List Given}
-      → length start ≡ 32 → Opens b start 0 image → Runs b set serial image cs gs now → Bytes now
+      → length start ≡ 32 → Opens b start 0 image → Runs b set serial image cs gs now
       → {xs ys : List Call} {some others : List Given} {last other : List ℕ}
       → Runs b set serial now xs some last → Runs b set serial now ys others other → Reordered b now xs ys
       → (last ≡ other) × ((k : ℕ) → toldTo b now k xs some ≡ toldTo b now k ys others)
-  orderAfterOpening bytes {now = now} l o r octets one two =
+  orderAfterOpening bytes {now = now} l o r one two =
       let ok = opening l o .0 refl in
       let f = reachedFits b bytes ok (reached (openedReached l o) r) in
-      order bytes ok now (f .long) octets (f .fit) one two
+      orderFit bytes ok now f one two

@@ -1,26 +1,27 @@
 -- Runs of exported calls over one 32-byte image: demands 1, 2 and 3 for any device whose calls meet the exports' statements, whatever it is
--- inside. Assumes nothing.
+-- inside. No axiom.
 use Prim.Native.Nat.{ℕ}
 use mathlib.Core.Path.{_≡_, refl, sym, ap, _∙_}
 use mathlib.Core.List.{List, [], _∷_}
 use mathlib.Core.Bool.{true}
-use lib.ListN.{length, replicate}
+use lib.ListN.{length}
 use borrow.Author.Tests.{eq-eqb, ne-eqb, eqb-true}
 use Rattle.sets.specs.Opening.{Board}
 use Rattle.sets.specs.View.{accepted}
-use Rattle.sets.proofs.Sound.{Bytes}
+use Rattle.octets.specs.Octets.{Bytes}
 use Rattle.records.specs.Image.{bytesOfFour, imageOf}
+use Rattle.events.specs.declared.Answer.{Answer}
 use Rattle.events.specs.declared.Event.{Event}
 use Rattle.events.specs.declared.Event.the-variants.{StatusEnd, BusReset, Halt, PacketPassed}
 use Rattle.events.specs.Answer.{Part, numberOf, partOf}
 use Rattle.events.specs.Places.{Inside, bytesIn}
 use Rattle.events.specs.Step.{setupEvent, event, opened}
 use Rattle.order.specs.Run.{run, answers}
-use Rattle.promises.specs.Rearranged.{Values, imageAnswer, imageNext}
-use Rattle.promises.specs.Refusal.{allowsImage, imageLeftBy}
+use Rattle.promises.specs.Rearranged.{Values, valuesOf, imageAnswer, imageNext}
+use Rattle.promises.specs.Refusal.{allowsImage, imageLeftBy, freshImage}
 use Rattle.promises.specs.Refusals.{eventNumber, eventKeeps, eventInside, refusalEmpty}
 use Rattle.promises.specs.Keeps.{Reached, afterOpening, afterEvent, neverEight}
-use Rattle.board.specs.Exports.{Opens, Happens, AnswersSetup, Spot, padded, spotOfPart}
+use Rattle.board.specs.Exports.{Opens, Happens, AnswersSetup, Spot, padded, spotOfPart, numbered, AnswersImage}
 
 -- ---- what an export that answers no setup tells
 pub data Happening : Type 0 where
@@ -31,6 +32,8 @@ pub data Happening : Type 0 where
 pub data Call : Type 0 where
   setup : List ℕ → Call
   tell : Happening → Call
+  -- hk_record_event on the record whose image it is: an event's number, an endpoint, and a setup's bytes
+  recordEvent : ℕ → ℕ → List ℕ → Call
 
 -- the event that it is
 abbrev pub happened : Happening → Event
@@ -42,8 +45,9 @@ happened (packetPassed endpoint) = PacketPassed endpoint
 abbrev pub eventOf : Call → Event
 eventOf (setup bytes) = setupEvent bytes
 eventOf (tell h) = happened h
+eventOf (recordEvent kind endpoint bytes) = numbered kind endpoint bytes
 
--- what it gives back: a number alone, or of a setup the number, the two bytes, how many of them count, the part's bytes and where they lie
+-- what it gives back: a number alone, or of a setup and of hk_record_event the number, the two bytes, how many of them count, the part's bytes and where they lie
 pub data Given : Type 0 where
   number : ℕ → Given
   handed : ℕ → List ℕ → ℕ → List ℕ → Spot → Given
@@ -57,6 +61,9 @@ pub data Meets (b : Board) (setSpot serialSpot : Spot) (image : List ℕ) : Call
   bySetup : {bytes : List ℕ} {n : ℕ} {left handedBack : List ℕ} {count : ℕ} {shown : List ℕ} {spot : Spot}
       → AnswersSetup b setSpot serialSpot image bytes n left handedBack count shown spot → Meets b setSpot serialSpot image (setup bytes) (handed n handedBack count shown spot) left
   byHappening : {h : Happening} {n : ℕ} {left : List ℕ} → Happens b image (happened h) n left → Meets b setSpot serialSpot image (tell h) (number n) left
+  byRecordEvent : {kind endpoint : ℕ} {bytes : List ℕ} {n : ℕ} {left handedBack : List ℕ} {count : ℕ} {shown : List ℕ} {spot : Spot}
+      → AnswersImage b setSpot serialSpot image (numbered kind endpoint bytes) n left handedBack count shown spot
+      → Meets b setSpot serialSpot image (recordEvent kind endpoint bytes) (handed n handedBack count shown spot) left
 
 -- ---- a run: each call meets its statement, and the image that it leaves is lent to the next
 pub data Runs (b : Board) (setSpot serialSpot : Spot) : List ℕ → List Call → List Given → List ℕ → Type 0 where
@@ -66,10 +73,14 @@ pub data Runs (b : Board) (setSpot serialSpot : Spot) : List ℕ → List Call �
 
 -- ---- what the statements say of a call, as functions of the image
 -- document 01's number, bytes and part, as the call hands them out
-abbrev pub givenAs : Board → Spot → Spot → Call → Values → Given
-givenAs b setSpot serialSpot (setup bytes) v =
+abbrev pub handedAs : Board → Spot → Spot → Values → Given
+handedAs b setSpot serialSpot v =
     handed (v .number) (padded (v .bytes)) (length (v .bytes)) (bytesIn (b .set) (b .serial) (v .part)) (spotOfPart setSpot serialSpot (v .part))
+
+abbrev pub givenAs : Board → Spot → Spot → Call → Values → Given
+givenAs b setSpot serialSpot (setup bytes) v = handedAs b setSpot serialSpot v
 givenAs b setSpot serialSpot (tell h) v = number (v .number)
+givenAs b setSpot serialSpot (recordEvent kind endpoint bytes) v = handedAs b setSpot serialSpot v
 
 module _ (b : Board) (setSpot serialSpot : Spot) where
   abbrev pub gives : List ℕ → Call → Given
@@ -86,11 +97,14 @@ module _ (b : Board) (setSpot serialSpot : Spot) where
   pub met : {image : List ℕ} {c : Call} {g : Given} {left : List ℕ} → Meets b setSpot serialSpot image c g left → (g ≡ gives image c) × (left ≡ leaves image c)
   met (bySetup r) = let h = r .answers in (hand (h .number) (h .hands) (h .counts) (h .shows) (h .lies), r .leaves)
   met (byHappening h) = (ap number (h .number), h .leaves)
+  met (byRecordEvent r) = let h = r .answers in (hand (h .number) (h .hands) (h .counts) (h .shows) (h .lies), r .leaves)
 
   -- and what gives and leaves this meets it
   pub meets : (image : List ℕ) (c : Call) → Meets b setSpot serialSpot image c (gives image c) (leaves image c)
   meets image (setup bytes) = bySetup (record { leaves = refl; answers = record { number = refl; hands = refl; counts = refl; shows = refl; lies = refl } })
   meets image (tell h) = byHappening (record { number = refl; leaves = refl })
+  meets image (recordEvent kind endpoint bytes) =
+      byRecordEvent (record { leaves = refl; answers = record { number = refl; hands = refl; counts = refl; shows = refl; lies = refl } })
 
   -- ---- so a run is the run of its events: from every image, every list of calls has a run, and one alone
   pub ran : {image : List ℕ} {cs : List Call} {gs : List Given} {last : List ℕ} → Runs b setSpot serialSpot image cs gs last
@@ -140,19 +154,25 @@ pub record Refuses (b : Board) (setSpot serialSpot : Spot) (image : List ℕ) (c
   pub inside : LiesInside b setSpot serialSpot g
 
 module _ (b : Board) (setSpot serialSpot : Spot) where
-  number-of : (image : List ℕ) (c : Call) → numberGiven (gives b setSpot serialSpot image c) ≡ numberOf (event b image (eventOf c) .answer)
+  pub number-of : (image : List ℕ) (c : Call) → numberGiven (gives b setSpot serialSpot image c) ≡ numberOf (event b image (eventOf c) .answer)
   number-of image (setup bytes) = refl
   number-of image (tell h) = refl
+  number-of image (recordEvent kind endpoint bytes) = refl
+
+  empty-handed : (a : Answer) → (numberOf a ≡ 0 → ⊥) → NothingHanded (handedAs b setSpot serialSpot (valuesOf a))
+  empty-handed a z = let (p, q) = refusalEmpty a z in (ap padded p, ap length p, ap (bytesIn (b .set) (b .serial)) q)
 
   nothing-handed : (image : List ℕ) (c : Call) → (numberOf (event b image (eventOf c) .answer) ≡ 0 → ⊥) → NothingHanded (gives b setSpot serialSpot image c)
-  nothing-handed image (setup bytes) z =
-      let (p, q) = refusalEmpty (event b image (setupEvent bytes) .answer) z in
-      (ap padded p, ap length p, ap (bytesIn (b .set) (b .serial)) q)
+  nothing-handed image (setup bytes) z = empty-handed (event b image (setupEvent bytes) .answer) z
   nothing-handed image (tell h) z = tt
+  nothing-handed image (recordEvent kind endpoint bytes) z = empty-handed (event b image (numbered kind endpoint bytes) .answer) z
 
   lies-inside : (image : List ℕ) (c : Call) → LiesInside b setSpot serialSpot (gives b setSpot serialSpot image c)
   lies-inside image (setup bytes) = (partOf (event b image (setupEvent bytes) .answer), eventInside b image (setupEvent bytes), refl, refl)
   lies-inside image (tell h) = tt
+  lies-inside image (recordEvent kind endpoint bytes) =
+      let e = numbered kind endpoint bytes in
+      (partOf (event b image e .answer), eventInside b image e, refl, refl)
 
   pub callRefuses : {image : List ℕ} {c : Call} {g : Given} {left : List ℕ} → Meets b setSpot serialSpot image c g left → Refuses b setSpot serialSpot image c g left
   callRefuses {image} {c} m =
@@ -170,10 +190,6 @@ module _ (b : Board) (setSpot serialSpot : Spot) where
   refusals (calls m r) = (callRefuses m, refusals r)
 
 -- ---- demand 2
--- "Fresh: all zero but byte 2 = 255."
-abbrev pub freshImage : List ℕ
-freshImage = 0 ∷ 0 ∷ 255 ∷ replicate 29 0
-
 -- opening gives 0 exactly for a board that is accepted, and leaves the fresh record either way
 pub opening : {b : Board} {image : List ℕ} {n : ℕ} {left : List ℕ} → length image ≡ 32 → Opens b image n left
     → (n ≡ 0 → accepted b ≡ true) × (accepted b ≡ true → n ≡ 0) × (left ≡ freshImage)

@@ -1,4 +1,4 @@
--- An event that concerns k or nobody: records that k cannot tell apart get the same answer and stay so. Assumes nothing.
+-- An event that concerns k or nobody: records that k cannot tell apart get the same answer and stay so. No axiom.
 use Prim.Native.Nat.{ℕ, _+_, _*_, _/_, _%_, _≤_, _<_}
 use native.Mathlib.Omega.{arith}
 use mathlib.Core.Path.{_≡_, refl, sym, ap, _∙_}
@@ -31,7 +31,7 @@ use Rattle.events.specs.Answer.{gives, refused}
 use Rattle.events.specs.Requests.{byRecipient, getStatus, endpointStatus, isEndpointZero, digit, deviceFeature, interfaceFeature, haltFeature, endpointFeature, clearHalt, setHalt, clearFeature, setFeature, setAddress, setPart, isEntry, languageFor, getDescriptor, getConfiguration, setConfiguration, getInterface, withSetting, setInterface}
 use Rattle.events.specs.Step.{request, answerSetup, statusEnd, haltAt, halt, passAt, packetPassed, respond}
 use Rattle.events.specs.Concerns.{setupConcerns, eventConcerns}
-use Rattle.sets.proofs.Sound.{SoundConfiguration}
+use Rattle.sets.specs.Sound.{SoundConfiguration}
 use Rattle.laws.specs.Parts.{home, Shared, shared, SameIn, rest, withCommon}
 use Rattle.laws.proofs.Same.{self}
 use Rattle.laws.proofs.Homes.{AllIn, all-in, found-home, found-alike, set-both, clear-both, flip-both, cleared-both}

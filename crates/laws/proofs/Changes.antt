@@ -1,4 +1,4 @@
--- A fitting record keeps fitting under every kind of outcome. Assumes nothing.
+-- A fitting record keeps fitting under every kind of outcome. No axiom.
 use Prim.Native.Nat.{ℕ, _^_, _≤_, _<_}
 use native.Mathlib.Omega.{arith}
 use mathlib.Core.Path.{_≡_, refl, ap}
@@ -16,14 +16,13 @@ use Rattle.descriptors.specs.declared.Endpoint.{Endpoint}
 use Rattle.descriptors.specs.Configuration.{hasSetting, canHalt, bitOf}
 use Rattle.sets.specs.View.{View, wakes}
 use Rattle.records.specs.declared.Device.{Device}
-use Rattle.records.specs.Device.{inDefault, inAddress, inConfigured, nothing, zeros, fresh, settled, withWaiting, withWakeup, withAddress, withConfiguration, withEndpoints}
+use Rattle.records.specs.Device.{inDefault, inAddress, inConfigured, nothing, zeros, fresh, settled, withWaiting, withWakeup, withAddress, withConfiguration, withEndpoints, Sized}
 use Rattle.records.specs.Current.{selected, currentEndpoints}
 use Rattle.records.specs.Fits.{standsAt}
-use Rattle.records.proofs.Image.{Sized}
 use Rattle.events.specs.declared.Event.{Event}
 use Rattle.events.specs.declared.Outcome.{Outcome}
 use Rattle.events.specs.Requests.{clearHalt, setHalt, withSetting}
-use Rattle.sets.proofs.Sound.{Sound}
+use Rattle.sets.specs.Sound.{Sound}
 use Rattle.laws.proofs.Fitting.{Ranges, Stated, atDefault, atAddress, atConfigured, Common, Stands, Fitting}
 use Rattle.laws.specs.Parts.{Shared, shared, rest, withCommon}
 use Rattle.laws.proofs.Keeping.{none-stand, stand-changed, bit-below, zeros-good, set-good, set-stands, set-sized}

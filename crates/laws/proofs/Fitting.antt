@@ -1,4 +1,4 @@
--- A record that fits, rule by rule: what `fits` says, in parts that a change can be followed through. Assumes nothing.
+-- A record that fits, rule by rule: what `fits` says, in parts that a change can be followed through. No axiom.
 use Prim.Native.Nat.{ℕ, _≤_}
 use native.Mathlib.Omega.{arith}
 use native.Mathlib.Decide.{ℕ-discrete}

@@ -1,5 +1,5 @@
 -- No two interfaces of a configuration share an address: so an address, its bit in the record and its current endpoint belong to one
--- interface. Assumes nothing.
+-- interface. No axiom.
 use Prim.Native.Nat.{ℕ, _+_, _*_, _/_, _%_}
 use native.Mathlib.Omega.{arith}
 use native.Mathlib.Nat.{div-div-eq-div-mul}
@@ -21,7 +21,7 @@ use Rattle.descriptors.specs.Descriptor.{goodAddress}
 use Rattle.descriptors.specs.Interfaces.{apart}
 use Rattle.descriptors.specs.Configuration.{Configuration, isCurrent, currentOf, addressed, bitOf, cleared}
 use Rattle.events.specs.Concerns.{listedBy}
-use Rattle.sets.proofs.Sound.{SoundConfiguration}
+use Rattle.sets.specs.Sound.{SoundConfiguration}
 use Rattle.laws.specs.Parts.{homeIn, orNobody}
 
 eqb-turn : (a b : ℕ) → eqb a b ≡ eqb b a

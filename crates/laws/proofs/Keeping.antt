@@ -1,4 +1,4 @@
--- How the rules of a fitting record fare under each change that an event makes. Assumes nothing.
+-- How the rules of a fitting record fare under each change that an event makes. No axiom.
 use Prim.Native.Nat.{ℕ, _^_, _<_}
 use native.Mathlib.Omega.{arith}
 use native.Mathlib.Decide.{ℕ-discrete}
@@ -20,12 +20,11 @@ use Rattle.descriptors.specs.declared.Endpoint.{Endpoint}
 use Rattle.descriptors.specs.Configuration.{Configuration, hasInterface, hasSetting, isCurrent, canHalt, bitOf, cleared, ofEither}
 use Rattle.sets.specs.View.{View, unconfigured, orNone}
 use Rattle.records.specs.declared.Device.{Device}
-use Rattle.records.specs.Device.{zeros}
+use Rattle.records.specs.Device.{zeros, Sized}
 use Rattle.records.specs.Current.{selected, currentEndpoints}
 use Rattle.records.specs.Fits.{goodAlternates, standsAt}
-use Rattle.records.proofs.Image.{Sized}
 use Rattle.events.specs.Requests.{withSetting}
-use Rattle.sets.proofs.Sound.{SoundConfiguration, Sound}
+use Rattle.sets.specs.Sound.{SoundConfiguration, Sound}
 use Rattle.laws.proofs.Fitting.{Fitting}
 
 -- ---- words of bits

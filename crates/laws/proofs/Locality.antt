@@ -1,6 +1,6 @@
 -- Locality, for every event: one that concerns interface k takes its answer and k's next part from k's part and the shared fields, leaves
 -- every other interface's part, and changes the rest only by dropping what waits; one that concerns nobody answers alike, and leaves
--- alike, records that k cannot tell apart and whose rest is the same. Assumes nothing.
+-- alike, records that k cannot tell apart and whose rest is the same. No axiom.
 use Prim.Native.Nat.{ℕ, _≤_}
 use native.Mathlib.Omega.{arith}
 use mathlib.Core.Path.{_≡_, refl, sym, ap, subst, _∙_}
@@ -24,7 +24,7 @@ use Rattle.events.specs.declared.Outcome.{Outcome}
 use Rattle.events.specs.Step.{respond}
 use Rattle.events.specs.Concerns.{Subject, aSetup, anEndpoint, theDevice, subjectOf, subjectConcerns, eventConcerns, concerns, concernsOn}
 use Rattle.order.specs.Owners.{Owners}
-use Rattle.sets.proofs.Sound.{Sound}
+use Rattle.sets.specs.Sound.{Sound}
 use Rattle.laws.proofs.Fitting.{unwaiting, unselected}
 use Rattle.laws.proofs.Keeping.{soundSelected}
 use Rattle.laws.specs.Parts.{Good, orNobody, Shared, shared, Same, rest, owned, who, Settling, keeps, settles, settledBy, kind, settle}

@@ -1,5 +1,5 @@
 -- Every outcome of an event on a record that fits, by kind, with what is known where it comes about: the one walk over the events and
--- requests from which the promises about the step are proved. Assumes nothing.
+-- requests from which the promises about the step are proved. No axiom.
 use Prim.Native.Nat.{ℕ, _≤_, min, _/_, _%_}
 use mathlib.Core.Path.{_≡_, refl, _∙_}
 use mathlib.Core.List.{[], _∷_, List·Memᴰ}

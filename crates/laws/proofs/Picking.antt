@@ -1,4 +1,4 @@
--- Picking out an interface's events: the two ways to say it are one, and it goes through a map. Assumes nothing.
+-- Picking out an interface's events: the two ways to say it are one, and it goes through a map. No axiom.
 use Prim.Native.Nat.{ℕ, zero, suc}
 use mathlib.Core.Path.{_≡_, refl, sym, ap, _∙_}
 use mathlib.Core.Bool.{Bool, true, false, false≢true}

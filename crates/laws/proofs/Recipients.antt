@@ -1,4 +1,4 @@
--- The row that lets a setup through, and the recipients of the table's requests: 05, 06, 08 and 09 are a device's, 00, 01 and 03 anybody's, 0A and 0B an interface's. Assumes nothing.
+-- The row that lets a setup through, and the recipients of the table's requests: 05, 06, 08 and 09 are a device's, 00, 01 and 03 anybody's, 0A and 0B an interface's. No axiom.
 use Prim.Native.Nat.{ℕ, _%_, _≤_}
 use native.Mathlib.Omega.{arith}
 use mathlib.Core.Path.{_≡_, refl, sym, ap, _∙_}

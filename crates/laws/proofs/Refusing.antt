@@ -1,4 +1,4 @@
--- What each kind of outcome leaves, hands back and lays into a slice. Assumes nothing.
+-- What each kind of outcome leaves, hands back and lays into a slice. No axiom.
 use Prim.Native.Nat.{ℕ, _≤_}
 use native.Mathlib.Omega.{arith}
 use mathlib.Core.Path.{_≡_, refl, sym, ap, _∙_}

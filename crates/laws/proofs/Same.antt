@@ -1,5 +1,5 @@
 -- The laws of the record's parts: `SameIn` and `Same` are equivalences, a record that fits is its parts and its rest (`whole`), and settling leaves every
--- interface's part, may be done again and may change places. Assumes nothing.
+-- interface's part, may be done again and may change places. No axiom.
 use Prim.Native.Nat.{ℕ}
 use mathlib.Core.Path.{_≡_, refl, sym, ap, subst, _∙_}
 use lib.Seq.{ext-getD}
@@ -8,7 +8,7 @@ use Rattle.sets.specs.Opening.{Board}
 use Rattle.sets.specs.View.{View}
 use Rattle.records.specs.declared.Device.{Device}
 use Rattle.records.specs.Current.{viewFor, viewAt}
-use Rattle.records.proofs.Image.{Sized}
+use Rattle.records.specs.Device.{Sized}
 use Rattle.laws.specs.Parts.{Shared, shared, home, SameIn, Same, rest, Settling, keeps, settles, settledBy, settle}
 
 -- ---- the laws of Same

@@ -1,4 +1,4 @@
--- An event that concerns interface j changes j's part alone, once it has settled what it settles. Assumes nothing.
+-- An event that concerns interface j changes j's part alone, once it has settled what it settles. No axiom.
 use Prim.Native.Nat.{ℕ}
 use native.Mathlib.Omega.{arith}
 use mathlib.Core.Path.{_≡_, refl, sym, ap, _∙_}
@@ -29,7 +29,7 @@ use Rattle.events.specs.declared.Event.the-variants.{Request, Malformed, Status
 use Rattle.events.specs.Requests.{getStatus, endpointStatus, isEndpointZero, interfaceFeature, haltFeature, endpointFeature, clearHalt, setHalt, clearFeature, setFeature, getInterface, withSetting, setInterface}
 use Rattle.events.specs.Step.{request, answerSetup, haltAt, halt, passAt, packetPassed, respond}
 use Rattle.events.specs.Concerns.{listedBy, setupConcerns, eventConcerns}
-use Rattle.sets.proofs.Sound.{SoundConfiguration}
+use Rattle.sets.specs.Sound.{SoundConfiguration}
 use Rattle.laws.specs.Parts.{home, homeIn, shared, SameIn, rest, settledBy, kind}
 use Rattle.laws.proofs.Same.{self}
 use Rattle.laws.proofs.Outcomes.{chosen}

@@ -12,10 +12,9 @@ use Rattle.descriptors.specs.Configuration.{Configuration, bitOf}
 use Rattle.sets.specs.Opening.{Board}
 use Rattle.sets.specs.View.{View, byValue}
 use Rattle.records.specs.declared.Device.{Device}
-use Rattle.records.specs.Device.{fresh, settled}
+use Rattle.records.specs.Device.{fresh, settled, Sized}
 use Rattle.records.specs.Current.{viewAt}
 use Rattle.records.specs.Fits.{fitsOn}
-use Rattle.records.proofs.Image.{Sized}
 use Rattle.events.specs.declared.Event.{Event}
 use Rattle.events.specs.declared.Answer.{Answer}
 use Rattle.events.specs.Concerns.{Subject, aSetup, anEndpoint, theDevice, subjectOf, concernsOn}

@@ -1,9 +1,9 @@
 -- Working definitions for the contracts of what writes lines into a buffer; no promise cites them.
 use Prim.Native.Nat.{ℕ, _+_, _/_, _%_, _≤_}
 use mathlib.Core.Path.{_≡_}
-use mathlib.Core.List.{List, [], _∷_, _++_, flatMap}
+use mathlib.Core.List.{List, [], _∷_, flatMap}
 use mathlib.Core.Bool.{Bool}
-use lib.ListN.{length, take, drop}
+use lib.ListN.{length}
 use lib.Seq.{sets}
 use lib.Dec.{leb}
 use Rattle.octets.specs.Sentences.{pick, _⇒_}
@@ -12,17 +12,13 @@ use Rattle.descriptors.specs.Configuration.{behind, goodConfiguration}
 use Rattle.descriptors.specs.Limits.{fullSpeed}
 use Rattle.sets.specs.declared.Entry.{Entry}
 use Rattle.sets.specs.Contents.{isKind, bodyOf}
-use Rattle.sets.specs.Opening.{Board}
 use Rattle.descriptors.specs.Descriptor.{isInterface, isEndpoint, bInterfaceNumber, bAlternateSetting, bNumEndpoints}
-use Rattle.listing.specs.Listing.{line, endpointLine, configurationLines, listing}
+use Rattle.listing.specs.Listing.{line, endpointLine, configurationLines}
+pub use Rattle.listing.specs.Listed.{room, Listed}
 
 -- a buffer has room for a text at a place
 abbrev pub Room : List ℕ → ℕ → List ℕ → Type 0
 Room out at text = at + length text ≤ length out
-
--- the room that the text of any set needs: three bytes for each of the longest set's 16,384
-abbrev pub room : ℕ
-room = 49152
 
 -- a text was written at a place: the buffer after it, every other byte as it was, and where the text ends
 pub record Wrote (out : List ℕ) (at : ℕ) (text : List ℕ) (after : List ℕ) (end : ℕ) : Type 0 where
@@ -49,11 +45,3 @@ entryLines set e = pick (isKind 2 e) (configurationLines (bodyOf set e)) []
 
 abbrev pub goodListed : List ℕ → Entry → Bool
 goodListed set e = isKind 2 e ⇒ goodConfiguration fullSpeed (bodyOf set e)
-
--- what listing leaves: the text at the buffer's start, the rest of the buffer as it was, and the text's length
-pub record Listed (b : Board) (out after : List ℕ) (size : ℕ) : Type 0 where
-  pub text : after ≡ listing b ++ drop (length (listing b)) out
-  pub end : size ≡ length (listing b)
-  -- so the text can be lent on as a part of the buffer
-  pub inside : size ≤ length after
-  pub whole : size ≡ length (take size after)

@@ -5,3 +5,4 @@ pub mod Places
 pub mod Parts
 pub mod Strike
 pub mod Owners
+pub mod Beside

@@ -1,5 +1,5 @@
 -- Order, from the square law alone: if two neighbouring events of different owners may change places, then any two runs in which
--- each owner has the same events in the same order end at the same record and give each event the same answer. Assumes nothing.
+-- each owner has the same events in the same order end at the same record and give each event the same answer. No axiom.
 use Prim.Native.Nat.{ℕ}
 use mathlib.Core.Path.{_≡_, refl, sym, ap, _∙_}
 use mathlib.Core.List.{List, _∷_}

@@ -2,7 +2,7 @@
 -- `ordered`: from a good record, a run of events that each have an owner there, in any other order that keeps each owner's events in theirs;
 -- `ordered-places`: the same with the other order given place by place;
 -- `unnoticed-by`: any run, and the events of every owner but k struck out.
--- Assumes nothing.
+-- No axiom.
 use Prim.Native.Nat.{ℕ, suc}
 use native.Mathlib.Omega.{arith}
 use mathlib.Core.Path.{_≡_, refl, sym, _∙_}
@@ -36,7 +36,7 @@ cases true f g = f refl
 cases false f g = g refl
 
 -- the good records at which every event has the owner that it has at a
-abbrev Like : {R E : Type 0} → (R → Type 0) → (R → E → Bool) → (R → E → ℕ) → R → R → Type 0
+abbrev pub Like : {R E : Type 0} → (R → Type 0) → (R → E → Bool) → (R → E → ℕ) → R → R → Type 0
 Like {E = E} Good owned who a r = Good r × ((e : E) → owned r e ≡ owned a e) × ((e : E) → who r e ≡ who a e)
 
 module _ {R E A W M : Type 0} {answer : R → E → A} {next : R → E → R} {Good : R → Type 0} {owned : R → E → Bool} {who : R → E → ℕ}
@@ -66,10 +66,10 @@ module _ {R E A W M : Type 0} {answer : R → E → A} {next : R → E → R} {G
     whole = λ r s g d h w. P .whole r s (g .0) (d .0) h w;
   }
 
-  square-at : (a : R) → Square answer next (λ e. owned a e ≡ true) (who a) (Like Good owned who a)
+  pub square-at : (a : R) → Square answer next (λ e. owned a e ≡ true) (who a) (Like Good owned who a)
   square-at a = square-of (parts-at a)
 
-  like-self : (a : R) → Good a → Like Good owned who a a
+  pub like-self : (a : R) → Good a → Like Good owned who a a
   like-self a g = (g, λ e. refl, λ e. refl)
 
   pub ordered : (r : R) → Good r → (xs ys : List E) → All (λ e. owned r e ≡ true) xs → ((k : ℕ) → own (who r) k xs ≡ own (who r) k ys)
@@ -83,7 +83,7 @@ module _ {R E A W M : Type 0} {answer : R → E → A} {next : R → E → R} {G
   ordered-places r g xs ys ok w = order-places (square-at r) r (like-self r g) xs ys ok w
 
   -- ---- events struck out
-  unwinding-by : (k : ℕ) → Unwinding answer next Good (others owned who k) (Idle answer rest kind settle) (λ r s. Same k r s × (rest r ≡ rest s))
+  pub unwinding-by : (k : ℕ) → Unwinding answer next Good (others owned who k) (Idle answer rest kind settle) (λ r s. Same k r s × (rest r ≡ rest s))
   unwinding-by k = record {
     keeps = P .keeps;
     unseen = λ r s e g d p f h.

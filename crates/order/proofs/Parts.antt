@@ -1,6 +1,6 @@
 -- The square law from the form of the law that lasts: each owner has a part of the record; an event takes its answer and its owner's
 -- next part from its owner's part and from what no considered event changes, leaves every other part, and changes what is left
--- over, the rest, only by a settling that may stand anywhere. Assumes nothing.
+-- over, the rest, only by a settling that may stand anywhere. No axiom.
 use Prim.Native.Nat.{ℕ}
 use native.Mathlib.Decide.{ℕ-discrete}
 use mathlib.Core.Path.{_≡_, sym, _∙_}

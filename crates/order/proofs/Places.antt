@@ -1,5 +1,5 @@
 -- Another order, said by places: event by event the answers are the same, at place i of the one run and at place `to i` of the other.
--- `Permuted` is a Shuffle (`shuffle-of`) and back (`places-of`), so the three ways to say "another order" are one. Assumes nothing.
+-- `Permuted` is a Shuffle (`shuffle-of`) and back (`places-of`), so the three ways to say "another order" are one. No axiom.
 use Prim.Native.Nat.{ℕ, zero, suc, pred, _<_, _≤_}
 use native.Mathlib.Omega.{arith}
 use mathlib.Core.Path.{_≡_, refl, sym, ap, _∙_}

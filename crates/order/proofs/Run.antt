@@ -1,4 +1,4 @@
--- An owner's events with one event more, and two systems that run beside each other. Assumes nothing.
+-- An owner's events with one event more, and two systems that run beside each other. No axiom.
 use Prim.Native.Nat.{ℕ}
 use mathlib.Core.Path.{_≡_, refl, ap}
 use mathlib.Core.List.{List, [], _∷_, map}

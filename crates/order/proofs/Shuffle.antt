@@ -1,7 +1,7 @@
 -- Another order of a run that keeps each owner's own events in their order, said twice, and the two proved to be one.
 -- (1) By exchanges: `Shuffle who xs ys`, made of exchanges of two neighbours with different owners.
 -- (2) By sublists: for each owner k the events of k are the same list in both, `own who k xs ≡ own who k ys`.
--- `own-shuffle` is (1) to (2), `sort` is (2) to (1). Assumes nothing.
+-- `own-shuffle` is (1) to (2), `sort` is (2) to (1). No axiom.
 use Prim.Native.Nat.{ℕ}
 use native.Mathlib.Omega.{arith}
 use native.Mathlib.Decide.{ℕ-discrete}

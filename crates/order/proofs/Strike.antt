@@ -1,6 +1,6 @@
 -- One owner must not notice the others: strike events out of a run, and every event left gets the same answer, and what is looked at
 -- ends the same. From an unwinding pair: a struck event changes nothing of what is looked at; every other event gives equal answers,
--- and equal looks, from records that look the same. Assumes nothing.
+-- and equal looks, from records that look the same. No axiom.
 use mathlib.Core.Path.{_≡_, refl}
 use mathlib.Core.List.{List, [], _∷_}
 use mathlib.Core.Bool.{Bool, true, false, not}

@@ -12,19 +12,22 @@ use Rattle.octets.proofs.Sentences.{both}
 use Rattle.sets.specs.Opening.{Board}
 use Rattle.sets.specs.View.{viewOf, accepted}
 use Rattle.records.specs.declared.Device.{Device}
-use Rattle.records.specs.Device.{nothing, zeros, fresh, withWaiting, withEndpoints}
-use Rattle.records.specs.Fits.{fits, fitsOn}
-use Rattle.records.proofs.Image.{Sized}
+use Rattle.records.specs.Device.{nothing, zeros, fresh, withWaiting, withEndpoints, Sized}
+use Rattle.records.specs.Fits.{fitsOn}
 use Rattle.events.specs.declared.Event.{Event}
 use Rattle.events.specs.declared.Event.the-variants.{StatusEnd, BusReset, Halt}
 use Rattle.events.specs.declared.Answer.the-variants.{Refused, SetPart, SerialPart}
 use Rattle.events.specs.Answer.{numberOf, bytesOf, partOf}
 use Rattle.events.specs.Step.{step, event, opened, setupEvent}
+use Rattle.requests.specs.Setup.{setupOf}
+use Rattle.packets.specs.Packets.{canCut}
 use Rattle.promises.specs.Examples.{bytes, computed, S, T}
-use Rattle.sets.proofs.Sound.{Bytes, Sound}
-use Rattle.sets.proofs.Acceptance.{sound}
+use Rattle.octets.specs.Octets.{Bytes}
+use Rattle.sets.specs.Sound.{Sound}
+use Rattle.promises.specs.Sound.{sound}
 use Rattle.promises.specs.Keeps.{FitImage, Reached, afterOpening, afterEvent, stepFits, openedFits, reachedFits}
 use Rattle.promises.specs.Refusals.{stepKeeps, stepKeepsAll, eventKeeps, refusalEmpty}
+use Rattle.promises.specs.Replies.{replyCuts}
 use Rattle.promises.specs.Refusal.{leftBy, imageLeftBy, emptyPart}
 
 -- ---- the bench set S, and the titrator T
@@ -190,3 +193,8 @@ calmedFits = rw setsInterface at (stepFits T bytesT acceptedT busy (setupEvent (
 pub serialPart : step T fresh (setupEvent (bytes 8 0x800603030904FF00)) .answer ≡ SerialPart 4
 unfolding computed
 serialPart = refl
+
+-- ---- replyCuts: what S answers to GET_DESCRIPTOR(device), asked with 64, can be cut into packets of its bMaxPacketSize0, 8
+pub deviceCuts : canCut 18 64 8 ≡ true
+unfolding computed
+deviceCuts = replyCuts S fresh (setupOf (bytes 8 0x8006000100004000)) acceptedS

@@ -26,8 +26,9 @@ use Rattle.order.specs.Places.{Permuted}
 use Rattle.order.specs.Strike.{strike, left}
 use Rattle.order.specs.Owners.{Owners}
 use Rattle.promises.specs.Examples.{bytes, computed, T}
-use Rattle.sets.proofs.Sound.{Bytes}
+use Rattle.octets.specs.Octets.{Bytes}
 use Rattle.promises.specs.Inhabited.{octets, acceptedT, bytesT, configured, configuredSized}
+use Rattle.promises.specs.Keeps.{FitImage, fitImage}
 use Rattle.laws.specs.Parts.{Good, orNobody, Same, rest, owned, who, kind, settle}
 use Rattle.promises.specs.Rearranged.{isThis, eventsOf, Rearranged, answerOf, nextOf, after, answered, heard, Values, imageAfter, imageAnswered, imageHeard}
 use Rattle.promises.specs.Order.{places, placed, stepLocality, order, orderPlaces, orderImages, orderImagesPlaces, concernsThroughout, struckFor, unnoticed}
@@ -149,15 +150,19 @@ pub imageFits : fitsOn T (deviceOf configuredImage) ≡ true
 unfolding computed
 imageFits = refl
 
+-- 32 bytes, of a record that fits
+pub configuredFit : FitImage T configuredImage
+configuredFit = fitImage T configuredImage refl imageBytes imageFits
+
 pub imageRearranged : Rearranged T (deviceOf configuredImage) oneOrder otherOrder
 unfolding computed
 imageRearranged = rearranged
 
 pub sameImage : imageAfter T configuredImage oneOrder ≡ imageAfter T configuredImage otherOrder
-sameImage = orderImages T bytesT acceptedT configuredImage refl imageBytes imageFits oneOrder otherOrder imageRearranged .0
+sameImage = orderImages T bytesT acceptedT configuredImage configuredFit oneOrder otherOrder imageRearranged .0
 
 pub sameValues : (k : ℕ) → imageHeard T configuredImage k oneOrder ≡ imageHeard T configuredImage k otherOrder
-sameValues = orderImages T bytesT acceptedT configuredImage refl imageBytes imageFits oneOrder otherOrder imageRearranged .1
+sameValues = orderImages T bytesT acceptedT configuredImage configuredFit oneOrder otherOrder imageRearranged .1
 
 abbrev imageMoved : Permuted (who T (deviceOf configuredImage)) oneOrder otherOrder
 imageMoved = places T (deviceOf configuredImage) oneOrder otherOrder imageRearranged
@@ -165,7 +170,7 @@ imageMoved = places T (deviceOf configuredImage) oneOrder otherOrder imageRearra
 pub sameValuesPlace : (i : ℕ) (a : Values) → getElem? (imageAnswered T configuredImage oneOrder) i ≡ some a
     → getElem? (imageAnswered T configuredImage otherOrder) (imageMoved .to i) ≡ some a
 sameValuesPlace =
-    orderImagesPlaces T bytesT acceptedT configuredImage refl imageBytes imageFits oneOrder otherOrder (imageRearranged .one) imageMoved .1
+    orderImagesPlaces T bytesT acceptedT configuredImage configuredFit oneOrder otherOrder (imageRearranged .one) imageMoved .1
 
 pub theImage : imageAfter T configuredImage otherOrder
     ≡ 2 ∷ 5 ∷ 255 ∷ 1 ∷ 0 ∷ 0 ∷ 0 ∷ 0 ∷ 0 ∷ 1 ∷ replicate 14 0 ++ 0 ∷ 0 ∷ 34 ∷ 0 ∷ 0 ∷ 0 ∷ 2 ∷ 0 ∷ []

@@ -1,8 +1,8 @@
 -- A record keeps fitting: after opening, and after every event from a fitting record, for every accepted set and serial block.
--- So 8 never follows from the library's own calls. Assumes nothing.
+-- So 8 never follows from the library's own calls. No axiom.
 use Prim.Native.Nat.{ℕ}
 use native.Mathlib.Omega.{arith}
-use mathlib.Core.Path.{_≡_, sym, _∙_}
+use mathlib.Core.Path.{_≡_, sym, ap, _∙_}
 use mathlib.Core.List.{List}
 use mathlib.Core.Bool.{true, false, _||_, false≢true}
 use lib.ListN.{length}
@@ -12,16 +12,16 @@ use Rattle.octets.proofs.Sentences.{cases}
 use Rattle.sets.specs.Opening.{Board}
 use Rattle.sets.specs.View.{viewOf, accepted}
 use Rattle.records.specs.declared.Device.{Device}
-use Rattle.records.specs.Device.{fresh}
+use Rattle.records.specs.Device.{fresh, Sized}
 use Rattle.records.specs.Image.{deviceOf, imageOf}
 use Rattle.records.specs.Fits.{fitsOn}
-use Rattle.records.proofs.Image.{Sized, device-image, image-length}
+use Rattle.records.proofs.Image.{device-image, image-device, image-length, device-sized}
 use Rattle.events.specs.declared.Event.{Event}
 use Rattle.events.specs.declared.Event.the-variants.{Request, Malformed, StatusEnd, BusReset, Halt, PacketPassed}
 use Rattle.events.specs.Answer.{numberOf}
 use Rattle.events.specs.Step.{respond, step, event, opened}
-use Rattle.sets.proofs.Sound.{Bytes}
-use Rattle.sets.proofs.Acceptance.{sound}
+use Rattle.octets.specs.Octets.{Bytes}
+use Rattle.promises.specs.Sound.{sound}
 use Rattle.laws.proofs.Outcomes.{responded}
 use Rattle.promises.specs.Refusal.{refuses}
 use Rattle.promises.specs.Refusals.{stepNumber}
@@ -29,11 +29,15 @@ use Rattle.laws.proofs.Fitting.{fitting, fitted}
 use Rattle.laws.proofs.Changes.{Fit, freshFits, respondedFits}
 
 -- ---- what the statements say
--- an image of 32 bytes, of a record that fits
+-- an image of 32 bytes, of a record that fits; it is that record's image (C's 32 bytes always are: `fitImage`)
 pub record FitImage (b : Board) (image : List ℕ) : Type 0 where
   pub long : length image ≡ 32
   pub fit : fitsOn b (deviceOf image) ≡ true
   pub sized : Sized (deviceOf image)
+  pub back : imageOf (deviceOf image) ≡ image
+
+pub fitImage : (b : Board) (image : List ℕ) → length image ≡ 32 → Bytes image → fitsOn b (deviceOf image) ≡ true → FitImage b image
+fitImage b image long octets fit = record { long = long; fit = fit; sized = device-sized image long octets; back = image-device image long octets }
 
 -- the images that the library's own calls leave, one after the other: opening's, of any 32 bytes, and every event's from such an image
 pub data Reached (b : Board) : List ℕ → Type 0 where
@@ -53,8 +57,8 @@ module _ (b : Board) (bytes : Bytes (b .set)) (ok : accepted b ≡ true) where
       next = respondedFits (b .set) (viewOf b) (sound b bytes ok) d (record { fitting = fitting (viewOf b) d p; sized = z }) (responded (viewOf b) d e)
 
   -- ---- over images
-  imageFits : (d : Device) → (fitsOn b d ≡ true) × Sized d → FitImage b (imageOf d)
-  imageFits d (p, z) = record { long = image-length d (z .sixteen); fit = rw (device-image d z) p; sized = rw (device-image d z) z }
+  pub imageFits : (d : Device) → (fitsOn b d ≡ true) × Sized d → FitImage b (imageOf d)
+  imageFits d (p, z) = record { long = image-length d (z .sixteen); fit = rw (device-image d z) p; sized = rw (device-image d z) z; back = ap imageOf (device-image d z) }
 
   pub openedFits : (image : List ℕ) → length image ≡ 32 → FitImage b (opened b image .image)
   unfolding opened

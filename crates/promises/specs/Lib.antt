@@ -1,12 +1,17 @@
 pub mod Examples
 pub mod Bench
+pub mod Sound
+pub mod Opening
 pub mod Rules
 pub mod Mistakes
 pub mod Packets
 pub mod Refusal
 pub mod Refusals
+pub mod Replies
 pub mod Keeps
+pub mod Images
 pub mod Inhabited
+pub mod Selected
 pub mod Rearranged
 pub mod Order
 pub mod InhabitedOrder

@@ -12,14 +12,14 @@ use Rattle.records.specs.Device.{inAddress, inConfigured, zeros, fresh, withAdd
 use Rattle.records.specs.Current.{currentEndpoints}
 use Rattle.requests.specs.declared.Setup.{Setup}
 use Rattle.requests.specs.Setup.{setupOf}
-use Rattle.events.specs.declared.Answer.{Answer}
-use Rattle.events.specs.declared.Answer.the-variants.{Done, Refused}
 use Rattle.events.specs.declared.Outcome.{Outcome}
 use Rattle.events.specs.declared.Event.the-variants.{Request}
 use Rattle.events.specs.Answer.{done, refused}
 use Rattle.events.specs.Requests.{setInterface, haltFeature, setHalt, clearHalt, endpointFeature}
 use Rattle.events.specs.Step.{step}
 use Rattle.promises.specs.Examples.{bytes, computed, S, T}
+use Rattle.promises.specs.Refusal.{emptyPart}
+use Rattle.promises.specs.Rearranged.{Values, valuesOf}
 use Rattle.promises.specs.Bench.{configured}
 
 abbrev setup : ℕ → Setup
@@ -71,23 +71,24 @@ mistakes =
     mistake (step S configured (Request (setup 0x0203000001000000))) (haltWithoutDirection (viewOf S) configured (setup 0x0203000001000000)) ∷
     mistake (step S toggled (Request (setup 0x0201000081000000))) (toggleIfHalted (viewOf S) toggled (setup 0x0201000081000000)) ∷ []
 
--- what tells a right outcome from a wrong one: the answer, the address, halts and toggles
+-- what tells a right outcome from a wrong one: document 01's number, bytes and part, the address, halts and toggles
 pub record Seen : Type 0 where
-  pub answer : Answer
+  pub answer : Values
   pub address : ℕ
   pub halts : ℕ
   pub toggles : ℕ
 
 abbrev pub seen : Outcome → Seen
-seen o = record { answer = o .answer; address = o .device .address; halts = o .device .halts; toggles = o .device .toggles }
+seen o = record { answer = valuesOf (o .answer); address = o .device .address; halts = o .device .halts; toggles = o .device .toggles }
 
-abbrev pub looks : Answer → ℕ → ℕ → ℕ → Seen
-looks a d h t = record { answer = a; address = d; halts = h; toggles = t }
+-- a number, with no bytes and an empty part
+abbrev pub looks : ℕ → ℕ → ℕ → ℕ → Seen
+looks n d h t = record { answer = record { number = n; bytes = []; part = emptyPart }; address = d; halts = h; toggles = t }
 
-pub rights : map (λ m. seen (m .right)) mistakes ≡ looks Done 0 0 0 ∷ looks Done 5 0 0 ∷ looks Done 5 0 0 ∷ looks (Refused 13) 5 0 0 ∷ looks Done 5 0 0 ∷ []
+pub rights : map (λ m. seen (m .right)) mistakes ≡ looks 0 0 0 0 ∷ looks 0 5 0 0 ∷ looks 0 5 0 0 ∷ looks 13 5 0 0 ∷ looks 0 5 0 0 ∷ []
 unfolding computed mistakes
 rights = refl
 
-pub wrongs : map (λ m. seen (m .wrong)) mistakes ≡ looks Done 5 0 0 ∷ looks Done 5 0x20000 0 ∷ looks (Refused 13) 5 0 0 ∷ looks Done 5 0x20000 0 ∷ looks Done 5 0 0x20000 ∷ []
+pub wrongs : map (λ m. seen (m .wrong)) mistakes ≡ looks 0 5 0 0 ∷ looks 0 5 0x20000 0 ∷ looks 13 5 0 0 ∷ looks 0 5 0x20000 0 ∷ looks 0 5 0 0x20000 ∷ []
 unfolding computed mistakes
 wrongs = refl

@@ -1,13 +1,12 @@
 -- Demand 3: another order of events that concern different interfaces changes no answer and no byte of the record. And, from the same laws,
--- that one interface's driver does not notice the others'. Assumes nothing.
+-- that one interface's driver does not notice the others'. No axiom.
 use Prim.Native.Nat.{ℕ, suc}
 use native.Mathlib.Omega.{arith}
 use mathlib.Core.Path.{_≡_, refl, sym, ap, _∙_}
 use mathlib.Core.Bool.{Bool, true}
 use mathlib.Core.List.{List, [], _∷_, map}
 use mathlib.Core.Option.{some, Option·map}
-use lib.ListN.{length, getElem?}
-use borrow.Author.Tests.{eq-eqb}
+use lib.ListN.{getElem?}
 use Rattle.octets.specs.Sentences.{every, only, isSome}
 use Rattle.octets.proofs.Sentences.{both, every-alike}
 use Rattle.sets.specs.Opening.{Board}
@@ -15,7 +14,7 @@ use Rattle.sets.specs.View.{accepted}
 use Rattle.records.specs.declared.Device.{Device}
 use Rattle.records.specs.Fits.{fitsOn}
 use Rattle.records.specs.Image.{deviceOf, imageOf}
-use Rattle.records.proofs.Image.{Sized, device-image, image-device, image-length, device-sized}
+use Rattle.records.specs.Device.{Sized}
 use Rattle.events.specs.declared.Answer.{Answer}
 use Rattle.events.specs.declared.Event.{Event}
 use Rattle.events.specs.declared.Outcome.{Outcome}
@@ -26,12 +25,13 @@ use Rattle.order.proofs.Run.{run-shown, answers-shown, log-shown}
 use Rattle.order.proofs.Shuffle.{all-shuffle}
 use Rattle.order.specs.Places.{Permuted}
 use Rattle.order.proofs.Places.{shuffle-of, own-places, places-own}
-use Rattle.order.specs.Strike.{strike, left}
-use Rattle.order.specs.Owners.{Owners, others}
+use Rattle.order.specs.Strike.{strike, left, FairRun}
+use Rattle.order.specs.Owners.{Owners, others, Idle}
 use Rattle.order.proofs.Owners.{along, ordered, ordered-places, fair-always, unnoticed-by}
-use Rattle.sets.proofs.Sound.{Bytes}
-use Rattle.sets.proofs.Acceptance.{sound}
-use Rattle.promises.specs.Keeps.{stepFits}
+use Rattle.octets.specs.Octets.{Bytes}
+use Rattle.promises.specs.Sound.{sound}
+use Rattle.promises.specs.Keeps.{FitImage, stepFits}
+use Rattle.promises.specs.Images.{onImage}
 use Rattle.laws.specs.Parts.{Good, Same, rest, owned, who, kind, settle}
 use Rattle.laws.proofs.Locality.{respondOn, concerns-by, idle, locality}
 use Rattle.promises.specs.Rearranged.{Concerned, isThis, Rearranged, answerOf, nextOf, after, answered, heard, Values, valuesOf, imageAnswer, imageNext, imageAfter, imageAnswered, imageHeard}
@@ -54,6 +54,17 @@ module _ (b : Board) (d : Device) (xs ys : List Event) where
 -- an event that arrives in Configured and concerns another interface than k
 abbrev pub struckFor : Board → ℕ → Device → Event → Bool
 struckFor b = others (owned b) (who b)
+
+-- it may be struck where it has nothing to settle: what waits and the sleep byte stay as they are
+abbrev pub Fair : Board → Device → Event → Type 0
+Fair b = Idle (answerOf b) rest kind settle
+
+-- every event left of a run gets the answer that it got; what interface k can tell, and the rest, end the same
+abbrev pub Unnoticed : Board → ℕ → Device → List Event → Type 0
+Unnoticed b k d xs = (let kept = strike (nextOf b) (struckFor b k) d xs in
+    (left (answerOf b) (nextOf b) (struckFor b k) d xs ≡ log (answerOf b) (nextOf b) d kept)
+    × Same b k (after b d xs) (after b d kept)
+    × (rest (after b d xs) ≡ rest (after b d kept)))
 
 -- ---- for one accepted set and serial block
 module _ (b : Board) (bytes : Bytes (b .set)) (ok : accepted b ≡ true) where
@@ -108,24 +119,22 @@ module _ (b : Board) (bytes : Bytes (b .set)) (ok : accepted b ≡ true) where
         × ((i : ℕ) (a : Answer) → getElem? (answered b d xs) i ≡ some a → getElem? (answered b d ys) (w .to i) ≡ some a)
     orderPlaces xs ys p w = ordered-places stepLocality d (sized, fit) xs ys (all-of (owned b d) xs p) w
 
-    -- ---- one driver does not notice the other: strike out the events that concern another interface than k, and every event left gets the
-    -- same answer; the shared fields, k's setting, halts and toggles, and the rest end the same
-    pub unnoticed : (k : ℕ) (xs : List Event) → (let kept = strike (nextOf b) (struckFor b k) d xs in
-        (left (answerOf b) (nextOf b) (struckFor b k) d xs ≡ log (answerOf b) (nextOf b) d kept)
-        × Same b k (after b d xs) (after b d kept)
-        × (rest (after b d xs) ≡ rest (after b d kept)))
-    unnoticed k xs =
-        let fair = fair-always stepLocality (λ r e g o. idle b r e (answerOf b r e) (g .1) o) k d (sized, fit) xs in
-        unnoticed-by stepLocality k d (sized, fit) xs fair
+    -- ---- one driver does not notice the other: where the run is fair, strike out the events that concern another interface than k, and every
+    -- event left gets the same answer; the shared fields, k's setting, halts and toggles, and the rest end the same
+    pub unnoticedFair : (k : ℕ) (xs : List Event) → FairRun (nextOf b) (struckFor b k) (Fair b) d xs → Unnoticed b k d xs
+    unnoticedFair k xs fair = unnoticed-by stepLocality k d (sized, fit) xs fair
+
+    -- today every run is
+    pub unnoticed : (k : ℕ) (xs : List Event) → Unnoticed b k d xs
+    unnoticed k xs = unnoticedFair k xs (fair-always stepLocality (λ r e g o. idle b r e (answerOf b r e) (g .1) o) k d (sized, fit) xs)
 
   -- ---- demand 3 on the 32 bytes that C hands over
-  module _ (image : List ℕ) (long : length image ≡ 32) (octets : Bytes image) (fit : fitsOn b (deviceOf image) ≡ true) where
+  module _ (image : List ℕ) (f : FitImage b image) where
     good : Good b (deviceOf image)
-    good = (device-sized image long octets, fit)
+    good = (f .sized, f .fit)
 
     shows : (d : Device) (e : Event) → Good b d → event b (imageOf d) e ≡ replyOf (step b d e)
-    unfolding event
-    shows d e g = rw (eq-eqb (length (imageOf d)) 32 (image-length d (g .0 .sixteen)), device-image d (g .0))
+    shows d e g = onImage b d e (g .0)
 
     same-values : (d : Device) (e : Event) → Good b d → imageAnswer b (imageOf d) e ≡ valuesOf (answerOf b d e)
     same-values d e g = ap (λ (r : Reply). valuesOf (r .answer)) (shows d e g)
@@ -136,27 +145,27 @@ module _ (b : Board) (bytes : Bytes (b .set)) (ok : accepted b ≡ true) where
     -- the run of images is the images of the run
     module _ (xs : List Event) where
       after-shown : imageAfter b image xs ≡ imageOf (after b (deviceOf image) xs)
-      after-shown = ap (λ i. imageAfter b i xs) (sym (image-device image long octets))
+      after-shown = ap (λ i. imageAfter b i xs) (sym (f .back))
           ∙ run-shown (answerOf b) (nextOf b) (imageAnswer b) (imageNext b) (Good b) imageOf valuesOf keeps same-values same-image
           (deviceOf image) xs good
 
       answered-shown : imageAnswered b image xs ≡ map valuesOf (answered b (deviceOf image) xs)
-      answered-shown = ap (λ i. imageAnswered b i xs) (sym (image-device image long octets))
+      answered-shown = ap (λ i. imageAnswered b i xs) (sym (f .back))
           ∙ answers-shown (answerOf b) (nextOf b) (imageAnswer b) (imageNext b) (Good b) imageOf valuesOf keeps same-values same-image
           (deviceOf image) xs good
 
       heard-shown : (k : ℕ) → imageHeard b image k xs ≡ map (λ p. (p .0, valuesOf (p .1))) (heard b (deviceOf image) k xs)
       heard-shown k =
-          let f : Event × Values → Bool = λ p. isThis k (concernsOn b (deviceOf image) (p .0)) in
-          ap (λ i. only f (log (imageAnswer b) (imageNext b) i xs)) (sym (image-device image long octets))
-          ∙ ap (only f) (log-shown (answerOf b) (nextOf b) (imageAnswer b) (imageNext b) (Good b) imageOf valuesOf keeps
+          let own : Event × Values → Bool = λ p. isThis k (concernsOn b (deviceOf image) (p .0)) in
+          ap (λ i. only own (log (imageAnswer b) (imageNext b) i xs)) (sym (f .back))
+          ∙ ap (only own) (log-shown (answerOf b) (nextOf b) (imageAnswer b) (imageNext b) (Good b) imageOf valuesOf keeps
           same-values same-image (deviceOf image) xs good)
-          ∙ only-map f (λ p. (p .0, valuesOf (p .1))) (log (answerOf b) (nextOf b) (deviceOf image) xs)
+          ∙ only-map own (λ p. (p .0, valuesOf (p .1))) (log (answerOf b) (nextOf b) (deviceOf image) xs)
 
     pub orderImages : (xs ys : List Event) → Rearranged b (deviceOf image) xs ys
         → (imageAfter b image xs ≡ imageAfter b image ys) × ((k : ℕ) → imageHeard b image k xs ≡ imageHeard b image k ys)
     orderImages xs ys r =
-        let (end, same) = order (deviceOf image) (good .0) fit xs ys r in (
+        let (end, same) = order (deviceOf image) (f .sized) (f .fit) xs ys r in (
           after-shown xs ∙ ap imageOf end ∙ sym (after-shown ys),
           λ k. heard-shown xs k ∙ ap (map (λ p. (p .0, valuesOf (p .1)))) (same k) ∙ sym (heard-shown ys k),
         )
@@ -165,7 +174,7 @@ module _ (b : Board) (bytes : Bytes (b .set)) (ok : accepted b ≡ true) where
         → (imageAfter b image xs ≡ imageAfter b image ys)
         × ((i : ℕ) (a : Values) → getElem? (imageAnswered b image xs) i ≡ some a → getElem? (imageAnswered b image ys) (w .to i) ≡ some a)
     orderImagesPlaces xs ys p w =
-        let (end, same) = orderPlaces (deviceOf image) (good .0) fit xs ys p w in (
+        let (end, same) = orderPlaces (deviceOf image) (f .sized) (f .fit) xs ys p w in (
           after-shown xs ∙ ap imageOf end ∙ sym (after-shown ys),
           λ i a q.
               let (x, r, t) = mapped-at valuesOf (answered b (deviceOf image) xs) i (ap (λ l. getElem? l i) (sym (answered-shown xs)) ∙ q) in

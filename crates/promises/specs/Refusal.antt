@@ -1,8 +1,8 @@
 -- The words of demand 1: what a refusal may leave and hand back, and which numbers there are.
 use Prim.Native.Nat.{ℕ}
-use mathlib.Core.List.{List}
+use mathlib.Core.List.{List, _∷_}
 use mathlib.Core.Bool.{Bool, false, _&&_, _||_}
-use lib.ListN.{length}
+use lib.ListN.{length, replicate}
 use lib.Dec.{eqb, leb}
 use Rattle.octets.specs.Sentences.{pick}
 use Rattle.sets.specs.Opening.{Board}
@@ -53,3 +53,7 @@ imageLeftBy n image = pick (afterSettling n) (settledImage image) image
 -- 8 where the image is not 32 bytes, and then it stays as it was; otherwise 0 to 6, and the fresh record, accepted or not
 abbrev pub opens : List ℕ → ℕ → Bool
 opens image n = pick (eqb (length image) 32) (leb n 6) (eqb n 8)
+
+-- "Fresh: all zero but byte 2 = 255."
+abbrev pub freshImage : List ℕ
+freshImage = 0 ∷ 0 ∷ 255 ∷ replicate 29 0

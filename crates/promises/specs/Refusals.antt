@@ -1,5 +1,5 @@
 -- Demand 1 over the step and over opening: what a refusal leaves, what it hands back, which numbers there are, and where parts lie.
--- Assumes nothing.
+-- No axiom.
 use Prim.Native.Nat.{ℕ}
 use native.Mathlib.Omega.{arith}
 use mathlib.Core.Path.{_≡_, refl, sym, ap, _∙_}
@@ -26,7 +26,7 @@ use Rattle.events.specs.declared.Outcome.{Outcome}
 use Rattle.events.specs.Answer.{numberOf, bytesOf, partOf}
 use Rattle.events.specs.Places.{Inside}
 use Rattle.events.specs.Step.{step, event, opened}
-use Rattle.sets.proofs.Sound.{Bytes}
+use Rattle.octets.specs.Octets.{Bytes}
 use Rattle.promises.specs.Refusal.{afterSettling, leftBy, refuses, allows, emptyPart, allowsImage, imageLeftBy, opens}
 use Rattle.sets.proofs.Groups.{groups}
 use Rattle.laws.proofs.Outcomes.{Refusable, malformed, noHalt, noPass, responded}

@@ -1,12 +1,12 @@
 -- For each rule of the six groups a set that is accepted (0) and one that is refused under the group's number: one computed test over a list.
-use Prim.Native.Nat.{ℕ, zero, suc, _+_, _-_}
+use Prim.Native.Nat.{ℕ, suc, _+_, _-_}
 use mathlib.Core.Path.{_≡_, refl}
 use mathlib.Core.List.{List, [], _∷_, _++_, map}
-use lib.ListN.{set, take, length, replicate}
+use lib.ListN.{set, take, replicate}
 use Rattle.octets.specs.Sentences.{upTo}
 use Rattle.descriptors.specs.Limits.{fullSpeed}
 use Rattle.sets.specs.Opening.{Board, opening}
-use Rattle.promises.specs.Examples.{bytes, computed, Piece, piece, board, configuration, interface, endpoint, device, string, S, titratorDevice, titratorConfiguration, titratorStrings, titratorSerial, T}
+use Rattle.promises.specs.Examples.{computed, Piece, piece, board, configuration, interface, endpoint, device, string, S, titratorDevice, titratorConfiguration, titratorStrings, titratorSerial, T}
 
 -- a board, and the number under which it opens
 pub record Example : Type 0 where

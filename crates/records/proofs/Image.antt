@@ -9,13 +9,8 @@ use lib.Seq.{drop-cons, drop-drop, getD-append-add, take-at, take-length}
 use Rattle.octets.specs.Octets.{byte, part}
 use Rattle.records.specs.declared.Device.{Device}
 use Rattle.records.specs.Device.{withEndpoints}
+pub use Rattle.records.specs.Device.{Sized}
 use Rattle.records.specs.Image.{fourBytes, bytesOfFour, deviceOf, imageOf}
-
--- a record of the size that the code has: sixteen alternates, two numbers of 32 bits
-pub record Sized (d : Device) : Type 0 where
-  pub sixteen : length (d .alternates) ≡ 16
-  pub halts-fit : d .halts < 2 ^ 32
-  pub toggles-fit : d .toggles < 2 ^ 32
 
 -- a record is known by its alternates, halts and toggles, and the rest
 pub same-device : (d : Device) {a : List ℕ} {h t : ℕ} → a ≡ d .alternates → h ≡ d .halts → t ≡ d .toggles → withEndpoints a h t d ≡ d

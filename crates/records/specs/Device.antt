@@ -1,7 +1,8 @@
 -- The device record's states, the fresh record, and records that differ in one field (document 01, "The device record").
-use Prim.Native.Nat.{ℕ}
+use Prim.Native.Nat.{ℕ, _^_, _<_}
+use mathlib.Core.Path.{_≡_}
 use mathlib.Core.List.{List}
-use lib.ListN.{replicate}
+use lib.ListN.{length, replicate}
 use Rattle.records.specs.declared.Device.{Device}
 
 -- "0 state (0 Default, 1 Address, 2 Configured)"
@@ -46,3 +47,9 @@ withConfiguration s c d = record { state = s; address = d .address; waiting = d 
 
 abbrev pub withEndpoints : List ℕ → ℕ → ℕ → Device → Device
 withEndpoints a h t d = record { state = d .state; address = d .address; waiting = d .waiting; configuration = d .configuration; wakeup = d .wakeup; power = d .power; suspended = d .suspended; speed = d .speed; alternates = a; halts = h; toggles = t }
+
+-- ---- a record of the size that the code has: sixteen alternates, two numbers of 32 bits
+pub record Sized (d : Device) : Type 0 where
+  pub sixteen : length (d .alternates) ≡ 16
+  pub halts-fit : d .halts < 2 ^ 32
+  pub toggles-fit : d .toggles < 2 ^ 32

@@ -1,0 +1,104 @@
+-- One driver does not notice the other (document 02, L9), over runs of exported calls from an opening: strike out the calls that arrived in
+-- Configured and concerned another interface than k, and every call left is given the same; what k can tell of the record ends the same. No axiom.
+use Prim.Native.Nat.{ℕ}
+use mathlib.Core.Path.{_≡_, refl, sym, ap, _∙_}
+use mathlib.Core.List.{List, [], _∷_}
+use mathlib.Core.Bool.{Bool, true, not}
+use lib.ListN.{length}
+use lib.Dec.{eqb}
+use Rattle.octets.proofs.Sentences.{both}
+use Rattle.sets.specs.Opening.{Board}
+use Rattle.sets.specs.View.{viewOf, accepted}
+use Rattle.octets.specs.Octets.{Bytes}
+use Rattle.records.specs.Image.{deviceOf}
+use Rattle.order.specs.Run.{keep, answers, log}
+use Rattle.order.specs.Strike
+use Rattle.order.specs.Strike.{strike, left}
+use Rattle.order.proofs.Strike.{Unwinding, unnoticed as struck-unnoticed}
+use Rattle.order.proofs.Owners.{unwinding-by}
+use Rattle.order.proofs.Beside.{unwinding-beside, fair-run}
+use Rattle.promises.specs.Keeps.{FitImage, reachedFits}
+use Rattle.laws.specs.Parts.{Same, rest, owned, who}
+use Rattle.laws.proofs.Same.{self}
+use Rattle.laws.proofs.Locality.{idle}
+use Rattle.promises.specs.Rearranged.{valuesOf, answerOf}
+use Rattle.promises.specs.Order.{stepLocality, struckFor, Fair}
+use Rattle.board.specs.Exports.{Opens, Spot}
+use Rattle.board.specs.Runs.{Call, eventOf, Given, Runs, ends, calls, givenAs, gives, leaves, met, ran, opening, openedReached}
+use Rattle.board.specs.Order.{told}
+use Rattle.board.specs.Places.{says, reads, keeps}
+
+module _ (b : Board) (set serial : Spot) (k : ℕ) where
+  -- ---- what the statements say
+  -- the call, arriving at this image, is struck out: in Configured, it concerns another interface than k
+  abbrev pub struck : List ℕ → Call → Bool
+  struck image c = struckFor b k (deviceOf image) (eventOf c)
+
+  -- a premise on the run: no struck call arrives while there is something for it to settle. Today there never is (`unnoticed`)
+  abbrev pub FairRun : List ℕ → List Call → Type 0
+  FairRun = Strike.FairRun (leaves b set serial) struck (λ image c. Fair b (deviceOf image) (eventOf c))
+
+  -- the calls left
+  abbrev pub kept : List ℕ → List Call → List Call
+  kept = strike (leaves b set serial) struck
+
+  -- and each with what it was given in the whole run
+  abbrev pub keptOf : {image : List ℕ} {cs : List Call} {gs : List Given} {last : List ℕ} → Runs b set serial image cs gs last → List (Call × Given)
+  keptOf ends = []
+  keptOf (calls {image} {c} {g} m r) = keep (not (struck image c)) (c, g) (keptOf r)
+
+  -- state, address, configuration, wakeup, power and speed; k's setting, halts and toggles; what waits and the sleep byte
+  abbrev pub Alike : List ℕ → List ℕ → Type 0
+  Alike image other = Same b k (deviceOf image) (deviceOf other) × (rest (deviceOf image) ≡ rest (deviceOf other))
+
+  -- ---- runs as their functions
+  kept-left : {image : List ℕ} {cs : List Call} {gs : List Given} {last : List ℕ} (r : Runs b set serial image cs gs last)
+      → keptOf r ≡ left (gives b set serial) (leaves b set serial) struck image cs
+  kept-left ends = refl
+  kept-left (calls {image} {c} {cs = cs} m r) =
+      let (p, q) = met b set serial m in
+      rw (p, kept-left r, q)
+
+  told-log : (image : List ℕ) (cs : List Call) → told cs (answers (gives b set serial) (leaves b set serial) image cs) ≡ log (gives b set serial) (leaves b set serial) image cs
+  told-log image [] = refl
+  told-log image (c ∷ cs) = ap (λ l. (c, gives b set serial image c) ∷ l) (told-log (leaves b set serial image c) cs)
+
+  -- ---- from an image that fits
+  module _ (bytes : Bytes (b .set)) (ok : accepted b ≡ true) where
+    unwinding : Unwinding (gives b set serial) (leaves b set serial) (FitImage b) struck (λ image c. Fair b (deviceOf image) (eventOf c)) Alike
+    unwinding = unwinding-beside deviceOf eventOf (λ c a. givenAs b set serial c (valuesOf a)) (FitImage b)
+        (keeps b set serial bytes ok) (says b set serial bytes ok) (reads b set serial bytes ok) (unwinding-by (stepLocality b bytes ok) k) (λ image f. (f .sized, f .fit))
+
+    pub unnoticedFit : {image : List ℕ} → FitImage b image → {cs : List Call} {gs others : List Given} {last other : List ℕ}
+        → (r : Runs b set serial image cs gs last) → FairRun image cs → Runs b set serial image (kept image cs) others other
+        → (keptOf r ≡ told (kept image cs) others) × Alike last other
+    unnoticedFit {image} f {cs} one fair two =
+        let (same, end) = struck-unnoticed unwinding cs image image f f (self (viewOf b) k (deviceOf image), refl) fair in
+        let (p, q) = ran b set serial one in
+        let (s, t) = ran b set serial two in
+        (kept-left one ∙ same ∙ sym (ap (told (kept image cs)) s ∙ told-log image (kept image cs)), rw (q, t) end)
+
+    -- nothing waits and nobody sleeps where a call concerns an interface
+    fairToday : (image : List ℕ) → FitImage b image → (cs : List Call) → FairRun image cs
+    fairToday = fair-run (leaves b set serial) struck (λ image c. Fair b (deviceOf image) (eventOf c)) (FitImage b) (keeps b set serial bytes ok)
+        (λ image c f p. idle b (deviceOf image) (eventOf c) (answerOf b (deviceOf image) (eventOf c)) (f .fit)
+        (both (owned b (deviceOf image) (eventOf c)) (not (eqb (who b (deviceOf image) (eventOf c)) k)) p .0))
+
+  -- ---- from power-on: an opening that gave 0, of any 32 bytes
+  module _ (bytes : Bytes (b .set)) {start image : List ℕ} (long : length start ≡ 32) (o : Opens b start 0 image) where
+    ok : accepted b ≡ true
+    ok = opening long o .0 refl
+
+    fit : FitImage b image
+    fit = reachedFits b bytes ok (openedReached long o)
+
+    pub unnoticedFair : {cs : List Call} {gs others : List Given} {last other : List ℕ}
+        → (r : Runs b set serial image cs gs last) → FairRun image cs → Runs b set serial image (kept image cs) others other
+        → (keptOf r ≡ told (kept image cs) others) × Alike last other
+    unnoticedFair = unnoticedFit bytes ok fit
+
+    -- today with no premise on the run
+    pub unnoticed : {cs : List Call} {gs others : List Given} {last other : List ℕ}
+        → (r : Runs b set serial image cs gs last) → Runs b set serial image (kept image cs) others other
+        → (keptOf r ≡ told (kept image cs) others) × Alike last other
+    unnoticed {cs} r = unnoticedFair r (fairToday bytes ok image fit cs)

@@ -1,0 +1,163 @@
+-- No reply is longer than its setup asked for, and an accepted set's bMaxPacketSize0 is a size that can be cut: so every reply can be. No axiom.
+use Prim.Native.Nat.{ℕ, _+_, _≤_, _/_, _%_}
+use native.Mathlib.Omega.{arith}
+use mathlib.Core.Path.{_≡_, refl, _∙_}
+use mathlib.Core.List.{List, [], _∷_}
+use mathlib.Core.Bool.{Bool, true, false, _&&_, _||_, false≢true}
+use mathlib.Core.Option.{Option, some, none}
+use lib.ListN.{length}
+use lib.Dec.{eqb, leb}
+use borrow.Author.Tests.{eq-eqb, eqb-true, leb-true, le-leb}
+use Rattle.octets.specs.Octets.{byte}
+use Rattle.octets.specs.Sentences.{pick, _⇒_, any, every, first, member}
+use Rattle.octets.proofs.Sentences.{cases, if-then, both, joined, conjunct}
+use Rattle.descriptors.specs.declared.Endpoint.{Endpoint}
+use Rattle.descriptors.specs.Configuration.{hasInterface, hasSetting, canHalt}
+use Rattle.descriptors.specs.Limits.{fullSpeed, doubled}
+use Rattle.sets.specs.declared.Entry.{Entry}
+use Rattle.sets.specs.Contents.{bodyOf, entriesOf}
+use Rattle.sets.specs.Device.{bMaxPacketSize0, goodDevice, goodDeviceEntries, headBody, deviceBody}
+use Rattle.sets.specs.Opening.{Board, goodDevices, opening}
+use Rattle.sets.specs.View.{View, viewOf, accepted, wakes}
+use Rattle.records.specs.declared.Device.{Device}
+use Rattle.records.specs.Device.{nothing, withWaiting}
+use Rattle.records.specs.Current.{selected, endpointAt}
+use Rattle.records.specs.Image.{deviceOf}
+use Rattle.records.specs.Fits.{fitsOn}
+use Rattle.requests.specs.declared.Setup.{Setup}
+use Rattle.requests.specs.Setup.{recipient, setupOf}
+use Rattle.requests.specs.Table.{table, refusal, largestIndex}
+use Rattle.events.specs.declared.Event.{Event}
+use Rattle.events.specs.declared.Event.the-variants.{Request, Malformed}
+use Rattle.events.specs.declared.Outcome.{Outcome}
+use Rattle.events.specs.Answer.{numberOf, bytesOf, partOf, refused}
+use Rattle.events.specs.Requests.{byRecipient, isEndpointZero, deviceFeature, interfaceFeature, endpointFeature, endpointStatus, haltFeature, clearHalt, setHalt, setPart, isEntry, languageFor, getStatus, clearFeature, setFeature, setAddress, getDescriptor, getConfiguration, setConfiguration, getInterface, setInterface}
+use Rattle.events.specs.Step.{request, answerSetup, step, event, setupEvent}
+use Rattle.packets.specs.Packets.{canCut}
+use Rattle.sets.proofs.Groups.{groups}
+use Rattle.laws.proofs.Outcomes.{ruled, chosen}
+use Rattle.promises.specs.Refusals.{eventNumber}
+
+-- what an answer hands back, bytes and part, is no more than asked
+abbrev pub Within : ℕ → Outcome → Type 0
+Within w o = length (bytesOf (o .answer)) + partOf (o .answer) .length ≤ w
+
+-- a code whose rows all ask for at least n bytes
+asked : (code n : ℕ) → every (λ r. eqb (r .code) code ⇒ leb n (r .shortest)) table ≡ true → (state : ℕ) (s : Setup) → refusal state s ≡ 0 → s .code ≡ code → n ≤ s .length
+asked code n all state s p c =
+    let (r, f, k, i, h) = ruled (λ r. eqb (r .code) code ⇒ leb n (r .shortest)) all state s p in
+    let a = leb-true n (r .shortest) (if-then (eqb (r .code) code) (leb n (r .shortest)) f (eq-eqb (r .code) code (k ∙ c))) in
+    let b = leb-true (r .shortest) (s .length) (conjunct 2 (leb (s .value) (r .value) ∷ leb (s .index) (largestIndex r (s .value)) ∷ leb (r .shortest) (s .length) ∷ leb (s .length) (r .longest) ∷ []) h) in
+    omega arith
+
+-- ---- the requests, a leaf at a time
+module _ (v : View) (d : Device) (s : Setup) where
+  abbrev Fine : Outcome → Type 0
+  Fine = Within (s .length)
+
+  no : (n : ℕ) → Fine (refused n d)
+  no n = omega arith
+
+  status : 2 ≤ s .length → Fine (getStatus v d s)
+  unfolding getStatus
+  status l = chosen Fine (eqb (recipient s) 0) (λ e. omega arith) (λ e. chosen Fine (eqb (recipient s) 1)
+      (λ e. chosen Fine (hasInterface (selected v d) (s .index)) (λ e. omega arith) (λ e. no 13))
+      (λ e. chosen Fine (isEndpointZero (s .index)) (λ e. omega arith) (λ e. at (endpointAt v d (s .index)))))
+    where
+      at : (o : Option Endpoint) → Fine (endpointStatus d o)
+      at none = no 13
+      at (some e) = omega arith
+
+  feature : (change : Device → ℕ → Device) (on : ℕ) → Fine (byRecipient s (deviceFeature on v d s) (interfaceFeature v d s) (endpointFeature change v d s))
+  feature change on = chosen Fine (eqb (recipient s) 0)
+      (λ e. chosen Fine (eqb (s .value) 1 && wakes v) (λ e. omega arith) (λ e. no 14))
+      (λ e. chosen Fine (eqb (recipient s) 1)
+      (λ e. chosen Fine (hasInterface (selected v d) (s .index)) (λ e. no 14) (λ e. no 13))
+      (λ e. chosen Fine (isEndpointZero (s .index)) (λ e. no 14) (λ e. at (endpointAt v d (s .index)))))
+    where
+      at : (o : Option Endpoint) → Fine (haltFeature change d s o)
+      at none = no 13
+      at (some x) = chosen Fine (eqb (s .value) 0 && canHalt x) (λ e. omega arith) (λ e. no 14)
+
+  descriptor : Fine (getDescriptor v d s)
+  unfolding getDescriptor
+  descriptor = chosen Fine (eqb (s .value / 256) 3)
+      (λ e. chosen Fine (leb 1 (s .value % 256) && eqb (s .value % 256) (v .serial))
+      (λ e. chosen Fine (member (s .index) (v .languages)) (λ e. omega arith) (λ e. no 13))
+      (λ e. at (first (isEntry 3 (s .value % 256) (languageFor (s .value % 256) (s .index))) (v .entries))))
+      (λ e. chosen Fine (eqb (s .value / 256) 1 || eqb (s .value / 256) 2)
+      (λ e. at (first (isEntry (s .value / 256) (s .value % 256) 0) (v .entries)))
+      (λ e. no 13))
+    where
+      at : (o : Option Entry) → Fine (setPart d (s .length) o)
+      at none = no 13
+      at (some x) = omega arith
+
+  configuration : Fine (setConfiguration v d s)
+  unfolding setConfiguration
+  configuration = chosen Fine (eqb (s .value) 0) (λ e. omega arith)
+      (λ e. chosen Fine (any (λ c. eqb (c .value) (s .value)) (v .configurations)) (λ e. omega arith) (λ e. no 13))
+
+  within : (state : ℕ) → refusal state s ≡ 0 → Fine (request v d s)
+  unfolding every request clearFeature setFeature setAddress getConfiguration getInterface setInterface
+  within state p =
+      chosen Fine (eqb (s .code) 0x00) (λ e. status (asked 0 2 refl state s p (eqb-true (s .code) 0 e)))
+      (λ e. chosen Fine (eqb (s .code) 0x01) (λ e. feature clearHalt 0)
+      (λ e. chosen Fine (eqb (s .code) 0x03) (λ e. feature setHalt 1)
+      (λ e. chosen Fine (eqb (s .code) 0x05) (λ e. omega arith)
+      (λ e. chosen Fine (eqb (s .code) 0x06) (λ e. descriptor)
+      (λ e. chosen Fine (eqb (s .code) 0x08) (λ e. let l = asked 8 1 refl state s p (eqb-true (s .code) 8 e) in omega arith)
+      (λ e. chosen Fine (eqb (s .code) 0x09) (λ e. configuration)
+      (λ e. chosen Fine (eqb (s .code) 0x0A)
+      (λ e. chosen Fine (hasInterface (selected v d) (s .index)) (λ f. let l = asked 10 1 refl state s p (eqb-true (s .code) 10 e) in omega arith) (λ f. no 13))
+      (λ e. chosen Fine (hasSetting (selected v d) (s .index) (s .value)) (λ e. omega arith) (λ e. no 13)))))))))
+
+-- every answer to a setup, on every board and record
+pub replyWithin : (b : Board) (d : Device) (s : Setup) → Within (s .length) (step b d (Request s))
+unfolding step answerSetup
+replyWithin b d s = chosen (Within (s .length)) (accepted b)
+    (λ p. chosen (Within (s .length)) (fitsOn b d)
+    (λ q. chosen (Within (s .length)) (eqb (refusal (d .state) s) 0)
+    (λ r. within (viewOf b) (withWaiting nothing d) s (d .state) (eqb-true _ 0 r)) (λ r. omega arith))
+    (λ q. omega arith))
+    (λ p. omega arith)
+
+-- the device descriptor of an accepted set
+goodDeviceOf : (set : List ℕ) (es : List Entry) → goodDeviceEntries fullSpeed set es ≡ true
+    → goodDevice fullSpeed (length (entriesOf 2 set)) (headBody set es) ≡ true
+goodDeviceOf set [] p = absurd (false≢true p)
+goodDeviceOf set (e ∷ []) p = both (eqb (e .index) 0 && eqb (e .language) 0) (goodDevice fullSpeed (length (entriesOf 2 set)) (bodyOf set e)) p .1
+goodDeviceOf set (e ∷ f ∷ es) p = absurd (false≢true p)
+
+-- "bMaxPacketSize0 is 8, 16, 32 or 64": the sizes that can be cut
+pub sizeCuts : (b : Board) → accepted b ≡ true → (r w : ℕ) → r ≤ w → canCut r w (bMaxPacketSize0 (deviceBody (b .set))) ≡ true
+unfolding goodDevices
+sizeCuts b ok r w l =
+    let device = deviceBody (b .set) in
+    let good = goodDeviceOf (b .set) (entriesOf 1 (b .set)) (groups fullSpeed b (eqb-true (opening fullSpeed b) 0 ok) .devices) in
+    let size = conjunct 3 (eqb (length device) 18 ∷ eqb (byte device 0) 18 ∷ eqb (byte device 1) 1 ∷ doubled (fullSpeed .control) (bMaxPacketSize0 device) ∷ _ ∷ _ ∷ _ ∷ _ ∷ []) good in
+    let p = bMaxPacketSize0 device in
+    joined (both (eqb p 8 || eqb p 16 || eqb p 32 || eqb p 64) (leb p 64) size .0) (le-leb r w l)
+
+-- so every answer to a setup of an accepted board can be cut into packets of its bMaxPacketSize0
+pub replyCuts : (b : Board) (d : Device) (s : Setup) → accepted b ≡ true → (let a = step b d (Request s) .answer in
+    canCut (length (bytesOf a) + partOf a .length) (s .length) (bMaxPacketSize0 (deviceBody (b .set))) ≡ true)
+replyCuts b d s ok = sizeCuts b ok _ (s .length) (replyWithin b d s)
+
+-- ---- on images
+-- no answer to a setup's bytes, of any length, is longer than their wLength
+pub eventWithin : (b : Board) (image setup : List ℕ) → (let a = event b image (setupEvent setup) .answer in
+    length (bytesOf a) + partOf a .length ≤ setupOf setup .length)
+unfolding event step
+eventWithin b image setup = cases (eqb (length image) 32) (λ p. rw p (whole (eqb (length setup) 8))) (λ p. rw p (omega arith))
+  where
+    whole : (t : Bool) → Within (setupOf setup .length) (step b (deviceOf image) (pick t (Request (setupOf setup)) Malformed))
+    whole true = replyWithin b (deviceOf image) (setupOf setup)
+    whole false = chosen (Within (setupOf setup .length)) (accepted b)
+        (λ p. chosen (Within (setupOf setup .length)) (fitsOn b (deviceOf image)) (λ q. omega arith) (λ q. omega arith))
+        (λ p. omega arith)
+
+-- what is done is done on an accepted board
+pub doneAccepted : (b : Board) (image : List ℕ) (e : Event) → numberOf (event b image e .answer) ≡ 0 → accepted b ≡ true
+doneAccepted b image e z = cases (accepted b) (λ p. p)
+    (λ p. absurd (let q : _≡_ {A = ℕ} 0 7 = eqb-true 0 7 (rw (z, p) at (eventNumber b image e)) in omega arith))
