@@ -58,13 +58,13 @@ fn print_part(block: &[u8], offset: usize, length: usize, asked: u16, size: u32)
 
 // The bytes that an answer hands back.
 fn print_handed(answer: Answer) {
-    let count = reply::count(answer);
-    if 0 < count {
+    let handed = reply::bytes_of(answer);
+    if 0 < handed.count {
         print_text(b" ");
-        print_byte(reply::first_byte(answer));
+        print_byte(handed.first);
     }
-    if 1 < count {
-        print_byte(reply::second_byte(answer));
+    if 1 < handed.count {
+        print_byte(handed.second);
     }
 }
 
@@ -120,7 +120,7 @@ fn event_of(kind: u8, bytes: &[u8]) -> Event {
 fn answer_event(set: &[u8], serial: &[u8], device: Device, kind: u8, bytes: &[u8]) -> Device {
     print_kind(kind);
     print_bytes(bytes);
-    let outcome = events::step(set, serial, device, event_of(kind, bytes));
+    let outcome = steps::step(set, serial, device, event_of(kind, bytes));
     let answer = outcome.answer;
     let size = octets::peek(sets::device::device_body(set), 7) as u32;
     print_answer(answer, octets::word(bytes, 6), size);

@@ -19,14 +19,14 @@ fn replay<'a>(
     how: u8,
     recorded: &[u8],
 ) -> Device {
-    let outcome = events::step(set, serial, device, events::setup_event(setup));
+    let outcome = steps::step(set, serial, device, events::setup_event(setup));
     let answer = outcome.answer;
     let part = events::reply::part(set, serial, answer);
     report::transfer(setup, answer, part, how, recorded);
     if events::reply::number(answer) != 0 {
         return outcome.device;
     }
-    let ended = events::step(set, serial, outcome.device, Event::StatusEnd);
+    let ended = steps::step(set, serial, outcome.device, Event::StatusEnd);
     ended.device
 }
 
@@ -68,7 +68,7 @@ fn replay_first(rest: &[u8]) -> usize
     report::say(&rest[7..set_at]);
     let set = &rest[set_at..serial_at];
     let serial = &rest[serial_at..transfers_at];
-    let number = events::opening(set, serial);
+    let number = steps::opening(set, serial);
     report::opened(number);
     if number == 0 {
         replay_all(set, serial, &rest[transfers_at..end]);

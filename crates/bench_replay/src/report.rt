@@ -86,8 +86,10 @@ fn line(setup: &[u8], number: u8, ours: &[u8], how: u8, recorded: &[u8]) {
 // The line of a transfer: our answer is the bytes handed back, or else the part.
 pub fn transfer(setup: &[u8], answer: Answer, part: &[u8], how: u8, recorded: &[u8]) {
     let number = reply::number(answer);
-    let bytes = [reply::first_byte(answer), reply::second_byte(answer)];
-    match reply::count(answer) {
+    let handed = reply::bytes_of(answer);
+    let bytes = [handed.first, handed.second];
+    let count = handed.count;
+    match count {
         1 => line(setup, number, &bytes[..1], how, recorded),
         2 => line(setup, number, &bytes, how, recorded),
         _ => line(setup, number, part, how, recorded),

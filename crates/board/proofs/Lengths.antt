@@ -4,8 +4,8 @@ use mathlib.Core.Path.{_≡_, refl, sym, _∙_}
 use mathlib.Core.List.{List, [], _∷_}
 use lib.ListN.{length}
 use borrow.Author.Tests.{eq-eqb, ne-eqb}
-use Rattle.descriptors.specs.Limits.{fullSpeed}
-use Rattle.sets.specs.Opening.{Board, opening}
+use Rattle.sets.specs.Opening.{Board}
+use Rattle.sets.specs.View.{openingOf}
 use Rattle.records.specs.Device.{fresh}
 use Rattle.octets.specs.Octets.{byte}
 use Rattle.records.specs.Image.{imageOf}
@@ -22,18 +22,18 @@ module _ (b : Board) (image : List ℕ) where
   unfolding opened
   open-short n = record { number = rw (ne-eqb (length image) 32 n); leaves = rw (ne-eqb (length image) 32 n) }
 
-  pub open-whole : length image ≡ 32 → (n : ℕ) (left : List ℕ) → n ≡ opening fullSpeed b → left ≡ imageOf fresh → Opens b image n left
+  pub open-whole : length image ≡ 32 → (n : ℕ) (left : List ℕ) → n ≡ openingOf b → left ≡ imageOf fresh → Opens b image n left
   unfolding opened
   open-whole l n left p q = record { number = rw (eq-eqb (length image) 32 l) p; leaves = rw (eq-eqb (length image) 32 l) q }
 
   module _ (e : Event) where
-    pub event-short : (length image ≡ 32 → ⊥) → (n : ℕ) → n ≡ opening fullSpeed b → n ≡ 0 → event b image e ≡ record { answer = Refused 8; image = image }
+    pub event-short : (length image ≡ 32 → ⊥) → (n : ℕ) → n ≡ openingOf b → n ≡ 0 → event b image e ≡ record { answer = Refused 8; image = image }
     unfolding event
-    event-short s n p q = rw (ne-eqb (length image) 32 s, eq-eqb (opening fullSpeed b) 0 (sym p ∙ q))
+    event-short s n p q = rw (ne-eqb (length image) 32 s, eq-eqb (openingOf b) 0 (sym p ∙ q))
 
-    pub event-refused : (length image ≡ 32 → ⊥) → (n : ℕ) → n ≡ opening fullSpeed b → (n ≡ 0 → ⊥) → event b image e ≡ record { answer = Refused 7; image = image }
+    pub event-refused : (length image ≡ 32 → ⊥) → (n : ℕ) → n ≡ openingOf b → (n ≡ 0 → ⊥) → event b image e ≡ record { answer = Refused 7; image = image }
     unfolding event
-    event-refused s n p q = rw (ne-eqb (length image) 32 s, ne-eqb (opening fullSpeed b) 0 (λ z. q (p ∙ z)))
+    event-refused s n p q = rw (ne-eqb (length image) 32 s, ne-eqb (openingOf b) 0 (λ z. q (p ∙ z)))
 
     pub event-whole : length image ≡ 32 → event b image e ≡ replyOf (step b (deviceOf image) e)
     unfolding event

@@ -15,7 +15,7 @@ use Rattle.octets.proofs.Sentences.{both, any-member, member-any}
 use Rattle.descriptors.specs.declared.Endpoint.{Endpoint}
 use Rattle.descriptors.specs.Configuration.{Configuration, hasInterface, hasSetting, currentOf, addressed, canHalt, bitOf, cleared, ofEither}
 use Rattle.sets.specs.declared.Entry.{Entry}
-use Rattle.sets.specs.View.{View, byIndex, byValue, wakes}
+use Rattle.sets.specs.View.{View, entryByIndex, byIndex, byValue, wakes}
 use Rattle.records.specs.declared.Device.{Device}
 use Rattle.records.specs.Device.{inDefault, inAddress, inConfigured, nothing, fresh, settled, withWaiting, withWakeup, withAddress, withConfiguration, withEndpoints}
 use Rattle.records.specs.Current.{selected, endpointAt}
@@ -254,8 +254,8 @@ module _ (v : View) (T : Type 0) (k : ℕ) (d s : Device) (h : Near v T k d s) w
         (λ p. test (leb 1 (q .value % 256) && eqb (q .value % 256) (v .serial))
         (λ t. test (member (q .index) (v .languages)) (λ u. give refl) (λ u. refuse 13))
         (λ t. alike-part (first (isEntry 3 (q .value % 256) (languageFor (q .value % 256) (q .index))) (v .entries))))
-        (λ p. test (eqb (q .value / 256) 1 || eqb (q .value / 256) 2)
-        (λ t. alike-part (first (isEntry (q .value / 256) (q .value % 256) 0) (v .entries))) (λ t. refuse 13))
+        (λ p. test (eqb (q .value / 256) 2) (λ t. alike-part (entryByIndex (record { 0 = q .value % 256 }) (v .entries)))
+        (λ t. test (eqb (q .value / 256) 1) (λ u. alike-part (first (isEntry 1 (q .value % 256) 0) (v .entries))) (λ u. refuse 13)))
 
     alike-get-configuration : Alike v T k (getConfiguration v d q) (getConfiguration v s q)
     unfolding getConfiguration

@@ -15,7 +15,9 @@ use Rattle.laws.proofs.Recipients.{let-through}
 use Rattle.descriptors.specs.declared.Endpoint.{Endpoint}
 use Rattle.descriptors.specs.Configuration.{hasInterface, hasSetting, canHalt, bitOf}
 use Rattle.sets.specs.declared.Entry.{Entry}
-use Rattle.sets.specs.View.{View, wakes}
+use Rattle.descriptors.specs.declared.ConfigurationIndex.{ConfigurationIndex}
+use Rattle.sets.specs.View.{View, entryByIndex, wakes}
+use Rattle.sets.proofs.Lookups.{by-index-member}
 use Rattle.records.specs.declared.Device.{Device}
 use Rattle.records.specs.Device.{inDefault, inAddress, inConfigured, nothing, fresh, settled, withWaiting, withWakeup, withAddress, withConfiguration, withEndpoints}
 use Rattle.records.specs.Current.{selected, currentEndpoints, endpointAt}
@@ -152,10 +154,14 @@ module _ (v : View) (d : Device) (s : Setup) where
       (λ e. chosen (Answered v d) (leb 1 (s .value % 256) && eqb (s .value % 256) (v .serial))
       (λ e. chosen (Answered v d) (member (s .index) (v .languages)) (λ e. fromSerial (s .length)) (λ e. missing))
       (λ e. at 3 (s .value % 256) (languageFor (s .value % 256) (s .index)) _ refl))
-      (λ e. chosen (Answered v d) (eqb (s .value / 256) 1 || eqb (s .value / 256) 2)
-      (λ e. at (s .value / 256) (s .value % 256) 0 _ refl)
-      (λ e. missing))
+      (λ e. chosen (Answered v d) (eqb (s .value / 256) 2) (λ e. numbered (record { 0 = s .value % 256 }) _ refl)
+      (λ e. chosen (Answered v d) (eqb (s .value / 256) 1) (λ e. at 1 (s .value % 256) 0 _ refl)
+      (λ e. missing)))
     where
+      numbered : (i : ConfigurationIndex) (o : Option Entry) → entryByIndex i (v .entries) ≡ o → Answered v d (setPart d (s .length) o)
+      numbered i none e = missing
+      numbered i (some x) e = fromSet x (s .length) (by-index-member i (v .entries) e)
+
       at : (kind index language : ℕ) (o : Option Entry) → first (isEntry kind index language) (v .entries) ≡ o → Answered v d (setPart d (s .length) o)
       at kind index language none e = missing
       at kind index language (some x) e = fromSet x (s .length) (first-some (isEntry kind index language) (v .entries) e .0)

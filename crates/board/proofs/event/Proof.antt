@@ -4,7 +4,7 @@ use Rattle.records.specs.declared.Device.{Device}
 use Rattle.records.specs.Image.{imageOf}
 use Rattle.events.specs.declared.Outcome.{Outcome}
 use Rattle.events.specs.Step.{Reply, step, event}
-use Rattle.board.specs.Exports.{lent}
+use Rattle.sets.specs.Opening.{lent}
 use Rattle.board.proofs.Lengths.{event-short, event-refused, event-whole}
 use borrow.Author.Needs.{needs}
 use Rattle.board.proofs.event.Statement.{statement}

@@ -39,8 +39,8 @@ use denote.Triple.Clauses.{Lasts, ensured, lasts}
 use denote.Triple.Table.{entered, cited}
 use denote.Triple.Walked.{says, Stays, stay-dropped, gave-ref, walkOf, AllGo, Goes, Silent, goes-dropped, goes-gave-ref, Walks, ends-at, walked, walk-meets}
 use denote.Exit.{yes}
-use Rattle.descriptors.specs.Limits.{fullSpeed}
-use Rattle.sets.specs.Opening.{Board, opening}
+use Rattle.sets.specs.Opening.{Board, lent}
+use Rattle.sets.specs.View.{openingOf}
 use Rattle.records.specs.declared.Device.{Device}
 use Rattle.records.proofs.Device as D
 use Rattle.events.specs.declared.Answer.{Answer}
@@ -53,16 +53,16 @@ use Rattle.events.proofs.Answer as A
 use Rattle.events.proofs.Answer.Laws as A′
 use Rattle.events.proofs.Event as E
 use Rattle.events.proofs.Event.Laws as E′
-use Rattle.events.proofs.opening as opens
-use Rattle.events.proofs.opening.Symbol as opens-def
-use Rattle.events.proofs.opening.Symbol.{name as #opening}
-use Rattle.events.proofs.opening.Met as opens-thm
-use Rattle.events.proofs.step_lent as step-lent
-use Rattle.events.proofs.step_lent.Symbol as step-lent-def
-use Rattle.events.proofs.step_lent.Symbol.{name as #step-lent}
-use Rattle.events.proofs.step_lent.Met as step-lent-thm
+use Rattle.steps.proofs.opening as opens
+use Rattle.steps.proofs.opening.Symbol as opens-def
+use Rattle.steps.proofs.opening.Symbol.{name as #opening}
+use Rattle.steps.proofs.opening.Met as opens-thm
+use Rattle.steps.proofs.step_lent as step-lent
+use Rattle.steps.proofs.step_lent.Symbol as step-lent-def
+use Rattle.steps.proofs.step_lent.Symbol.{name as #step-lent}
+use Rattle.steps.proofs.step_lent.Met as step-lent-thm
 use Rattle.promises.specs.Refusals.{stepInside}
-use Rattle.board.specs.Exports.{lent, spotOf, Hands, numbered, AnswersRecordEvent}
+use Rattle.board.specs.Exports.{spotOf, Hands, numbered, AnswersRecordEvent}
 use Rattle.board.proofs.numbers.event_of as event-of
 use Rattle.board.proofs.numbers.event_of.Symbol as event-of-def
 use Rattle.board.proofs.numbers.event_of.Symbol.{name as #event-of}
@@ -220,8 +220,8 @@ module _ {M : Type 1} (𝓤 : URA M) (H : Heap 𝓤) (At : Atoms 𝓤) (W : Give
       copy-serial : ent 𝓤 (sem 𝓤 H At Serial) (sep 𝓤 (sem 𝓤 H At Serial) (sem 𝓤 H At Serial))
       copy-serial = shr-slice-copy 𝓤 H At W (named 0) κ₀ u8 .twice serial (slice-mach serial ∷ [])
 
-  opening-is : (m : ℕ) → ent 𝓤 (ensured 𝓤 H At opens.ended (opens.clauses 𝓤 H At at-mem run) (κ₀, (κ₀, tt)) (set, (serial, tt)) tt m) (fact 𝓤 (m ≡ opening fullSpeed board))
-  opening-is m = exE 𝓤 _ (λ ws. snd∗ 𝓤 (sem 𝓤 H At (lasts opens.ended (κ₀, (κ₀, tt)) (set, (serial, tt)) ws)) (fact 𝓤 (m ≡ opening fullSpeed board)))
+  opening-is : (m : ℕ) → ent 𝓤 (ensured 𝓤 H At opens.ended (opens.clauses 𝓤 H At at-mem run) (κ₀, (κ₀, tt)) (set, (serial, tt)) tt m) (fact 𝓤 (m ≡ openingOf board))
+  opening-is m = exE 𝓤 _ (λ ws. snd∗ 𝓤 (sem 𝓤 H At (lasts opens.ended (κ₀, (κ₀, tt)) (set, (serial, tt)) ws)) (fact 𝓤 (m ≡ openingOf board)))
 
   -- of the callee's `ensured`, the clause alone
   event-is : (e : Event) → ent 𝓤 (ensured 𝓤 H At event-of.ended (event-of.clauses 𝓤 H At at-mem run) (κ₂, tt) (kind, (endpoint, (setup, tt))) tt e) (fact 𝓤 (e ≡ event₀))
@@ -235,7 +235,7 @@ module _ {M : Type 1} (𝓤 : URA M) (H : Heap 𝓤) (At : Atoms 𝓤) (W : Give
     abbrev to-lent : Lent 𝓤 H At at-mem run .Ghost
     to-lent = (((κ₁, (κ₀, (κ₀, tt))), (q₁, (left, (right, tt))), tt, a₂, (x ∷ [], (ptr-mach device ∷ [], (slice-mach set ∷ [], (slice-mach serial ∷ [], (u ∷ [], tt)))))), tt)
 
-    goes-lent : m ≡ opening fullSpeed board → ent 𝓤 (sep 𝓤 (sep 𝓤 (sem 𝓤 H At (E.the-row .own e (u ∷ []))) (sem 𝓤 H At (u8 .own m (x ∷ [])))) (sep 𝓤 (mean 𝓤 H At Tokens₀) (mean 𝓤 H At Ask₂))) (Lent 𝓤 H At at-mem run .pre to-lent)
+    goes-lent : m ≡ openingOf board → ent 𝓤 (sep 𝓤 (sep 𝓤 (sem 𝓤 H At (E.the-row .own e (u ∷ []))) (sem 𝓤 H At (u8 .own m (x ∷ [])))) (sep 𝓤 (mean 𝓤 H At Tokens₀) (mean 𝓤 H At Ask₂))) (Lent 𝓤 H At at-mem run .pre to-lent)
     goes-lent number =
         qed W ((‵ (E.the-row .own e (u ∷ [])) ⊛ ‵ (u8 .own m (x ∷ []))) ∷ Tokens₀ ∷ Ask₂ ∷ []) ∵ says ! number $ move ! (2 ∷ []) $ split ! $ move ! (0 ∷ 3 ∷ []) $ join ! $ move ! (2 ∷ []) $ split ! $
         -- [the event; the number; the tokens; device, set and serial]
@@ -320,7 +320,7 @@ module _ {M : Type 1} (𝓤 : URA M) (H : Heap 𝓤) (At : Atoms 𝓤) (W : Give
         -- [_16; …; _0; …; the event's; the record's; the answer's; opening's]
         move ! (37 ∷ []) $ calls-at ! fm (Opening 𝓤 H At at-mem run) known-opening to-opening (and-then ! (load ! (from ! (stop !)) (look ! 31 refl)) (and-then ! (load ! (from ! (stop !)) (look ! 29 refl)) (no-more !))) (λ x.
         use1 W (later (some (λ (m : ℕ). (Tokens₀ ⊛ ‵ (u8 .own m (x ∷ []))) ⊛ raw (ensured 𝓤 H At opens.ended (opens.clauses 𝓤 H At at-mem run) (κ₀, (κ₀, tt)) (set, (serial, tt)) tt m)))) (id⊢ 𝓤 _) $ await ! tt $ pick ! (λ m.
-        split ! $ move ! (1 ∷ []) $ use1 W (raw (fact 𝓤 (m ≡ opening fullSpeed board))) (opening-is m) $ heard ! (m ≡ opening fullSpeed board) (λ e₀. split ! $ move ! (1 ∷ []) $ peeks ! u8 (Is u8) (shows 𝓤 H At u8) m (x ∷ []) (λ is-opening.
+        split ! $ move ! (1 ∷ []) $ use1 W (raw (fact 𝓤 (m ≡ openingOf board))) (opening-is m) $ heard ! (m ≡ openingOf board) (λ e₀. split ! $ move ! (1 ∷ []) $ peeks ! u8 (Is u8) (shows 𝓤 H At u8) m (x ∷ []) (λ is-opening.
         -- [opening's number; κ₀ in halves; _16; …; _0; …; the event's; the record's; the answer's]
         land ! (from ! (stop !)) (init ! 14 refl (uint-lawful 𝓤 H At W w8 .typed m _ is-opening .0)) $
         move ! (36 ∷ []) $ calls-at ! fm (EventOf 𝓤 H At at-mem run) known-event to-event (and-then ! (load ! (from ! (stop !)) (look ! 27 refl)) (and-then ! (load ! (from ! (stop !)) (look ! 25 refl)) (and-then ! (load ! (from ! (stop !)) (look ! 23 refl)) (no-more !)))) (λ u.
@@ -412,7 +412,7 @@ hk-record-event-spec 𝓤 H 𝓜 𝓖 𝓡 =
     entered 𝓤 H (tripleOf 𝓤 H (𝓖 .A) whole.signature (whole.spec 𝓤 H (𝓖 .A) (𝓜 .mem) (𝓡 .run)))
     (tables 𝓤 H 𝓜 𝓡 code.env .C) (tables 𝓤 H 𝓜 𝓡 code.env .Λ) #hk-record-event code.function (code.unfolded 𝓤 H 𝓜 𝓡)
     (meets 𝓤 H (𝓖 .A) (givenOf 𝓤 H 𝓜 𝓖) (𝓜 .mem) (𝓡 .run) (tablesOf 𝓤 H 𝓜 (tables 𝓤 H 𝓜 𝓡 code.env))
-    (cited 𝓤 H (Opening 𝓤 H (𝓖 .A) (𝓜 .mem) (𝓡 .run)) 𝓜 𝓡 code.env #opening opens-def.routine code.calls-events·opening (opens-thm.met 𝓤 H 𝓜 𝓖 𝓡))
+    (cited 𝓤 H (Opening 𝓤 H (𝓖 .A) (𝓜 .mem) (𝓡 .run)) 𝓜 𝓡 code.env #opening opens-def.routine code.calls-steps·opening (opens-thm.met 𝓤 H 𝓜 𝓖 𝓡))
     (cited 𝓤 H (EventOf 𝓤 H (𝓖 .A) (𝓜 .mem) (𝓡 .run)) 𝓜 𝓡 code.env #event-of event-of-def.routine code.calls-board·numbers·event-of (event-of-thm.met 𝓤 H 𝓜 𝓖 𝓡))
-    (cited 𝓤 H (Lent 𝓤 H (𝓖 .A) (𝓜 .mem) (𝓡 .run)) 𝓜 𝓡 code.env #step-lent step-lent-def.routine code.calls-events·step-lent (step-lent-thm.met 𝓤 H 𝓜 𝓖 𝓡))
+    (cited 𝓤 H (Lent 𝓤 H (𝓖 .A) (𝓜 .mem) (𝓡 .run)) 𝓜 𝓡 code.env #step-lent step-lent-def.routine code.calls-steps·step-lent (step-lent-thm.met 𝓤 H 𝓜 𝓖 𝓡))
     (cited 𝓤 H (HandOut 𝓤 H (𝓖 .A) (𝓜 .mem) (𝓡 .run)) 𝓜 𝓡 code.env #hand-out hand-out-def.routine code.calls-board·numbers·hand-out (hand-out-thm.met 𝓤 H 𝓜 𝓖 𝓡)))

@@ -3,7 +3,7 @@ use mathlib.Core.Path.{_≡_, ap, _∙_}
 use Rattle.events.specs.declared.Event.{Event}
 use Rattle.events.specs.Step.{event, setupEvent}
 use Rattle.promises.specs.Refusals.{eventInside}
-use Rattle.board.specs.Exports.{lent}
+use Rattle.sets.specs.Opening.{lent}
 use borrow.Author.Needs.{needs}
 use Rattle.board.proofs.hk_setup.Statement.{statement}
 use Rattle.board.proofs.hk_setup.Tie as tie
