@@ -18,7 +18,7 @@ use Rattle.sets.specs.declared.Entry.{Entry}
 use Rattle.sets.specs.Contents.{bodyOf, entriesOf}
 use Rattle.sets.specs.Device.{bMaxPacketSize0, goodDevice, goodDeviceEntries, headBody, deviceBody}
 use Rattle.sets.specs.Opening.{Board, goodDevices, opening}
-use Rattle.sets.specs.View.{View, viewOf, accepted, wakes}
+use Rattle.sets.specs.View.{View, viewOf, entryByIndex, accepted, wakes}
 use Rattle.records.specs.declared.Device.{Device}
 use Rattle.records.specs.Device.{nothing, withWaiting}
 use Rattle.records.specs.Current.{selected, endpointAt}
@@ -85,9 +85,8 @@ module _ (v : View) (d : Device) (s : Setup) where
       (λ e. chosen Fine (leb 1 (s .value % 256) && eqb (s .value % 256) (v .serial))
       (λ e. chosen Fine (member (s .index) (v .languages)) (λ e. omega arith) (λ e. no 13))
       (λ e. at (first (isEntry 3 (s .value % 256) (languageFor (s .value % 256) (s .index))) (v .entries))))
-      (λ e. chosen Fine (eqb (s .value / 256) 1 || eqb (s .value / 256) 2)
-      (λ e. at (first (isEntry (s .value / 256) (s .value % 256) 0) (v .entries)))
-      (λ e. no 13))
+      (λ e. chosen Fine (eqb (s .value / 256) 2) (λ e. at (entryByIndex (record { 0 = s .value % 256 }) (v .entries)))
+      (λ e. chosen Fine (eqb (s .value / 256) 1) (λ e. at (first (isEntry 1 (s .value % 256) 0) (v .entries))) (λ e. no 13)))
     where
       at : (o : Option Entry) → Fine (setPart d (s .length) o)
       at none = no 13
