@@ -1,4 +1,4 @@
--- What opening and events do by the image's length, and an answer's two bytes. Assumes nothing.
+-- What opening and events do by the image's length, and an answer's two bytes. No axiom.
 use Prim.Native.Nat.{ℕ}
 use mathlib.Core.Path.{_≡_, refl, sym, _∙_}
 use mathlib.Core.List.{List, [], _∷_}
@@ -8,8 +8,7 @@ use Rattle.sets.specs.Opening.{Board}
 use Rattle.sets.specs.View.{openingOf}
 use Rattle.records.specs.Device.{fresh}
 use Rattle.octets.specs.Octets.{byte}
-use Rattle.records.specs.Image.{imageOf}
-use Rattle.records.specs.Image.{deviceOf}
+use Rattle.records.specs.Image.{imageOf, deviceOf}
 use Rattle.events.specs.declared.Answer.{Answer}
 use Rattle.events.specs.declared.Answer.the-variants.{Done, OneByte, TwoBytes, SetPart, SerialPart, Refused}
 use Rattle.events.specs.declared.Event.{Event}

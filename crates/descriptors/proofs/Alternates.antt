@@ -1,4 +1,4 @@
--- Whether the alternate settings of all interfaces exist, from the words of a survey. Assumes nothing.
+-- Whether the alternate settings of all interfaces exist, from the words of a survey. No axiom.
 use Prim.Native.Nat.{ℕ, zero, suc, _-_, _<_, _≤_}
 use native.Mathlib.Omega.{arith}
 use mathlib.Core.Path.{_≡_, sym, _∙_}

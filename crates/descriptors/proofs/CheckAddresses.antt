@@ -1,5 +1,5 @@
 -- The check of a body, as to addresses: in descriptors that are good and in order, a walk that keeps three sets of addresses says that each two
--- endpoints are apart. Assumes nothing.
+-- endpoints are apart. No axiom.
 use Prim.Native.Nat.{ℕ, _+_, _*_, _/_, _%_, _<_, _≤_}
 use native.Mathlib.Nat.{le-refl, div-div-eq-div-mul}
 use native.Mathlib.Omega.{arith}

@@ -1,5 +1,5 @@
 -- The check of a body, as to the order of interfaces and the count of their endpoints: a walk from any state says what the sentences about
--- the groups say. Assumes nothing.
+-- the groups say. No axiom.
 use Prim.Native.Nat.{ℕ, zero, suc, _+_, _-_}
 use native.Mathlib.Omega.{arith}
 use mathlib.Core.Path.{_≡_, refl, sym, ap, _∙_}

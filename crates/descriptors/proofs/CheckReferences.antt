@@ -1,4 +1,4 @@
--- The string references of a body, told beside its check: those of the interface descriptors, one after another. Assumes nothing.
+-- The string references of a body, told beside its check: those of the interface descriptors, one after another. No axiom.
 use Prim.Native.Nat.{ℕ, _≤_, _<_}
 use mathlib.Core.Path.{_≡_, refl, sym, ap, _∙_}
 use mathlib.Core.List.{List, [], _∷_}

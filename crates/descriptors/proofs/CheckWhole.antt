@@ -1,4 +1,4 @@
--- The check of a body, whole: what a walk with a few words of state says is that the configuration is good. Assumes nothing.
+-- The check of a body, whole: what a walk with a few words of state says is that the configuration is good. No axiom.
 use Prim.Native.Nat.{ℕ, _<_, _≤_}
 use native.Mathlib.Omega.{arith}
 use native.Mathlib.Nat.{sub-zero, le-refl}

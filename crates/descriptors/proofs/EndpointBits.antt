@@ -1,4 +1,4 @@
--- The bits of endpoints in a word: which are set, what clearing them leaves, and whether a word stands at them alone. Assumes nothing.
+-- The bits of endpoints in a word: which are set, what clearing them leaves, and whether a word stands at them alone. No axiom.
 use Prim.Native.Nat.{ℕ, _^_, _<_, _≤_}
 use native.Mathlib.Omega.{arith}
 use lib.Dec.{eqb}

@@ -1,4 +1,4 @@
--- The row of limits of full speed, field by field in document 01's words, for every number. Assumes nothing.
+-- The row of limits of full speed, field by field in document 01's words, for every number. No axiom.
 use Prim.Native.Nat.{ℕ, _%_, _/_, _^_, _≤_, _<_}
 use native.Mathlib.Omega.{arith}
 use mathlib.Core.Path.{_≡_, refl, sym, _∙_}

@@ -1,4 +1,4 @@
--- A survey of a body: what each descriptor adds to it, and what it tells once the walk is over. Assumes nothing.
+-- A survey of a body: what each descriptor adds to it, and what it tells once the walk is over. No axiom.
 use Prim.Native.Nat.{ℕ, _%_, _<_, _≤_}
 use native.Mathlib.Omega.{arith}
 use mathlib.Core.Path.{_≡_, refl, sym, ap, _∙_}

@@ -1,4 +1,4 @@
--- A walk over the descriptors of a body, a descriptor at a time: said once, for every walk. Assumes nothing.
+-- A walk over the descriptors of a body, a descriptor at a time: said once, for every walk. No axiom.
 use Prim.Native.Nat.{ℕ, zero, suc, _+_, _-_, _≤_, _<_}
 use native.Mathlib.Nat.{not-suc-le-zero, le-of-suc-le-suc, add-sub-cancel-left}
 use native.Mathlib.Numerals.{add-one}

@@ -1,4 +1,4 @@
--- What a lookup tells of the board, and what GET_DESCRIPTOR answers from where a descriptor lies. Assumes nothing.
+-- What a lookup tells of the board, and what GET_DESCRIPTOR answers from where a descriptor lies. No axiom.
 use Prim.Native.Nat.{ℕ, zero, suc, _/_, _%_, _≤_, _<_, min}
 use native.Mathlib.Omega.{arith}
 use mathlib.Core.Path.{_≡_, refl}

@@ -1,4 +1,4 @@
--- What the table's row tells of a setup that it does not refuse. Assumes nothing.
+-- What the table's row tells of a setup that it does not refuse. No axiom.
 use Prim.Native.Nat.{ℕ, _<_}
 use native.Mathlib.Omega.{arith}
 use mathlib.Core.Path.{_≡_, refl, ap, _∙_}

@@ -1,4 +1,4 @@
--- The room that the lister's text can need, for any set: three bytes of text for each byte of an accepted set are enough. Assumes nothing.
+-- The room that the lister's text can need, for any set: three bytes of text for each byte of an accepted set are enough. No axiom.
 use Prim.Native.Nat.{ℕ, zero, suc, _+_, _-_, _*_, _/_, _%_, _≤_}
 use native.Mathlib.Omega.{arith}
 use mathlib.Core.Path.{_≡_, refl, ap, _∙_}
@@ -21,7 +21,8 @@ use Rattle.sets.specs.Contents.{entries, entriesOf, bodyOf, bodies, isKind, tot
 use Rattle.sets.specs.Opening.{Board, numberedFrom, goodConfigurations, opening}
 use Rattle.sets.proofs.Groups.{Groups, groups}
 use Rattle.listing.specs.Listing.{digits, fields, line, acceptedWord, refusedWord, configurationLines, acceptedLines, listing}
-use Rattle.listing.specs.Written.{room, descriptorLine, descriptorLines}
+use Rattle.listing.specs.Listed.{room}
+use Rattle.listing.specs.Written.{descriptorLine, descriptorLines}
 use Rattle.listing.proofs.Lines.{differ, headLine, good-descriptors, configuration-lines}
 
 -- ---- a line: its word, six bytes for each field, and the line feed

@@ -1,4 +1,4 @@
--- A number in decimal, digit by digit from the front. Assumes nothing.
+-- A number in decimal, digit by digit from the front. No axiom.
 use Prim.Native.Nat.{ℕ, zero, suc, _+_, _*_, _/_, _%_, _≤_, _<_}
 use native.Mathlib.Omega.{arith}
 use native.Mathlib.Nat.{div-div-eq-div-mul}

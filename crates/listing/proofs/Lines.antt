@@ -1,4 +1,4 @@
--- The lines of a configuration, descriptor by descriptor, and the fields of a line, one by one. Assumes nothing.
+-- The lines of a configuration, descriptor by descriptor, and the fields of a line, one by one. No axiom.
 use Prim.Native.Nat.{ℕ, _+_, _*_, _≤_, _<_}
 use native.Mathlib.Omega.{arith}
 use mathlib.Core.Path.{_≡_, refl, sym, ap, _∙_}

@@ -1,4 +1,4 @@
--- The text of a board that is refused and of one that is accepted, and a whole text at a buffer's start. Assumes nothing.
+-- The text of a board that is refused and of one that is accepted, and a whole text at a buffer's start. No axiom.
 use Prim.Native.Nat.{ℕ, _≤_}
 use native.Mathlib.Nat.{zero-add}
 use native.Mathlib.Omega.{arith}
@@ -15,7 +15,8 @@ use Rattle.sets.specs.Contents.{bodies}
 use Rattle.sets.specs.Opening.{Board, opening}
 use Rattle.sets.proofs.Groups.{groups}
 use Rattle.listing.specs.Listing.{line, refusedWord, acceptedLines, listing}
-use Rattle.listing.specs.Written.{Room, room, Wrote, Listed}
+use Rattle.listing.specs.Listed.{room, Listed}
+use Rattle.listing.specs.Written.{Room, Wrote}
 use Rattle.listing.proofs.Bound.{good-bodies, listing-length}
 
 -- n is what opening answered

@@ -1,4 +1,4 @@
--- One text written after another: what a run of writes, straight or in a loop, has still to write. Assumes nothing.
+-- One text written after another: what a run of writes, straight or in a loop, has still to write. No axiom.
 use Prim.Native.Nat.{ℕ, suc, _+_, _<_}
 use native.Mathlib.Nat.{add-zero}
 use native.Mathlib.Numerals.{add-one}

@@ -14,7 +14,6 @@ use Rattle.sets.specs.declared.Entry.{Entry}
 use Rattle.sets.specs.Contents.{isKind, bodyOf}
 use Rattle.descriptors.specs.Descriptor.{isInterface, isEndpoint, bInterfaceNumber, bAlternateSetting, bNumEndpoints}
 use Rattle.listing.specs.Listing.{line, endpointLine, configurationLines}
-pub use Rattle.listing.specs.Listed.{room, Listed}
 
 -- a buffer has room for a text at a place
 abbrev pub Room : List ℕ → ℕ → List ℕ → Type 0

@@ -14,7 +14,8 @@ ghost use Rattle.descriptors.specs.Cut.{cut, wellCut};
 ghost use Rattle.descriptors.specs.Configuration.{goodConfiguration};
 ghost use Rattle.sets.specs.Contents.{bodies};
 ghost use Rattle.listing.specs.Listing.{decimal, fields, line, endpointLine, configurationLines, acceptedLines};
-ghost use Rattle.listing.specs.Written.{Room, Wrote, room, lead, interfaceLine, descriptorLine, descriptorLines, entryLines, goodListed, Listed};
+ghost use Rattle.listing.specs.Listed.{room, Listed};
+ghost use Rattle.listing.specs.Written.{Room, Wrote, lead, interfaceLine, descriptorLine, descriptorLines, entryLines, goodListed};
 
 // The length of a buffer in which the text of any set has room.
 pub const ROOM: usize = 49152;

@@ -1,4 +1,4 @@
--- The laws of a number's bits: set, cleared and flipped. Flipping is exclusive or with a power of two, and the others are by it. Assumes nothing.
+-- The laws of a number's bits: set, cleared and flipped. Flipping is exclusive or with a power of two, and the others are by it. No axiom.
 use Prim.Native.Nat.{ℕ, zero, suc, _+_, _-_, _*_, _/_, _%_, _^_, _<_, _≤_, min}
 use native.Mathlib.Omega.{arith}
 use native.Mathlib.Nat.{pow-suc, zero-div, div-one, lt-of-lt-of-le, div-eq-of-lt, div-self, mul-div-cancel, pow-succ', div-div-eq-div-mul, one-mul, mod-eq-of-lt}

@@ -1,4 +1,4 @@
--- The laws of the words in which the rules are written: of tests and of sentences about a list. Assumes nothing.
+-- The laws of the words in which the rules are written: of tests and of sentences about a list. No axiom.
 use Prim.Native.Nat.{ℕ, zero, suc, _+_, _<_, _≤_}
 use native.Mathlib.Omega.{arith}
 use native.Mathlib.Numerals.{add-one}

@@ -1,4 +1,4 @@
--- The laws of a table of numbers below 256. Assumes nothing.
+-- The laws of a table of numbers below 256. No axiom.
 use Prim.Native.Nat.{ℕ, _/_, _%_, _<_}
 use native.Mathlib.Omega.{arith}
 use mathlib.Core.Path.{_≡_, refl, sym, ap, _∙_}

@@ -1,4 +1,4 @@
--- The bits of a word that is made of others: with a bit set or cleared, and without the bits of a mask. Assumes nothing.
+-- The bits of a word that is made of others: with a bit set or cleared, and without the bits of a mask. No axiom.
 use Prim.Native.Nat.{ℕ, zero, suc, _-_, _*_, _/_, _%_, _^_, _<_}
 use native.Mathlib.Omega.{arith}
 use native.Mathlib.Nat.{pow-suc, mul-comm, div-one, div-div-eq-div-mul, not-suc-le-zero}

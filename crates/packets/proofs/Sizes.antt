@@ -1,4 +1,4 @@
--- What follows from a size of 8, 16, 32 or 64: a packet below the count begins inside the reply. Assumes nothing.
+-- What follows from a size of 8, 16, 32 or 64: a packet below the count begins inside the reply. No axiom.
 use Prim.Native.Nat.{ℕ, _+_, _-_, _*_, _/_, _≤_, _<_, min}
 use native.Mathlib.Omega.{arith}
 use mathlib.Core.Path.{_≡_, refl, sym, subst}

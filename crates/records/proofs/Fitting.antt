@@ -1,4 +1,4 @@
--- A record fits, from what is told of the selected configuration. Assumes nothing.
+-- A record fits, from what is told of the selected configuration. No axiom.
 use Prim.Native.Nat.{ℕ}
 use mathlib.Core.Path.{_≡_}
 use mathlib.Core.Bool.{Bool, _&&_, _||_, not}

@@ -1,4 +1,4 @@
--- A record and its 32-byte image are inverse. Assumes nothing.
+-- A record and its 32-byte image are inverse. No axiom.
 use Prim.Native.Nat.{ℕ, zero, suc, _+_, _*_, _/_, _%_, _^_, _<_, _≤_}
 use native.Mathlib.Omega.{arith}
 use native.Mathlib.Nat.{add-zero, zero-add, le-of-eq, min-le-left, div-div-eq-div-mul}
@@ -8,8 +8,7 @@ use lib.ListN.{length, take, drop, length-append, length-take, length-drop, take
 use lib.Seq.{drop-cons, drop-drop, getD-append-add, take-at, take-length}
 use Rattle.octets.specs.Octets.{byte, part}
 use Rattle.records.specs.declared.Device.{Device}
-use Rattle.records.specs.Device.{withEndpoints}
-pub use Rattle.records.specs.Device.{Sized}
+use Rattle.records.specs.Device.{withEndpoints, Sized}
 use Rattle.records.specs.Image.{fourBytes, bytesOfFour, deviceOf, imageOf}
 
 -- a record is known by its alternates, halts and toggles, and the rest

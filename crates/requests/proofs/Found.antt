@@ -1,4 +1,4 @@
--- What a search of the table tells, and what `refusal` is then. Assumes nothing.
+-- What a search of the table tells, and what `refusal` is then. No axiom.
 use Prim.Native.Nat.{ℕ}
 use native.Mathlib.Omega.{arith}
 use mathlib.Core.Path.{_≡_, refl}

@@ -1,4 +1,4 @@
--- The laws of a set's contents: its entries, one after another, and the bodies that they name. Assumes nothing.
+-- The laws of a set's contents: its entries, one after another, and the bodies that they name. No axiom.
 use Prim.Native.Nat.{ℕ, zero, suc, _+_, _-_, _*_, _≤_, _<_}
 use native.Mathlib.Nat.{sub-zero}
 use native.Mathlib.Omega.{arith}

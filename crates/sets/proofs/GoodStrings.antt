@@ -1,4 +1,4 @@
--- Group 5 as the code asks it: by whether string 0 is there. Assumes nothing.
+-- Group 5 as the code asks it: by whether string 0 is there. No axiom.
 use Prim.Native.Nat.{ℕ}
 use native.Mathlib.Omega.{arith}
 use mathlib.Core.Path.{_≡_, refl, sym, ap, _∙_}
@@ -17,7 +17,7 @@ use Rattle.sets.specs.Contents.{bodyOf, bodies, entriesOf}
 use Rattle.sets.specs.Device.{deviceBody, iSerialNumber}
 use Rattle.sets.specs.Strings.{words, goodString, isStringZero, stringZero, languages, languageZero, listed, notSerial, goodReference, goodLanguages, references, goodStrings}
 use Rattle.sets.specs.Checks.{goodStringEntry, goodListed, mayName, deviceRefers, Read}
-use Rattle.sets.proofs.Sound.{Bytes}
+use Rattle.octets.specs.Octets.{Bytes}
 use Rattle.sets.proofs.Strings.{languages-of}
 use Rattle.sets.proofs.References.{references-set}
 use Rattle.sets.proofs.Bounds.{references-alike}

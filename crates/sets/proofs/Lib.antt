@@ -8,5 +8,4 @@ pub mod GoodStrings
 pub mod Groups
 pub mod Lookups
 pub mod References
-pub mod Sound
 pub mod Strings

@@ -1,4 +1,4 @@
--- The laws of strings: the languages that string 0 lists. Assumes nothing.
+-- The laws of strings: the languages that string 0 lists. No axiom.
 use Prim.Native.Nat.{ℕ, suc, _+_, _-_, _*_, _/_, _≤_, _<_}
 use native.Mathlib.Numerals.{add-one}
 use native.Mathlib.Omega.{arith}

@@ -1,4 +1,4 @@
--- The configurations of a set, from what is looked up in it; and what an accepted board tells of the selected one's body. Assumes nothing.
+-- The configurations of a set, from what is looked up in it; and what an accepted board tells of the selected one's body. No axiom.
 use Prim.Native.Nat.{ℕ, _%_, _<_}
 use native.Mathlib.Omega.{arith}
 use mathlib.Core.Path.{_≡_, refl, sym, _∙_}
@@ -23,7 +23,7 @@ use Rattle.sets.specs.Contents.{bodyOf, bodies, entries, entriesOf}
 use Rattle.sets.specs.Opening.{Board, numberedFrom, goodConfigurations}
 use Rattle.sets.specs.Found.{found, valued, configurationFound}
 use Rattle.sets.specs.View.{entryByIndex, byIndex, byValue, openingOf}
-use Rattle.sets.proofs.Sound.{Bytes}
+use Rattle.octets.specs.Octets.{Bytes}
 use Rattle.sets.proofs.Groups.{groups}
 use Rattle.sets.proofs.Bodies.{bytes-part, soundConfiguration}
 use Rattle.sets.proofs.Strings.{found-some}

@@ -1,4 +1,4 @@
--- The step by its order of refusals, and what it knows past them. Assumes nothing.
+-- The step by its order of refusals, and what it knows past them. No axiom.
 use Prim.Native.Nat.{ℕ, _<_}
 use native.Mathlib.Omega.{arith}
 use mathlib.Core.Path.{_≡_, ap, _∙_}

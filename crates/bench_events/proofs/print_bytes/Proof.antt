@@ -1,4 +1,4 @@
--- `bench_events::print_bytes` is safe and ends: each turn prints a byte. Assumes nothing.
+-- `bench_events::print_bytes` is safe and ends: each turn prints a byte. No axiom.
 use Prim.Native.Nat.{_-_, _≤_}
 use lib.ListN.{length}
 use borrow.Author.Needs.{needs}

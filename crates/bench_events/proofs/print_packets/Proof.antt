@@ -1,4 +1,4 @@
--- `bench_events::print_packets` is safe and ends: the packets are not more than a bound. Assumes nothing.
+-- `bench_events::print_packets` is safe and ends: the packets are not more than a bound. No axiom.
 use Prim.Native.Nat.{_-_, _≤_}
 use borrow.Author.Needs.{needs}
 use Rattle.bench_events.proofs.print_packets.Statement.{statement}

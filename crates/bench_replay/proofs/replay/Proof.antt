@@ -1,4 +1,4 @@
--- `bench_replay::replay` is safe: the part of a step's answer lies inside its slice. Assumes nothing.
+-- `bench_replay::replay` is safe: the part of a step's answer lies inside its slice. No axiom.
 use Rattle.promises.specs.Refusals.{stepInside}
 use borrow.Author.Needs.{needs}
 use Rattle.bench_replay.proofs.replay.Statement.{statement}

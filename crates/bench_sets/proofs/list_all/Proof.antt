@@ -1,4 +1,4 @@
--- `bench_sets::list_all` is safe and ends: each record has a size. Assumes nothing.
+-- `bench_sets::list_all` is safe and ends: each record has a size. No axiom.
 use Prim.Native.Nat.{_-_, _≤_}
 use lib.ListN.{length}
 use borrow.Author.Needs.{needs}

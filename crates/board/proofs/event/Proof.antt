@@ -1,4 +1,4 @@
--- `board::event` meets its contract, by the image's length. Assumes nothing.
+-- `board::event` meets its contract, by the image's length. No axiom.
 use mathlib.Core.Path.{sym, ap, _∙_}
 use Rattle.records.specs.declared.Device.{Device}
 use Rattle.records.specs.Image.{imageOf}

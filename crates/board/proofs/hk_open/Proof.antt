@@ -1,4 +1,4 @@
--- `board::hk_open` meets its contract: an image of another length, and the rest. Assumes nothing.
+-- `board::hk_open` meets its contract: an image of another length, and the rest. No axiom.
 use mathlib.Core.Path.{ap, _∙_}
 use Rattle.records.specs.Image.{imageOf}
 use Rattle.board.proofs.Lengths.{open-short, open-whole}

@@ -1,4 +1,4 @@
--- `board::hk_packet` meets its contract: the cutter's number and part. Assumes nothing.
+-- `board::hk_packet` meets its contract: the cutter's number and part. No axiom.
 use mathlib.Core.Path.{ap}
 use Rattle.packets.specs.declared.Packet.{Packet}
 use borrow.Author.Needs.{needs}

@@ -1,5 +1,5 @@
 -- `board::hk_record_event` meets its contract: a walk of its MIR, by hand. Four calls, of which the proof knows only the contracts: opening, the event of the numbers, the entry on the lent record, and the answer handed out. Each `&mut` is passed on for good.
--- Positions: with 17 locals, local i stands at 2 · (16 − i), after what the comments list in front of it. Assumes nothing.
+-- Positions: with 17 locals, local i stands at 2 · (16 − i), after what the comments list in front of it. No axiom.
 use mathlib.Core.Path.{_≡_, refl, sym, ap, subst, _∙_}
 use Prim.Native.Nat.{ℕ, _<_, _^_}
 use mathlib.Core.List.{[], _∷_, List}

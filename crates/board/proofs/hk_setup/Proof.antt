@@ -1,4 +1,4 @@
--- `board::hk_setup` meets its contract: the event's answer, handed out. Assumes nothing.
+-- `board::hk_setup` meets its contract: the event's answer, handed out. No axiom.
 use mathlib.Core.Path.{_≡_, ap, _∙_}
 use Rattle.events.specs.declared.Event.{Event}
 use Rattle.events.specs.Step.{event, setupEvent}

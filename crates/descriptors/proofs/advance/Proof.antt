@@ -1,4 +1,4 @@
--- `descriptors::advance` meets its contract: the three tests that stop it, and the step. Assumes nothing.
+-- `descriptors::advance` meets its contract: the three tests that stop it, and the step. No axiom.
 use mathlib.Core.Bool.{and-false}
 use borrow.Author.Tests.{lt-leb, le-leb, lt-ltb, le-ltb}
 use native.Mathlib.Omega.{arith}

@@ -1,4 +1,4 @@
--- `descriptors::stand_of` meets its contract. Assumes nothing.
+-- `descriptors::stand_of` meets its contract. No axiom.
 use mathlib.Core.Path.{sym, _∙_}
 use borrow.Author.Tests.{eq-eqb, ne-eqb}
 use borrow.Author.Needs.{needs}

@@ -1,4 +1,4 @@
--- `descriptors::step_over` meets its contract: the descriptor is whole, so it ends inside the body. Assumes nothing.
+-- `descriptors::step_over` meets its contract: the descriptor is whole, so it ends inside the body. No axiom.
 use native.Mathlib.Nat.{add-sub-cancel-left}
 use native.Mathlib.Omega.{arith}
 use borrow.Author.Needs.{needs}

@@ -1,4 +1,4 @@
--- `events::setup_event` meets its contract: by the length. Assumes nothing.
+-- `events::setup_event` meets its contract: by the length. No axiom.
 use borrow.Author.Tests.{eq-eqb, ne-eqb}
 use borrow.Author.Needs.{needs}
 use Rattle.events.proofs.setup_event.Statement.{statement}

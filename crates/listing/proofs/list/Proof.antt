@@ -1,4 +1,4 @@
--- `listing::list` meets its contract, refused or accepted. Assumes nothing.
+-- `listing::list` meets its contract, refused or accepted. No axiom.
 use Prim.Native.Nat.{ℕ}
 use mathlib.Core.List.{List}
 use mathlib.Core.Path.{_≡_, _∙_}

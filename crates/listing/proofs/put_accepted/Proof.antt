@@ -1,4 +1,4 @@
--- `listing::put_accepted` meets its contract: the first line, and those of the configurations. Assumes nothing.
+-- `listing::put_accepted` meets its contract: the first line, and those of the configurations. No axiom.
 use mathlib.Core.Path.{_≡_, refl, sym, _∙_}
 use mathlib.Core.List.{List, [], _∷_, flatMap}
 use Prim.Native.Nat.{ℕ}

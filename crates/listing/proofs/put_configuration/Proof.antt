@@ -1,4 +1,4 @@
--- `listing::put_configuration` meets its contract: its own line, and those of its descriptors. Assumes nothing.
+-- `listing::put_configuration` meets its contract: its own line, and those of its descriptors. No axiom.
 use Rattle.descriptors.specs.Limits.{fullSpeed}
 use Rattle.listing.specs.Written.{Wrote, descriptorLines}
 use Rattle.listing.proofs.Written.{begun, room-for, next, wrote-both}

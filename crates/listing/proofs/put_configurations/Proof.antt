@@ -1,4 +1,4 @@
--- `listing::put_configurations` meets its contract: the lines of the entries that are left. Assumes nothing.
+-- `listing::put_configurations` meets its contract: the lines of the entries that are left. No axiom.
 use Prim.Native.Nat.{_+_, _-_}
 use mathlib.Core.Path.{_≡_, sym}
 use mathlib.Core.Bool.{true}

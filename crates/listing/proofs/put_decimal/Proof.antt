@@ -1,4 +1,4 @@
--- `listing::put_decimal` meets its contract: digit by digit. Assumes nothing.
+-- `listing::put_decimal` meets its contract: digit by digit. No axiom.
 use native.Mathlib.Omega.{arith}
 use mathlib.Core.Path.{refl}
 use mathlib.Core.List.{[]}

@@ -1,4 +1,4 @@
--- `listing::put_descriptor` meets its contract, by the descriptor's type. Assumes nothing.
+-- `listing::put_descriptor` meets its contract, by the descriptor's type. No axiom.
 use mathlib.Core.Path.{sym, _∙_}
 use borrow.Author.Tests.{eq-eqb, ne-eqb}
 use Rattle.listing.proofs.Written.{wrote-nothing}

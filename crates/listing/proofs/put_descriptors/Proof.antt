@@ -1,4 +1,4 @@
--- `listing::put_descriptors` meets its contract: the lines of the descriptors ahead are left. Assumes nothing.
+-- `listing::put_descriptors` meets its contract: the lines of the descriptors ahead are left. No axiom.
 use native.Mathlib.Omega.{arith}
 use Prim.Native.Nat.{_-_}
 use mathlib.Core.List.{flatMap}

@@ -1,4 +1,4 @@
--- `listing::put_endpoint` meets its contract. Assumes nothing.
+-- `listing::put_endpoint` meets its contract. No axiom.
 use borrow.Author.Needs.{needs}
 use Rattle.listing.proofs.put_endpoint.Statement.{statement}
 use Rattle.listing.proofs.put_endpoint.Tie as tie

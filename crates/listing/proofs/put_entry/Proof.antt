@@ -1,4 +1,4 @@
--- `listing::put_entry` meets its contract, by the entry's type. Assumes nothing.
+-- `listing::put_entry` meets its contract, by the entry's type. No axiom.
 use borrow.Author.Tests.{eq-eqb, ne-eqb}
 use Rattle.octets.proofs.Sentences.{if-then}
 use Rattle.descriptors.specs.Limits.{fullSpeed}

@@ -1,4 +1,4 @@
--- `listing::put_fields` meets its contract: the fields that are left are written. Assumes nothing.
+-- `listing::put_fields` meets its contract: the fields that are left are written. No axiom.
 use native.Mathlib.Omega.{arith}
 use Prim.Native.Nat.{_+_, _-_, _≤_}
 use mathlib.Core.Path.{refl}

@@ -1,4 +1,4 @@
--- `listing::put_interface` meets its contract. Assumes nothing.
+-- `listing::put_interface` meets its contract. No axiom.
 use borrow.Author.Needs.{needs}
 use Rattle.listing.proofs.put_interface.Statement.{statement}
 use Rattle.listing.proofs.put_interface.Tie as tie

@@ -1,4 +1,4 @@
--- `listing::put_lead` meets its contract. Assumes nothing.
+-- `listing::put_lead` meets its contract. No axiom.
 use borrow.Author.Tests.{le-leb, lt-leb}
 use borrow.Author.Needs.{needs}
 use Rattle.listing.proofs.Written.{wrote-nothing}

@@ -1,4 +1,4 @@
--- `listing::put_line` meets its contract. Assumes nothing.
+-- `listing::put_line` meets its contract. No axiom.
 use mathlib.Core.Path.{refl}
 use Rattle.listing.specs.Listing.{fields}
 use Rattle.listing.proofs.Written.{begun, room-for, next, wrote-both}

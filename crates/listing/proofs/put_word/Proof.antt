@@ -1,4 +1,4 @@
--- `listing::put_word` meets its contract: the bytes that are left are written. Assumes nothing.
+-- `listing::put_word` meets its contract: the bytes that are left are written. No axiom.
 use native.Mathlib.Omega.{arith}
 use Prim.Native.Nat.{_-_, _≤_}
 use mathlib.Core.List.{[], _∷_}

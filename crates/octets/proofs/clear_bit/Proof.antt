@@ -1,4 +1,4 @@
--- `octets::clear_bit` meets its contract. Assumes nothing.
+-- `octets::clear_bit` meets its contract. No axiom.
 use borrow.Author.Needs.{needs}
 use Rattle.octets.proofs.Bits.{shifted-one, and-clears}
 use Rattle.octets.proofs.clear_bit.Statement.{statement}

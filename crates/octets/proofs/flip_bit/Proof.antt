@@ -1,4 +1,4 @@
--- `octets::flip_bit` meets its contract. Assumes nothing.
+-- `octets::flip_bit` meets its contract. No axiom.
 use borrow.Author.Needs.{needs}
 use Rattle.octets.proofs.Bits.{shifted-one, xor-flips}
 use Rattle.octets.proofs.flip_bit.Statement.{statement}

@@ -1,4 +1,4 @@
--- `octets::has_only` meets its contract: no bit is left. Assumes nothing.
+-- `octets::has_only` meets its contract: no bit is left. No axiom.
 use Rattle.octets.proofs.Words.{nothing-left}
 use Rattle.octets.proofs.has_only.Statement.{statement}
 use Rattle.octets.proofs.has_only.Tie as tie

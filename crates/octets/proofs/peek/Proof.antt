@@ -1,4 +1,4 @@
--- `octets::peek` meets its contract. Assumes nothing.
+-- `octets::peek` meets its contract. No axiom.
 use mathlib.Core.Path.{sym}
 use lib.ListN.{List·getD-eq-default}
 use borrow.Author.Needs.{needs}

@@ -1,4 +1,4 @@
--- `octets::set_bit` meets its contract. Assumes nothing.
+-- `octets::set_bit` meets its contract. No axiom.
 use borrow.Author.Needs.{needs}
 use Rattle.octets.proofs.Bits.{shifted-one, or-sets}
 use Rattle.octets.proofs.set_bit.Statement.{statement}

@@ -1,4 +1,4 @@
--- `octets::without` meets its contract, bit by bit. Assumes nothing.
+-- `octets::without` meets its contract, bit by bit. No axiom.
 use Rattle.octets.proofs.Words.{without-digit}
 use Rattle.octets.proofs.without.Statement.{statement}
 use Rattle.octets.proofs.without.Tie as tie

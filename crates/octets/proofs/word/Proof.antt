@@ -1,4 +1,4 @@
--- `octets::word` meets its contract: past the end both bytes are 0. Assumes nothing.
+-- `octets::word` meets its contract: past the end both bytes are 0. No axiom.
 use Prim.Native.Nat.{_≤_, _+_}
 use native.Mathlib.Omega.{arith}
 use lib.ListN.{length, List·getD-eq-default}

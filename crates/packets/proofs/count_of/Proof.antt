@@ -1,4 +1,4 @@
--- `packets::count_of` meets its contract. Assumes nothing.
+-- `packets::count_of` meets its contract. No axiom.
 use native.Mathlib.Nat.{div-le-self}
 use native.Mathlib.Omega.{arith}
 use borrow.Author.Tests.{eq-eqb, ne-eqb}

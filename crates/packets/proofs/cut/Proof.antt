@@ -1,4 +1,4 @@
--- `packets::cut` meets its contract. Assumes nothing.
+-- `packets::cut` meets its contract. No axiom.
 use lib.ListN.{length}
 use native.Mathlib.Omega.{arith}
 use native.Mathlib.Nat.{add-comm, add-sub-cancel-left}

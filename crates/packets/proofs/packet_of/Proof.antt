@@ -1,4 +1,4 @@
--- `packets::packet_of` meets its contract. Assumes nothing.
+-- `packets::packet_of` meets its contract. No axiom.
 use native.Mathlib.Omega.{arith}
 use mathlib.Core.Path.{sym, _∙_}
 use Prim.Native.Nat.{_<_}

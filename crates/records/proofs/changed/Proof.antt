@@ -1,4 +1,4 @@
--- `records::changed` meets its contract: field by field. Assumes nothing.
+-- `records::changed` meets its contract: field by field. No axiom.
 use borrow.Author.Needs.{needs}
 use Rattle.records.proofs.changed.Statement.{statement}
 use Rattle.records.proofs.changed.Tie as tie

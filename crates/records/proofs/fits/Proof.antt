@@ -1,4 +1,4 @@
--- `records::fits` meets its contract: each rule from what is told. Assumes nothing.
+-- `records::fits` meets its contract: each rule from what is told. No axiom.
 use borrow.Author.Needs.{needs}
 use Rattle.records.specs.Current.{selected}
 use Rattle.records.proofs.Fitting.{fitting}

@@ -1,4 +1,4 @@
--- `records::four_bytes` meets its contract: two numbers of two bytes. Assumes nothing.
+-- `records::four_bytes` meets its contract: two numbers of two bytes. No axiom.
 use Prim.Native.Nat.{ℕ, _+_}
 use native.Mathlib.Omega.{arith}
 use mathlib.Core.Path.{_≡_, ap}

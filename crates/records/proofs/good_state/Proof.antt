@@ -1,4 +1,4 @@
--- `records::good_state` meets its contract: the same tests. Assumes nothing.
+-- `records::good_state` meets its contract: the same tests. No axiom.
 use Rattle.records.proofs.good_state.Statement.{statement}
 use Rattle.records.proofs.good_state.Tie as tie
 

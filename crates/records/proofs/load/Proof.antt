@@ -1,4 +1,4 @@
--- `records::load` meets its contract. Assumes nothing.
+-- `records::load` meets its contract. No axiom.
 use mathlib.Core.Path.{_∙_}
 use Rattle.octets.specs.Octets.{part}
 use Rattle.records.specs.Device.{zeros}

@@ -1,4 +1,4 @@
--- `records::settings_after` meets its contract: by cases. Assumes nothing.
+-- `records::settings_after` meets its contract: by cases. No axiom.
 use borrow.Author.Tests.{lt-ltb, le-ltb}
 use borrow.Author.Needs.{needs}
 use Rattle.records.proofs.settings_after.Statement.{statement}

@@ -1,4 +1,4 @@
--- `records::store` meets its contract: four parts are written, each after the one before it, and together they are all 32 bytes. Assumes nothing.
+-- `records::store` meets its contract: four parts are written, each after the one before it, and together they are all 32 bytes. No axiom.
 use Prim.Native.Nat.{ℕ}
 use native.Mathlib.Nat.{le-of-eq}
 use mathlib.Core.Path.{_≡_, refl, sym, _∙_}

@@ -1,4 +1,4 @@
--- `records::store_four` meets its contract. Assumes nothing.
+-- `records::store_four` meets its contract. No axiom.
 use Prim.Native.Nat.{ℕ}
 use mathlib.Core.Path.{_≡_}
 use mathlib.Core.List.{List, [], _∷_}

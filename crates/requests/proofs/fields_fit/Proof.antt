@@ -1,4 +1,4 @@
--- `requests::fields_fit` meets its contract. Assumes nothing.
+-- `requests::fields_fit` meets its contract. No axiom.
 use borrow.Author.Needs.{needs}
 use Rattle.requests.proofs.fields_fit.Statement.{statement}
 use Rattle.requests.proofs.fields_fit.Tie as tie

@@ -1,4 +1,4 @@
--- `requests::find_row` meets its contract. The invariant: the first among the rows not yet passed is the first of the table. Assumes nothing.
+-- `requests::find_row` meets its contract. The invariant: the first among the rows not yet passed is the first of the table. No axiom.
 use Prim.Native.Nat.{ℕ, _+_, _-_, _^_, _<_, _≤_}
 use native.Mathlib.Omega.{arith}
 use borrow.Author.Count.{falls}

@@ -1,4 +1,4 @@
--- `requests::largest_index` meets its contract. Assumes nothing.
+-- `requests::largest_index` meets its contract. No axiom.
 use borrow.Author.Tests.{eq-eqb, ne-eqb}
 use Rattle.requests.proofs.largest_index.Statement.{statement}
 use Rattle.requests.proofs.largest_index.Tie as tie

@@ -1,4 +1,4 @@
--- `requests::refusal` meets its contract: each answer from the row that was found, or none, and the two tests. Assumes nothing.
+-- `requests::refusal` meets its contract: each answer from the row that was found, or none, and the two tests. No axiom.
 use mathlib.Core.Path.{sym, _∙_}
 use Rattle.requests.proofs.Found.{is-some, is-none, without-row, wrong-state, wrong-field, no-refusal}
 use borrow.Author.Needs.{needs}

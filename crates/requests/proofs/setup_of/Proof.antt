@@ -1,4 +1,4 @@
--- `requests::setup_of` meets its contract. Assumes nothing.
+-- `requests::setup_of` meets its contract. No axiom.
 use borrow.Author.Needs.{needs}
 use Rattle.requests.proofs.setup_of.Statement.{statement}
 use Rattle.requests.proofs.setup_of.Tie as tie

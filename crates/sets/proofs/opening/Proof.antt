@@ -1,4 +1,4 @@
--- `sets::opening` meets its contract: group after group. Assumes nothing.
+-- `sets::opening` meets its contract: group after group. No axiom.
 use mathlib.Core.Bool.{Bool, true, not}
 use mathlib.Core.Path.{_≡_, sym, ap, _∙_}
 use borrow.Author.Tests.{not-true, not-false}

@@ -1,4 +1,4 @@
--- `steps::opening` meets its contract: at full speed. Assumes nothing.
+-- `steps::opening` meets its contract: at full speed. No axiom.
 use mathlib.Core.Path.{ap, _∙_}
 use borrow.Author.Needs.{needs}
 use Rattle.descriptors.specs.declared.Limits.{Limits}

@@ -1,4 +1,4 @@
--- `steps::react` meets its contract: by the order of refusals. Assumes nothing.
+-- `steps::react` meets its contract: by the order of refusals. No axiom.
 use lib.Dec.{eqb}
 use borrow.Author.Needs.{needs}
 use mathlib.Core.Path.{sym, ap, _∙_}

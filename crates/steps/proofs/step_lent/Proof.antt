@@ -1,5 +1,5 @@
 -- `steps::step_lent` meets its contract: a walk of its MIR, by hand. The borrow is opened, the record is read whole and passed to `step`, of which the proof knows only its contract, and the borrow is closed at the record that `step` returned.
--- Positions: with 8 locals, local i stands at 2 · (7 − i), after what the comments list in front of it. Assumes nothing.
+-- Positions: with 8 locals, local i stands at 2 · (7 − i), after what the comments list in front of it. No axiom.
 use mathlib.Core.Path.{_≡_, refl, ap}
 use Prim.Native.Nat.{ℕ, zero, _<_, _^_}
 use mathlib.Core.List.{[], _∷_, List}

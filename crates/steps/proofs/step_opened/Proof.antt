@@ -1,4 +1,4 @@
--- `steps::step_opened` meets its contract: the record after the change. Assumes nothing.
+-- `steps::step_opened` meets its contract: the record after the change. No axiom.
 use borrow.Author.Needs.{needs}
 use Rattle.steps.proofs.step_opened.Tie as tie
 use Rattle.steps.proofs.step_opened.Statement.{statement}

@@ -1,4 +1,4 @@
--- `bench_replay::explain::differ_in_sizes` is safe and ends: a descriptor never starts past the byte that is compared. Assumes nothing.
+-- `bench_replay::explain::differ_in_sizes` is safe and ends: a descriptor never starts past the byte that is compared. No axiom.
 use Prim.Native.Nat.{_-_, _≤_}
 use lib.ListN.{length}
 use borrow.Author.Needs.{needs}

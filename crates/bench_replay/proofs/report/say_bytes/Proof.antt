@@ -1,4 +1,4 @@
--- `bench_replay::report::say_bytes` is safe and ends. Assumes nothing.
+-- `bench_replay::report::say_bytes` is safe and ends. No axiom.
 use Prim.Native.Nat.{_-_, _≤_}
 use lib.ListN.{length}
 use borrow.Author.Needs.{needs}

@@ -1,4 +1,4 @@
--- `board::numbers::event_of` meets its contract. Assumes nothing.
+-- `board::numbers::event_of` meets its contract. No axiom.
 use borrow.Author.Needs.{needs}
 use borrow.Author.Tests.{ne-eqb}
 use Rattle.board.proofs.numbers.event_of.Statement.{statement}

@@ -1,4 +1,4 @@
--- `board::numbers::hand_out` meets its contract: by what the answer hands out. Assumes nothing.
+-- `board::numbers::hand_out` meets its contract: by what the answer hands out. No axiom.
 use borrow.Author.Needs.{needs}
 use Rattle.board.proofs.Lengths.{two-bytes}
 use Rattle.board.proofs.numbers.hand_out.Statement.{statement}

@@ -1,4 +1,4 @@
--- `descriptors::check::at_endpoint` meets its contract. Assumes nothing.
+-- `descriptors::check::at_endpoint` meets its contract. No axiom.
 use borrow.Author.Needs.{needs}
 use Rattle.descriptors.proofs.check.at_endpoint.Statement.{statement}
 use Rattle.descriptors.proofs.check.at_endpoint.Tie as tie

@@ -1,4 +1,4 @@
--- `descriptors::check::at_interface` meets its contract. Assumes nothing.
+-- `descriptors::check::at_interface` meets its contract. No axiom.
 use borrow.Author.Needs.{needs}
 use Rattle.descriptors.proofs.check.at_interface.Statement.{statement}
 use Rattle.descriptors.proofs.check.at_interface.Tie as tie

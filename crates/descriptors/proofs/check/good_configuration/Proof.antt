@@ -1,4 +1,4 @@
--- `descriptors::check::good_configuration` meets its contract. Assumes nothing.
+-- `descriptors::check::good_configuration` meets its contract. No axiom.
 use Prim.Native.Nat.{_<_}
 use native.Mathlib.Omega.{arith}
 use mathlib.Core.Bool.{Bool, _&&_}

@@ -1,4 +1,4 @@
--- `descriptors::check::good_endpoint` meets its contract. Assumes nothing.
+-- `descriptors::check::good_endpoint` meets its contract. No axiom.
 use borrow.Author.Tests.{lt-leb, le-leb}
 use borrow.Author.Needs.{needs}
 use Rattle.descriptors.proofs.check.good_endpoint.Statement.{statement}

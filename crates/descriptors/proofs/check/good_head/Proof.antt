@@ -1,4 +1,4 @@
--- `descriptors::check::good_head` meets its contract. Assumes nothing.
+-- `descriptors::check::good_head` meets its contract. No axiom.
 use borrow.Author.Needs.{needs}
 use Rattle.descriptors.proofs.check.good_head.Statement.{statement}
 use Rattle.descriptors.proofs.check.good_head.Tie as tie

@@ -1,4 +1,4 @@
--- `descriptors::check::good_rest` meets its contract: what is asked of all is asked of the descriptors ahead, by the check and of the references. Assumes nothing.
+-- `descriptors::check::good_rest` meets its contract: what is asked of all is asked of the descriptors ahead, by the check and of the references. No axiom.
 use Prim.Native.Nat.{_-_, _≤_}
 use native.Mathlib.Omega.{arith}
 use mathlib.Core.Path.{_≡_, refl, sym, _∙_}

@@ -1,4 +1,4 @@
--- `descriptors::check::is_allowed` meets its contract: each type is asked what its rules ask. Assumes nothing.
+-- `descriptors::check::is_allowed` meets its contract: each type is asked what its rules ask. No axiom.
 use Prim.Native.Nat.{ℕ}
 use mathlib.Core.Path.{_≡_, refl, sym, ap, _∙_}
 use mathlib.Core.List.{List}

@@ -1,4 +1,4 @@
--- `descriptors::check::is_fresh` meets its contract. Assumes nothing.
+-- `descriptors::check::is_fresh` meets its contract. No axiom.
 use borrow.Author.Needs.{needs}
 use Rattle.descriptors.proofs.check.is_fresh.Statement.{statement}
 use Rattle.descriptors.proofs.check.is_fresh.Tie as tie

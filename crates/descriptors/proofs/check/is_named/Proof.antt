@@ -1,4 +1,4 @@
--- `descriptors::check::is_named` meets its contract. Assumes nothing.
+-- `descriptors::check::is_named` meets its contract. No axiom.
 use mathlib.Core.Path.{sym}
 use Rattle.octets.proofs.Bits.{bit-past}
 use borrow.Author.Needs.{needs}

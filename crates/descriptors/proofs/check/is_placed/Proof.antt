@@ -1,4 +1,4 @@
--- `descriptors::check::is_placed` meets its contract. Assumes nothing.
+-- `descriptors::check::is_placed` meets its contract. No axiom.
 use borrow.Author.Needs.{needs}
 use Rattle.descriptors.proofs.check.is_placed.Statement.{statement}
 use Rattle.descriptors.proofs.check.is_placed.Tie as tie

@@ -1,4 +1,4 @@
--- `descriptors::check::may_begin` meets its contract. Assumes nothing.
+-- `descriptors::check::may_begin` meets its contract. No axiom.
 use borrow.Author.Tests.{lt-leb, le-leb}
 use borrow.Author.Needs.{needs}
 use Rattle.descriptors.proofs.check.may_begin.Statement.{statement}

@@ -1,4 +1,4 @@
--- `descriptors::check::may_list` meets its contract. Assumes nothing.
+-- `descriptors::check::may_list` meets its contract. No axiom.
 use borrow.Author.Needs.{needs}
 use Rattle.descriptors.proofs.check.may_list.Statement.{statement}
 use Rattle.descriptors.proofs.check.may_list.Tie as tie

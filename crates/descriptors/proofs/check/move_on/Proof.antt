@@ -1,4 +1,4 @@
--- `descriptors::check::move_on` meets its contract. Assumes nothing.
+-- `descriptors::check::move_on` meets its contract. No axiom.
 use mathlib.Core.Path.{sym, _∙_}
 use borrow.Author.Tests.{eq-eqb, ne-eqb}
 use borrow.Author.Needs.{needs}

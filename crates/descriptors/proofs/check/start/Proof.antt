@@ -1,4 +1,4 @@
--- `descriptors::check::start` meets its contract. Assumes nothing.
+-- `descriptors::check::start` meets its contract. No axiom.
 use borrow.Author.Needs.{needs}
 use Rattle.descriptors.proofs.check.start.Statement.{statement}
 use Rattle.descriptors.proofs.check.start.Tie as tie

@@ -1,4 +1,4 @@
--- `descriptors::check::still_refers` meets its contract. Assumes nothing.
+-- `descriptors::check::still_refers` meets its contract. No axiom.
 use mathlib.Core.Path.{sym, _∙_}
 use mathlib.Core.Bool.{and-true}
 use borrow.Author.Tests.{eq-eqb, ne-eqb}

@@ -1,4 +1,4 @@
--- `descriptors::lookup::bit_of` meets its contract. Assumes nothing.
+-- `descriptors::lookup::bit_of` meets its contract. No axiom.
 use borrow.Author.Needs.{needs}
 use Rattle.descriptors.proofs.lookup.bit_of.Statement.{statement}
 use Rattle.descriptors.proofs.lookup.bit_of.Tie as tie

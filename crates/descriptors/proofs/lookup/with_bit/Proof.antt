@@ -1,4 +1,4 @@
--- `descriptors::lookup::with_bit` meets its contract: the bit of its address. Assumes nothing.
+-- `descriptors::lookup::with_bit` meets its contract: the bit of its address. No axiom.
 use mathlib.Core.Path.{_∙_, ap}
 use borrow.Author.Needs.{needs}
 use Rattle.octets.specs.Bit.{setBit}

@@ -1,4 +1,4 @@
--- `descriptors::survey::alternates_exist` meets its contract: the interfaces from the last on that are passed have good alternates. Assumes nothing.
+-- `descriptors::survey::alternates_exist` meets its contract: the interfaces from the last on that are passed have good alternates. No axiom.
 use Prim.Native.Nat.{_-_, _≤_}
 use native.Mathlib.Omega.{arith}
 use mathlib.Core.Path.{_≡_, refl}

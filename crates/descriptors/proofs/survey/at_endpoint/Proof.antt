@@ -1,4 +1,4 @@
--- `descriptors::survey::at_endpoint` meets its contract: an endpoint descriptor adds nothing to what is known of settings. Assumes nothing.
+-- `descriptors::survey::at_endpoint` meets its contract: an endpoint descriptor adds nothing to what is known of settings. No axiom.
 use Rattle.descriptors.proofs.Surveying.{endpoint-adds}
 use borrow.Author.Needs.{needs}
 use Rattle.descriptors.proofs.survey.at_endpoint.Statement.{statement}

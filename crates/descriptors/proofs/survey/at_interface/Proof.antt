@@ -1,4 +1,4 @@
--- `descriptors::survey::at_interface` meets its contract: an interface descriptor adds nothing to what is known of endpoints. Assumes nothing.
+-- `descriptors::survey::at_interface` meets its contract: an interface descriptor adds nothing to what is known of endpoints. No axiom.
 use borrow.Author.Needs.{needs}
 use borrow.Author.Tests.{eqb-true}
 use Rattle.octets.specs.Octets.{byte}

@@ -1,4 +1,4 @@
--- `descriptors::survey::endpoint_of` meets its contract: the same fields. Assumes nothing.
+-- `descriptors::survey::endpoint_of` meets its contract: the same fields. No axiom.
 use borrow.Author.Needs.{needs}
 use Rattle.descriptors.proofs.survey.endpoint_of.Statement.{statement}
 use Rattle.descriptors.proofs.survey.endpoint_of.Tie as tie

@@ -1,4 +1,4 @@
--- `descriptors::survey::first_found` meets its contract: by whether it is wanted, and whether one was found before. Assumes nothing.
+-- `descriptors::survey::first_found` meets its contract: by whether it is wanted, and whether one was found before. No axiom.
 use mathlib.Core.Path.{sym}
 use borrow.Author.Needs.{needs}
 use Rattle.descriptors.proofs.Surveying.{earlier-none}

@@ -1,4 +1,4 @@
--- `descriptors::survey::good_alternate` meets its contract: by whether the interface exists. Assumes nothing.
+-- `descriptors::survey::good_alternate` meets its contract: by whether the interface exists. No axiom.
 use mathlib.Core.Path.{sym, _∙_}
 use borrow.Author.Needs.{needs}
 use Rattle.descriptors.proofs.survey.good_alternate.Statement.{statement}

@@ -1,4 +1,4 @@
--- `descriptors::survey::move_on` meets its contract: by the descriptor's type; one of another type adds nothing. Assumes nothing.
+-- `descriptors::survey::move_on` meets its contract: by the descriptor's type; one of another type adds nothing. No axiom.
 use mathlib.Core.Path.{sym, _∙_}
 use mathlib.Core.Bool.{or-false}
 use borrow.Author.Tests.{eq-eqb, ne-eqb}

@@ -1,4 +1,4 @@
--- `descriptors::survey::walk` meets its contract: what was seen and what is ahead tell of the whole. Assumes nothing.
+-- `descriptors::survey::walk` meets its contract: what was seen and what is ahead tell of the whole. No axiom.
 use Prim.Native.Nat.{_-_}
 use native.Mathlib.Omega.{arith}
 use mathlib.Core.Path.{_≡_}

@@ -1,4 +1,4 @@
--- `descriptors::survey::with_current` meets its contract. Assumes nothing.
+-- `descriptors::survey::with_current` meets its contract. No axiom.
 use borrow.Author.Needs.{needs}
 use Rattle.descriptors.proofs.survey.with_current.Statement.{statement}
 use Rattle.descriptors.proofs.survey.with_current.Tie as tie

@@ -1,4 +1,4 @@
--- `descriptors::survey::with_interface` meets its contract: by whether the word has such a bit. Assumes nothing.
+-- `descriptors::survey::with_interface` meets its contract: by whether the word has such a bit. No axiom.
 use borrow.Author.Tests.{lt-ltb, le-ltb}
 use borrow.Author.Needs.{needs}
 use Rattle.descriptors.proofs.survey.with_interface.Statement.{statement}

@@ -1,4 +1,4 @@
--- `events::endpoint::is_halted` meets its contract: the same tests. Assumes nothing.
+-- `events::endpoint::is_halted` meets its contract: the same tests. No axiom.
 use borrow.Author.Needs.{needs}
 use Rattle.events.proofs.endpoint.is_halted.Tie as tie
 use Rattle.events.proofs.endpoint.is_halted.Statement.{statement}

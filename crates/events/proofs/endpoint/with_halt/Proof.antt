@@ -1,4 +1,4 @@
--- `events::endpoint::with_halt` meets its contract: the halts with the bit set; or both words with it cleared. Assumes nothing.
+-- `events::endpoint::with_halt` meets its contract: the halts with the bit set; or both words with it cleared. No axiom.
 use borrow.Author.Needs.{needs}
 use Rattle.events.proofs.endpoint.with_halt.Tie as tie
 use Rattle.events.proofs.endpoint.with_halt.Statement.{statement}

@@ -1,4 +1,4 @@
--- `events::endpoint::with_toggle` meets its contract: the toggles with the bit flipped. Assumes nothing.
+-- `events::endpoint::with_toggle` meets its contract: the toggles with the bit flipped. No axiom.
 use borrow.Author.Needs.{needs}
 use Rattle.events.proofs.endpoint.with_toggle.Tie as tie
 use Rattle.events.proofs.endpoint.with_toggle.Statement.{statement}

@@ -1,4 +1,4 @@
--- `events::endpoint::without` meets its contract: bit by bit. Assumes nothing.
+-- `events::endpoint::without` meets its contract: bit by bit. No axiom.
 use native.Mathlib.Omega.{arith}
 use borrow.Author.Needs.{needs}
 use Rattle.descriptors.proofs.EndpointBits.{clears}

@@ -1,4 +1,4 @@
--- `events::reaction::gives` meets its contract: the record is kept. Assumes nothing.
+-- `events::reaction::gives` meets its contract: the record is kept. No axiom.
 use borrow.Author.Needs.{needs}
 use Rattle.events.proofs.reaction.gives.Statement.{statement}
 use Rattle.events.proofs.reaction.gives.Tie as tie

@@ -1,4 +1,4 @@
--- `events::reply::bytes_of` meets its contract: by cases. Assumes nothing.
+-- `events::reply::bytes_of` meets its contract: by cases. No axiom.
 use borrow.Author.Needs.{needs}
 use Rattle.events.proofs.reply.bytes_of.Statement.{statement}
 use Rattle.events.proofs.reply.bytes_of.Tie as tie

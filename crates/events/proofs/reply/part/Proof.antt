@@ -1,4 +1,4 @@
--- `events::reply::part` meets its contract: by the answer. Assumes nothing.
+-- `events::reply::part` meets its contract: by the answer. No axiom.
 use native.Mathlib.Omega.{arith}
 use borrow.Author.Needs.{needs}
 use native.Mathlib.Nat.{add-sub-cancel-left, sub-zero}

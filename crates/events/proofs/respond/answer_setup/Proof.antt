@@ -1,4 +1,4 @@
--- `events::respond::answer_setup` meets its contract: by the table's refusal. Assumes nothing.
+-- `events::respond::answer_setup` meets its contract: by the table's refusal. No axiom.
 use borrow.Author.Needs.{needs}
 use borrow.Author.Tests.{eq-eqb, ne-eqb}
 use Rattle.events.specs.Step.{answerSetup}

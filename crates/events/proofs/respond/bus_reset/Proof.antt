@@ -1,4 +1,4 @@
--- `events::respond::bus_reset` meets its contract: the fresh record. Assumes nothing.
+-- `events::respond::bus_reset` meets its contract: the fresh record. No axiom.
 use borrow.Author.Needs.{needs}
 use Rattle.events.proofs.respond.bus_reset.Statement.{statement}
 use Rattle.events.proofs.respond.bus_reset.Tie as tie

@@ -1,4 +1,4 @@
--- `events::respond::request` meets its contract: by the code. Assumes nothing.
+-- `events::respond::request` meets its contract: by the code. No axiom.
 use borrow.Author.Needs.{needs}
 use lib.Dec.{eqb}
 use borrow.Author.Tests.{eq-eqb, ne-eqb}

@@ -1,4 +1,4 @@
--- `events::respond::respond` meets its contract: by cases of the event. Assumes nothing.
+-- `events::respond::respond` meets its contract: by cases of the event. No axiom.
 use borrow.Author.Needs.{needs}
 use Rattle.events.proofs.respond.respond.Statement.{statement}
 use Rattle.events.proofs.respond.respond.Tie as tie

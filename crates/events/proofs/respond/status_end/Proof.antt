@@ -1,4 +1,4 @@
--- `events::respond::status_end` meets its contract: what waits is nothing, zero or an address. Assumes nothing.
+-- `events::respond::status_end` meets its contract: what waits is nothing, zero or an address. No axiom.
 use borrow.Author.Needs.{needs}
 use borrow.Author.Tests.{eq-eqb, ne-eqb}
 use Rattle.events.specs.Step.{statusEnd}

@@ -1,4 +1,4 @@
--- `events::standard::clear_feature` meets its contract: a feature that is cleared. Assumes nothing.
+-- `events::standard::clear_feature` meets its contract: a feature that is cleared. No axiom.
 use borrow.Author.Needs.{needs}
 use Rattle.events.specs.Requests.{clearFeature}
 use Rattle.events.proofs.standard.clear_feature.Tie as tie

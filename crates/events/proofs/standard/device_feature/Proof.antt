@@ -1,4 +1,4 @@
--- `events::standard::device_feature` meets its contract: by wakeup and whether the board wakes. Assumes nothing.
+-- `events::standard::device_feature` meets its contract: by wakeup and whether the board wakes. No axiom.
 use borrow.Author.Needs.{needs}
 use Rattle.events.proofs.standard.device_feature.Tie as tie
 use Rattle.events.proofs.standard.device_feature.Statement.{statement}

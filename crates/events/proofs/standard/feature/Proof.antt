@@ -1,4 +1,4 @@
--- `events::standard::feature` meets its contract: by the recipient. Assumes nothing.
+-- `events::standard::feature` meets its contract: by the recipient. No axiom.
 use borrow.Author.Needs.{needs}
 use borrow.Author.Tests.{eq-eqb, ne-eqb}
 use Rattle.events.proofs.standard.feature.Tie as tie

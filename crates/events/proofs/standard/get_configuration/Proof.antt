@@ -1,4 +1,4 @@
--- `events::standard::get_configuration` meets its contract: the record's value. Assumes nothing.
+-- `events::standard::get_configuration` meets its contract: the record's value. No axiom.
 use borrow.Author.Needs.{needs}
 use Rattle.events.specs.Requests.{getConfiguration}
 use Rattle.events.proofs.standard.get_configuration.Tie as tie

@@ -1,4 +1,4 @@
--- `events::standard::get_descriptor` meets its contract: by where the descriptor lies. Assumes nothing.
+-- `events::standard::get_descriptor` meets its contract: by where the descriptor lies. No axiom.
 use borrow.Author.Needs.{needs}
 use Rattle.events.proofs.Lookups.{described}
 use Rattle.events.proofs.standard.get_descriptor.Statement.{statement}

@@ -1,4 +1,4 @@
--- `events::standard::get_interface` meets its contract: by whether the interface is there. Assumes nothing.
+-- `events::standard::get_interface` meets its contract: by whether the interface is there. No axiom.
 use borrow.Author.Needs.{needs}
 use Rattle.events.specs.Requests.{getInterface}
 use Rattle.events.proofs.standard.get_interface.Tie as tie

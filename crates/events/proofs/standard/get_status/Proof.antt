@@ -1,4 +1,4 @@
--- `events::standard::get_status` meets its contract: by the recipient. Assumes nothing.
+-- `events::standard::get_status` meets its contract: by the recipient. No axiom.
 use native.Mathlib.Omega.{arith}
 use borrow.Author.Needs.{needs}
 use borrow.Author.Tests.{eq-eqb, ne-eqb}

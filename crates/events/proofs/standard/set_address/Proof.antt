@@ -1,4 +1,4 @@
--- `events::standard::set_address` meets its contract: the address waits. Assumes nothing.
+-- `events::standard::set_address` meets its contract: the address waits. No axiom.
 use borrow.Author.Needs.{needs}
 use Rattle.events.specs.Requests.{setAddress}
 use Rattle.events.proofs.standard.set_address.Statement.{statement}

@@ -1,4 +1,4 @@
--- `events::standard::set_configuration` meets its contract: by the value, and whether a configuration has it. Assumes nothing.
+-- `events::standard::set_configuration` meets its contract: by the value, and whether a configuration has it. No axiom.
 use borrow.Author.Needs.{needs}
 use borrow.Author.Tests.{eq-eqb, ne-eqb}
 use Rattle.events.specs.Requests.{setConfiguration}

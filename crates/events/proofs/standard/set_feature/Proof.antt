@@ -1,4 +1,4 @@
--- `events::standard::set_feature` meets its contract: a feature that is set. Assumes nothing.
+-- `events::standard::set_feature` meets its contract: a feature that is set. No axiom.
 use borrow.Author.Needs.{needs}
 use Rattle.events.specs.Requests.{setFeature}
 use Rattle.events.proofs.standard.set_feature.Tie as tie

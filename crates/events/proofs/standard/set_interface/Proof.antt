@@ -1,4 +1,4 @@
--- `events::standard::set_interface` meets its contract: by whether the setting is there; its numbers are small. Assumes nothing.
+-- `events::standard::set_interface` meets its contract: by whether the setting is there; its numbers are small. No axiom.
 use borrow.Author.Needs.{needs}
 use borrow.Author.Tests.{lt-ltb}
 use mathlib.Core.Path.{sym, _∙_}

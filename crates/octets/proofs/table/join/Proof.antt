@@ -1,4 +1,4 @@
--- `octets::table::join` meets its contract. Assumes nothing.
+-- `octets::table::join` meets its contract. No axiom.
 use borrow.Author.Needs.{needs}
 use Rattle.octets.proofs.table.join.Statement.{statement}
 use Rattle.octets.proofs.table.join.Tie as tie

@@ -1,4 +1,4 @@
--- `sets::configuration::good_configurations` meets its contract: what is asked of all configurations is asked of those left. Assumes nothing.
+-- `sets::configuration::good_configurations` meets its contract: what is asked of all configurations is asked of those left. No axiom.
 use Prim.Native.Nat.{_+_, _-_, _≤_, _<_}
 use native.Mathlib.Omega.{arith}
 use mathlib.Core.Bool.{_&&_, and-true, and-assoc}

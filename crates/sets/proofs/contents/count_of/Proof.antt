@@ -1,4 +1,4 @@
--- `sets::contents::count_of` meets its contract: those counted and those left are all. Assumes nothing.
+-- `sets::contents::count_of` meets its contract: those counted and those left are all. No axiom.
 use Prim.Native.Nat.{_+_, _-_, _≤_}
 use native.Mathlib.Nat.{zero-add}
 use native.Mathlib.Omega.{arith}

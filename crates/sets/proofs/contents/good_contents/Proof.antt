@@ -1,4 +1,4 @@
--- `sets::contents::good_contents` meets its contract: the entries passed are good, and what is asked of all is asked of those left. Assumes nothing.
+-- `sets::contents::good_contents` meets its contract: the entries passed are good, and what is asked of all is asked of those left. No axiom.
 use Prim.Native.Nat.{_+_, _-_, _*_, _≤_}
 use native.Mathlib.Omega.{arith}
 use mathlib.Core.Bool.{true}

@@ -1,4 +1,4 @@
--- `sets::device::good_devices` meets its contract. Assumes nothing.
+-- `sets::device::good_devices` meets its contract. No axiom.
 use mathlib.Core.Path.{sym, _∙_}
 use borrow.Author.Needs.{needs}
 use Rattle.sets.specs.Contents.{entriesOf}

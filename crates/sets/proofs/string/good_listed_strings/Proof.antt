@@ -1,4 +1,4 @@
--- `sets::string::good_listed_strings` meets its contract. Assumes nothing.
+-- `sets::string::good_listed_strings` meets its contract. No axiom.
 use mathlib.Core.Path.{sym, _∙_}
 use borrow.Author.Needs.{needs}
 use Rattle.sets.proofs.string.good_listed_strings.Statement.{statement}

@@ -1,4 +1,4 @@
--- `sets::string::good_string` meets its contract. Assumes nothing.
+-- `sets::string::good_string` meets its contract. No axiom.
 use borrow.Author.Needs.{needs}
 use Rattle.sets.proofs.string.good_string.Statement.{statement}
 use Rattle.sets.proofs.string.good_string.Tie as tie

@@ -1,4 +1,4 @@
--- `sets::string::good_string_entries` meets its contract: every string entry before the i-th is good. Assumes nothing.
+-- `sets::string::good_string_entries` meets its contract: every string entry before the i-th is good. No axiom.
 use Prim.Native.Nat.{_+_, _-_}
 use mathlib.Core.List.{[], _∷_}
 use mathlib.Core.Path.{_≡_, sym, ap, _∙_}

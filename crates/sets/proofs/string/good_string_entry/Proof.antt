@@ -1,4 +1,4 @@
--- `sets::string::good_string_entry` meets its contract. Assumes nothing.
+-- `sets::string::good_string_entry` meets its contract. No axiom.
 use borrow.Author.Needs.{needs}
 use Rattle.sets.proofs.string.good_string_entry.Statement.{statement}
 use Rattle.sets.proofs.string.good_string_entry.Tie as tie

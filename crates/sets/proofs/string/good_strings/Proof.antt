@@ -1,4 +1,4 @@
--- `sets::string::good_strings` meets its contract. Assumes nothing.
+-- `sets::string::good_strings` meets its contract. No axiom.
 use borrow.Author.Needs.{needs}
 use Rattle.sets.proofs.GoodStrings.{strings-told}
 use Rattle.sets.proofs.string.good_strings.Statement.{statement}

@@ -1,4 +1,4 @@
--- `sets::string::in_every_language` meets its contract: the table is right for the languages passed. Assumes nothing.
+-- `sets::string::in_every_language` meets its contract: the table is right for the languages passed. No axiom.
 use Prim.Native.Nat.{ℕ, _+_, _-_, _≤_, _<_}
 use native.Mathlib.Omega.{arith}
 use mathlib.Core.Bool.{Bool, _&&_, and-true, and-assoc}

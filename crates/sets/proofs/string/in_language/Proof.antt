@@ -1,4 +1,4 @@
--- `sets::string::in_language` meets its contract: those in the new table, and those that the entries left still add, are all. Assumes nothing.
+-- `sets::string::in_language` meets its contract: those in the new table, and those that the entries left still add, are all. No axiom.
 use Prim.Native.Nat.{ℕ, _+_, _-_, _<_}
 use mathlib.Core.Bool.{_&&_, _||_, and-false, or-false}
 use mathlib.Core.List.{[], _∷_}

@@ -1,4 +1,4 @@
--- `sets::string::names` meets its contract. Assumes nothing.
+-- `sets::string::names` meets its contract. No axiom.
 use mathlib.Core.Path.{sym, _∙_}
 use Rattle.sets.proofs.Strings.{with-serial, with-none}
 use borrow.Author.Needs.{needs}

@@ -1,4 +1,4 @@
--- `steps::facts::body_found` meets its contract: the body of the entry that is there, or none. Assumes nothing.
+-- `steps::facts::body_found` meets its contract: the body of the entry that is there, or none. No axiom.
 use borrow.Author.Needs.{needs}
 use mathlib.Core.Path.{sym, ap, _∙_}
 use Rattle.steps.specs.Gathering.{bodyFound}

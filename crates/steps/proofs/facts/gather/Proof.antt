@@ -1,4 +1,4 @@
--- `steps::facts::gather` meets its contract: fact by fact. Assumes nothing.
+-- `steps::facts::gather` meets its contract: fact by fact. No axiom.
 use native.Mathlib.Omega.{arith}
 use borrow.Author.Needs.{needs}
 use mathlib.Core.Path.{refl, sym, ap, _∙_}

@@ -1,4 +1,4 @@
--- `steps::facts::has_asked` meets its contract: for SET_CONFIGURATION, by the value. Assumes nothing.
+-- `steps::facts::has_asked` meets its contract: for SET_CONFIGURATION, by the value. No axiom.
 use borrow.Author.Needs.{needs}
 use Rattle.sets.proofs.Lookups.{value-there}
 use Rattle.steps.proofs.Configurations.{byte-mod}

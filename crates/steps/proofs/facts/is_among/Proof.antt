@@ -1,4 +1,4 @@
--- `steps::facts::is_among` meets its contract: by whether the word has a bit for it. Assumes nothing.
+-- `steps::facts::is_among` meets its contract: by whether the word has a bit for it. No axiom.
 use borrow.Author.Needs.{needs}
 use borrow.Author.Tests.{lt-ltb, le-ltb}
 use Rattle.steps.proofs.facts.is_among.Tie as tie

@@ -1,4 +1,4 @@
--- `steps::facts::is_powered` meets its contract: bit 6 of a byte. Assumes nothing.
+-- `steps::facts::is_powered` meets its contract: bit 6 of a byte. No axiom.
 use borrow.Author.Needs.{needs}
 use Rattle.steps.proofs.facts.is_powered.Tie as tie
 use Rattle.steps.proofs.facts.is_powered.Statement.{statement}

@@ -1,4 +1,4 @@
--- `steps::facts::language_for` meets its contract: by cases. Assumes nothing.
+-- `steps::facts::language_for` meets its contract: by cases. No axiom.
 use borrow.Author.Tests.{eq-eqb, ne-eqb}
 use Rattle.steps.proofs.facts.language_for.Tie as tie
 use Rattle.steps.proofs.facts.language_for.Statement.{statement}

@@ -1,4 +1,4 @@
--- `steps::facts::locate` meets its contract: by the type. Assumes nothing.
+-- `steps::facts::locate` meets its contract: by the type. No axiom.
 use borrow.Author.Tests.{eq-eqb, ne-eqb}
 use borrow.Author.Needs.{needs}
 use Rattle.sets.specs.View.{viewOf}

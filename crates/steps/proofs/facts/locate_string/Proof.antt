@@ -1,4 +1,4 @@
--- `steps::facts::locate_string` meets its contract: by the serial number's index, its languages, or the entry. Assumes nothing.
+-- `steps::facts::locate_string` meets its contract: by the serial number's index, its languages, or the entry. No axiom.
 use borrow.Author.Needs.{needs}
 use Rattle.events.specs.Requests.{isEntry, languageFor}
 use Rattle.octets.specs.Sentences.{first}

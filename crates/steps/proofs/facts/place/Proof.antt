@@ -1,4 +1,4 @@
--- `steps::facts::place` meets its contract: by cases. Assumes nothing.
+-- `steps::facts::place` meets its contract: by cases. No axiom.
 use borrow.Author.Needs.{needs}
 use Rattle.steps.proofs.facts.place.Tie as tie
 use Rattle.steps.proofs.facts.place.Statement.{statement}

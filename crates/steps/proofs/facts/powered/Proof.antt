@@ -1,4 +1,4 @@
--- `steps::facts::powered` meets its contract: by the state. Assumes nothing.
+-- `steps::facts::powered` meets its contract: by the state. No axiom.
 use borrow.Author.Tests.{eq-eqb, ne-eqb}
 use borrow.Author.Needs.{needs}
 use Rattle.steps.proofs.Configurations.{first-by-index, attributes-of}

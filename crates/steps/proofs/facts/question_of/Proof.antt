@@ -1,4 +1,4 @@
--- `steps::facts::question_of` meets its contract: by cases. Assumes nothing.
+-- `steps::facts::question_of` meets its contract: by cases. No axiom.
 use borrow.Author.Needs.{needs}
 use Rattle.steps.proofs.facts.question_of.Tie as tie
 use Rattle.steps.proofs.facts.question_of.Statement.{statement}
