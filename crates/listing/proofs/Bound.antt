@@ -18,7 +18,8 @@ use Rattle.descriptors.specs.Interfaces.{grouped, goodInterfaces}
 use Rattle.descriptors.specs.Configuration.{bConfigurationValue, bNumInterfaces, bMaxPower, configurationAttributes, wTotalLength, behind, goodHead, goodDescriptors, goodConfiguration}
 use Rattle.sets.specs.declared.Entry.{Entry}
 use Rattle.sets.specs.Contents.{entries, entriesOf, bodyOf, bodies, isKind, total, count, bodiesAt, before, goodFrame, endToEnd, goodContents}
-use Rattle.sets.specs.Opening.{Board, numberedFrom, goodConfigurations, opening}
+use Rattle.sets.specs.Opening.{Board, numberedFrom, goodConfigurations}
+use Rattle.sets.specs.View.{openingOf}
 use Rattle.sets.proofs.Groups.{Groups, groups}
 use Rattle.listing.specs.Listing.{digits, fields, line, acceptedWord, refusedWord, configurationLines, acceptedLines, listing}
 use Rattle.listing.specs.Listed.{room}
@@ -122,12 +123,12 @@ good-bodies limits set p =
     let rules = numberedFrom 0 (entriesOf 2 set) ∷ every (goodConfiguration limits) bs ∷ every (λ b. leb 1 (bConfigurationValue b)) bs ∷ pairs (λ a b. not (eqb (bConfigurationValue a) (bConfigurationValue b))) bs ∷ [] in
     conjunct 1 rules p
 
-pub accepted-length : (b : Board) → Groups fullSpeed b → length (acceptedLines (b .set)) ≤ room
+pub accepted-length : (limits : Limits) (b : Board) → Groups limits b → length (acceptedLines (b .set)) ≤ room
 unfolding goodFrame goodContents
-accepted-length b g =
+accepted-length limits b g =
     let set = b .set in
     let frame = leb 4 (length set) ∷ leb (length set) 16384 ∷ eqb (total set) (length set) ∷ leb 1 (count set) ∷ leb (count set) 64 ∷ eqb (byte set 3) 0 ∷ leb (bodiesAt set) (total set) ∷ [] in
-    let contents = every (λ e. named (fullSpeed .entries) (e .kind)) (entries set) ∷ neighbours before (entries set) ∷ every (λ e. leb 2 (e .length)) (entries set) ∷ endToEnd (bodiesAt set) (total set) (entries set) ∷ [] in
+    let contents = every (λ e. named (limits .entries) (e .kind)) (entries set) ∷ neighbours before (entries set) ∷ every (λ e. leb 2 (e .length)) (entries set) ∷ endToEnd (bodiesAt set) (total set) (entries set) ∷ [] in
     rw length-append
     (omega (
       arith,
@@ -136,14 +137,14 @@ accepted-length b g =
       leb-true 1 (count set) (conjunct 3 frame (g .frame)),
       line-length acceptedWord (length (bodies 2 set) ∷ []),
       bodies-length set (isKind 2) (bodiesAt set) (total set) (entries set) (conjunct 3 contents (g .contents)),
-      flat-length configurationLines (goodConfiguration fullSpeed) (configuration-length fullSpeed) (bodies 2 set) (good-bodies fullSpeed set (g .configurations)),
+      flat-length configurationLines (goodConfiguration limits) (configuration-length limits) (bodies 2 set) (good-bodies limits set (g .configurations)),
     ))
 
 -- every board's text
 pub listing-length : (b : Board) → length (listing b) ≤ room
 unfolding listing
-listing-length b = go (eqb (opening fullSpeed b) 0) refl
+listing-length b = go (eqb (openingOf b) 0) refl
   where
-    go : (t : Bool) → eqb (opening fullSpeed b) 0 ≡ t → length (pick t (acceptedLines (b .set)) (line refusedWord (opening fullSpeed b ∷ []))) ≤ room
-    go true p = accepted-length b (groups fullSpeed b (eqb-true (opening fullSpeed b) 0 p))
-    go false p = omega (arith, line-length refusedWord (opening fullSpeed b ∷ []))
+    go : (t : Bool) → eqb (openingOf b) 0 ≡ t → length (pick t (acceptedLines (b .set)) (line refusedWord (openingOf b ∷ []))) ≤ room
+    go true p = accepted-length fullSpeed b (groups fullSpeed b (eqb-true (openingOf b) 0 p))
+    go false p = omega (arith, line-length refusedWord (openingOf b ∷ []))

@@ -12,7 +12,7 @@ use Rattle.descriptors.specs.Cut.{cut, descriptorsOf, wellCut}
 use Rattle.descriptors.specs.Descriptor.{isInterface, isEndpoint, goodDescriptor}
 use Rattle.descriptors.specs.Interfaces.{grouped, settingOf, endpointsOf, goodSettings, counted, apart, goodInterfaces}
 use Rattle.descriptors.specs.Configuration.{bNumInterfaces, bConfigurationValue, goodHead, goodDescriptors, goodConfiguration, behind, groupsOf}
-use Rattle.descriptors.specs.Limits.{fullSpeed}
+use Rattle.descriptors.specs.declared.Limits.{Limits}
 use Rattle.sets.specs.declared.Entry.{Entry}
 use Rattle.sets.specs.Contents.{entryOf, entries, bodyOf, bodies, isKind, count}
 use Rattle.sets.proofs.Entries.{rest, rest-start, next-entry, no-entry, every-cons}
@@ -132,28 +132,28 @@ by-entry set (e ∷ es) = go (isKind 2 e) (by-entry set es)
 pub entry-lines : (set : List ℕ) → flatMap configurationLines (bodies 2 set) ≡ flatMap (entryLines set) (rest set 0)
 entry-lines set = by-entry set (entries set) ∙ ap (flatMap (entryLines set)) (rest-start set)
 
-good-by-entry : (set : List ℕ) (es : List Entry) → every (goodConfiguration fullSpeed) (map (bodyOf set) (only (isKind 2) es)) ≡ every (goodListed set) es
+good-by-entry : (l : Limits) (set : List ℕ) (es : List Entry) → every (goodConfiguration l) (map (bodyOf set) (only (isKind 2) es)) ≡ every (goodListed l set) es
 unfolding every only
-good-by-entry set [] = refl
-good-by-entry set (e ∷ es) = go (isKind 2 e) (good-by-entry set es)
+good-by-entry l set [] = refl
+good-by-entry l set (e ∷ es) = go (isKind 2 e) (good-by-entry l set es)
   where
-    go : (b : Bool) → every (goodConfiguration fullSpeed) (map (bodyOf set) (only (isKind 2) es)) ≡ every (goodListed set) es
-        → every (goodConfiguration fullSpeed) (map (bodyOf set) (pick b (e ∷ only (isKind 2) es) (only (isKind 2) es))) ≡ ((b ⇒ goodConfiguration fullSpeed (bodyOf set e)) && every (goodListed set) es)
-    go true p = ap (λ (b : Bool). goodConfiguration fullSpeed (bodyOf set e) && b) p
+    go : (b : Bool) → every (goodConfiguration l) (map (bodyOf set) (only (isKind 2) es)) ≡ every (goodListed l set) es
+        → every (goodConfiguration l) (map (bodyOf set) (pick b (e ∷ only (isKind 2) es) (only (isKind 2) es))) ≡ ((b ⇒ goodConfiguration l (bodyOf set e)) && every (goodListed l set) es)
+    go true p = ap (λ (b : Bool). goodConfiguration l (bodyOf set e) && b) p
     go false p = p
 
-pub entries-good : (set : List ℕ) → every (goodConfiguration fullSpeed) (bodies 2 set) ≡ true → every (goodListed set) (rest set 0) ≡ true
-entries-good set p = sym (good-by-entry set (entries set) ∙ ap (every (goodListed set)) (rest-start set)) ∙ p
+pub entries-good : (l : Limits) (set : List ℕ) → every (goodConfiguration l) (bodies 2 set) ≡ true → every (goodListed l set) (rest set 0) ≡ true
+entries-good l set p = sym (good-by-entry l set (entries set) ∙ ap (every (goodListed l set)) (rest-start set)) ∙ p
 
 -- a turn of the loop over them, where e is the i-th, and its end
 module _ (set : List ℕ) (n : ℕ) (p : n ≡ count set) (i : ℕ) where
   pub next-entry-lines : i < n → (e : Entry) → e ≡ entryOf (drop (4 + 8 * i) set) → flatMap (entryLines set) (rest set i) ≡ entryLines set e ++ flatMap (entryLines set) (rest set (i + 1))
   next-entry-lines h e q = ap (flatMap (entryLines set)) (next-entry set n p i h e q) ∙ flat-cons (entryLines set) e (rest set (i + 1))
 
-  pub next-good : i < n → (e : Entry) → e ≡ entryOf (drop (4 + 8 * i) set) → every (goodListed set) (rest set i) ≡ true → (goodListed set e ≡ true) × (every (goodListed set) (rest set (i + 1)) ≡ true)
-  next-good h e q g =
-      both (goodListed set e) (every (goodListed set) (rest set (i + 1)))
-      (sym (every-cons (goodListed set) e (rest set (i + 1))) ∙ ap (every (goodListed set)) (sym (next-entry set n p i h e q)) ∙ g)
+  pub next-good : (l : Limits) → i < n → (e : Entry) → e ≡ entryOf (drop (4 + 8 * i) set) → every (goodListed l set) (rest set i) ≡ true → (goodListed l set e ≡ true) × (every (goodListed l set) (rest set (i + 1)) ≡ true)
+  next-good l h e q g =
+      both (goodListed l set e) (every (goodListed l set) (rest set (i + 1)))
+      (sym (every-cons (goodListed l set) e (rest set (i + 1))) ∙ ap (every (goodListed l set)) (sym (next-entry set n p i h e q)) ∙ g)
 
   pub no-entry-lines : n ≤ i → flatMap (entryLines set) (rest set i) ≡ []
   no-entry-lines h = ap (flatMap (entryLines set)) (no-entry set n p i h) ∙ flat-none (entryLines set)

@@ -9,10 +9,12 @@ use lib.ListN.{length}
 use lib.Seq.{length-sets, sets-eq, length-take-le}
 use borrow.Author.Tests.{eq-eqb, ne-eqb}
 use Rattle.octets.specs.Sentences.{every}
+use Rattle.descriptors.specs.declared.Limits.{Limits}
 use Rattle.descriptors.specs.Limits.{fullSpeed}
 use Rattle.descriptors.specs.Configuration.{goodConfiguration}
 use Rattle.sets.specs.Contents.{bodies}
-use Rattle.sets.specs.Opening.{Board, opening}
+use Rattle.sets.specs.Opening.{Board}
+use Rattle.sets.specs.View.{openingOf}
 use Rattle.sets.proofs.Groups.{groups}
 use Rattle.listing.specs.Listing.{line, refusedWord, acceptedLines, listing}
 use Rattle.listing.specs.Listed.{room, Listed}
@@ -20,17 +22,17 @@ use Rattle.listing.specs.Written.{Room, Wrote}
 use Rattle.listing.proofs.Bound.{good-bodies, listing-length}
 
 -- n is what opening answered
-module _ (b : Board) (n : ℕ) (o : n ≡ opening fullSpeed b) where
+module _ (b : Board) (n : ℕ) (o : n ≡ openingOf b) where
   pub refused : (n ≡ 0 → ⊥) → listing b ≡ line refusedWord (n ∷ [])
   unfolding listing
-  refused p = rw (o, ne-eqb (opening fullSpeed b) 0 (λ q. p (o ∙ q)))
+  refused p = rw (o, ne-eqb (openingOf b) 0 (λ q. p (o ∙ q)))
 
   pub accepted : n ≡ 0 → listing b ≡ acceptedLines (b .set)
   unfolding listing
-  accepted p = rw (eq-eqb (opening fullSpeed b) 0 (sym o ∙ p))
+  accepted p = rw (eq-eqb (openingOf b) 0 (sym o ∙ p))
 
-  pub good : n ≡ 0 → every (goodConfiguration fullSpeed) (bodies 2 (b .set)) ≡ true
-  good p = good-bodies fullSpeed (b .set) (groups fullSpeed b (sym o ∙ p) .configurations)
+  pub good : n ≡ 0 → (l : Limits) × (every (goodConfiguration l) (bodies 2 (b .set)) ≡ true)
+  good p = (fullSpeed, good-bodies fullSpeed (b .set) (groups fullSpeed b (sym o ∙ p) .configurations))
 
 -- its text, in a buffer that is long enough for any
 module _ (b : Board) (text : List ℕ) (e : listing b ≡ text) (out : List ℕ) (h : room ≤ length out) where

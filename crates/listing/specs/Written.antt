@@ -9,7 +9,7 @@ use lib.Dec.{leb}
 use Rattle.octets.specs.Sentences.{pick, _⇒_}
 use Rattle.descriptors.specs.Cut.{cut, descriptorsOf}
 use Rattle.descriptors.specs.Configuration.{behind, goodConfiguration}
-use Rattle.descriptors.specs.Limits.{fullSpeed}
+use Rattle.descriptors.specs.declared.Limits.{Limits}
 use Rattle.sets.specs.declared.Entry.{Entry}
 use Rattle.sets.specs.Contents.{isKind, bodyOf}
 use Rattle.descriptors.specs.Descriptor.{isInterface, isEndpoint, bInterfaceNumber, bAlternateSetting, bNumEndpoints}
@@ -38,9 +38,9 @@ descriptorLine d = pick (isInterface d) (interfaceLine d) (pick (isEndpoint d) (
 unfoldable pub descriptorLines : List ℕ → List ℕ
 descriptorLines body = flatMap descriptorLine (behind (descriptorsOf (cut body)))
 
--- the lines of one entry of a set, where it is a configuration's; and that it is a good one
+-- the lines of one entry of a set, where it is a configuration's; and that it is a good one at a speed
 abbrev pub entryLines : List ℕ → Entry → List ℕ
 entryLines set e = pick (isKind 2 e) (configurationLines (bodyOf set e)) []
 
-abbrev pub goodListed : List ℕ → Entry → Bool
-goodListed set e = isKind 2 e ⇒ goodConfiguration fullSpeed (bodyOf set e)
+abbrev pub goodListed : Limits → List ℕ → Entry → Bool
+goodListed limits set e = isKind 2 e ⇒ goodConfiguration limits (bodyOf set e)

@@ -9,10 +9,11 @@ ghost use mathlib.Core.List.{[], _∷_, flatMap};
 ghost use Prim.Native.Nat.{_≤_};
 ghost use lib.ListN.{length};
 ghost use Rattle.octets.specs.Sentences.{every};
-ghost use Rattle.descriptors.specs.Limits.{fullSpeed};
+ghost use Rattle.descriptors.specs.declared.Limits.{Limits};
 ghost use Rattle.descriptors.specs.Cut.{cut, wellCut};
 ghost use Rattle.descriptors.specs.Configuration.{goodConfiguration};
 ghost use Rattle.sets.specs.Contents.{bodies};
+ghost use Rattle.sets.specs.Opening.{lent};
 ghost use Rattle.listing.specs.Listing.{decimal, fields, line, endpointLine, configurationLines, acceptedLines};
 ghost use Rattle.listing.specs.Listed.{room, Listed};
 ghost use Rattle.listing.specs.Written.{Room, Wrote, lead, interfaceLine, descriptorLine, descriptorLines, entryLines, goodListed};
@@ -147,7 +148,7 @@ fn put_descriptors(out: &mut [u8], at: usize, body: &[u8]) -> usize
 
 // The lines of a configuration.
 fn put_configuration(out: &mut [u8], at: usize, body: &[u8]) -> usize
-    requires { ⌜ goodConfiguration fullSpeed (now body) ≡ true ⌝ }
+    requires { ⌜ ((l : Limits) × (goodConfiguration l (now body) ≡ true)) ⌝ }
     requires { ⌜ Room (now out) at (configurationLines (now body)) ⌝ }
     ensures { λ r. ⌜ Wrote (now (out .entry)) at (configurationLines (now (body .entry))) (now (out .exit)) r ⌝ }
 {
@@ -159,7 +160,7 @@ fn put_configuration(out: &mut [u8], at: usize, body: &[u8]) -> usize
 
 // The lines of an entry: a configuration's, and none for any other.
 fn put_entry(out: &mut [u8], at: usize, set: &[u8], e: Entry) -> usize
-    requires { ⌜ goodListed (now set) e ≡ true ⌝ }
+    requires { ⌜ ((l : Limits) × (goodListed l (now set) e ≡ true)) ⌝ }
     requires { ⌜ Room (now out) at (entryLines (now set) e) ⌝ }
     ensures { λ r. ⌜ Wrote (now (out .entry)) at (entryLines (now (set .entry)) e) (now (out .exit)) r ⌝ }
 {
@@ -171,7 +172,7 @@ fn put_entry(out: &mut [u8], at: usize, set: &[u8], e: Entry) -> usize
 
 // The lines of all configurations, in the set's order.
 fn put_configurations(out: &mut [u8], at: usize, set: &[u8]) -> usize
-    requires { ⌜ every (goodConfiguration fullSpeed) (bodies 2 (now set)) ≡ true ⌝ }
+    requires { ⌜ ((l : Limits) × (every (goodConfiguration l) (bodies 2 (now set)) ≡ true)) ⌝ }
     requires { ⌜ Room (now out) at (flatMap configurationLines (bodies 2 (now set))) ⌝ }
     ensures { λ r. ⌜ Wrote (now (out .entry)) at (flatMap configurationLines (bodies 2 (now (set .entry)))) (now (out .exit)) r ⌝ }
 {
@@ -187,7 +188,7 @@ fn put_configurations(out: &mut [u8], at: usize, set: &[u8]) -> usize
 
 // The lines of an accepted set.
 fn put_accepted(out: &mut [u8], set: &[u8]) -> usize
-    requires { ⌜ every (goodConfiguration fullSpeed) (bodies 2 (now set)) ≡ true ⌝ }
+    requires { ⌜ ((l : Limits) × (every (goodConfiguration l) (bodies 2 (now set)) ≡ true)) ⌝ }
     requires { ⌜ Room (now out) 0 (acceptedLines (now set)) ⌝ }
     ensures { λ r. ⌜ Wrote (now (out .entry)) 0 (acceptedLines (now (set .entry))) (now (out .exit)) r ⌝ }
 {
@@ -199,7 +200,7 @@ fn put_accepted(out: &mut [u8], set: &[u8]) -> usize
 // The lister's text of a set and a serial block, at the buffer's start; its length comes back.
 pub fn list(set: &[u8], serial: &[u8], out: &mut [u8]) -> usize
     requires { ⌜ room ≤ length (now out) ⌝ }
-    ensures { λ r. ⌜ Listed (record { set = now (set .entry); serial = now (serial .entry) }) (now (out .entry)) (now (out .exit)) r ⌝ }
+    ensures { λ r. ⌜ Listed (lent (now (set .entry)) (now (serial .entry))) (now (out .entry)) (now (out .exit)) r ⌝ }
 {
     let number = sets::opening(set, serial, descriptors::full_speed()) as u16;
     if number != 0 {

@@ -1,5 +1,4 @@
 -- `listing::put_configuration` meets its contract: its own line, and those of its descriptors. No axiom.
-use Rattle.descriptors.specs.Limits.{fullSpeed}
 use Rattle.listing.specs.Written.{Wrote, descriptorLines}
 use Rattle.listing.proofs.Written.{begun, room-for, next, wrote-both}
 use Rattle.listing.proofs.Lines.{headLine, good-cut, configuration-lines}
@@ -29,7 +28,7 @@ put-line-requires : tie.Need-put-line-requires
 put-line-requires c κs =
     let s = c .before .before .before .before .before .before .before in
     rw (c .before .before .before .before .peek .ensures, c .before .before .before .peek2 .ensures)
-    (room-for (begun (s .args .out .now) _ _ (s .pre .1)) (headLine (s .args .body .now)) (descriptorLines (s .args .body .now)) (configuration-lines fullSpeed (s .args .body .now) (s .pre .0)))
+    (room-for (begun (s .args .out .now) _ _ (s .pre .1)) (headLine (s .args .body .now)) (descriptorLines (s .args .body .now)) (configuration-lines (s .pre .0 .0) (s .args .body .now) (s .pre .0 .1)))
 
 -- its own line is written
 headed : (c : tie.After-put-line) → Wrote (c .before .before .before .before .before .before .before .before .args .out .now) (c .before .before .before .before .before .before .before .before .args .at) (headLine (c .before .before .before .before .before .before .before .before .args .body .now)) (c .put-line .last .0) (c .put-line .result)
@@ -38,15 +37,15 @@ headed c = rw (c .before .before .before .before .before .peek .ensures, c .befo
 put-descriptors-requires : tie.Need-put-descriptors-requires
 put-descriptors-requires c κs =
     let s = c .before .before .before .before .before .before .before .before .before .before .before in (
-      good-cut fullSpeed (s .args .body .now) (s .pre .0),
-      next (begun (s .args .out .now) _ _ (s .pre .1)) (headLine (s .args .body .now)) (descriptorLines (s .args .body .now)) (configuration-lines fullSpeed (s .args .body .now) (s .pre .0)) (headed (c .before .before .before)) .room,
+      good-cut (s .pre .0 .0) (s .args .body .now) (s .pre .0 .1),
+      next (begun (s .args .out .now) _ _ (s .pre .1)) (headLine (s .args .body .now)) (descriptorLines (s .args .body .now)) (configuration-lines (s .pre .0 .0) (s .args .body .now) (s .pre .0 .1)) (headed (c .before .before .before)) .room,
     )
 
 same-length : tie.Need-same-length
 same-length c = search needs
 
 returns : tie.Need-returns
-returns c = let s = c .before .before .before .before .before .before .before .before .before .before .before .before .before .before in rw (configuration-lines fullSpeed (s .args .body .now) (s .pre .0)) (wrote-both (headed (c .before .before .before .before .before .before)) (c .before .before .put-descriptors .ensures))
+returns c = let s = c .before .before .before .before .before .before .before .before .before .before .before .before .before .before in rw (configuration-lines (s .pre .0 .0) (s .args .body .now) (s .pre .0 .1)) (wrote-both (headed (c .before .before .before .before .before .before)) (c .before .before .put-descriptors .ensures))
 
 pub put-configuration-spec : {M : Type 1} → statement M
 put-configuration-spec =

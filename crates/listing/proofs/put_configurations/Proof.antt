@@ -8,6 +8,7 @@ use Rattle.octets.specs.Sentences.{every}
 use Rattle.sets.specs.Contents.{bodies}
 use Rattle.sets.proofs.Entries.{rest}
 use Rattle.listing.specs.Listing.{configurationLines}
+use Rattle.descriptors.specs.declared.Limits.{Limits}
 use Rattle.listing.specs.Written.{entryLines, goodListed}
 use Rattle.listing.proofs.Written.{Going, begun, room-for, next, done, same}
 use Rattle.listing.proofs.Lines.{entry-lines, entries-good, next-entry-lines, next-good, no-entry-lines}
@@ -16,7 +17,7 @@ use Rattle.listing.proofs.put_configurations.Tie as tie
 
 abbrev Inv-loop : tie.InvT-loop
 Inv-loop out₀ at set count next₀ i₀ out next i =
-    (every (goodListed set) (rest set i) ≡ true) × Going out₀ at (flatMap configurationLines (bodies 2 set)) out next (flatMap (entryLines set) (rest set i))
+    ((l : Limits) × (every (goodListed l set) (rest set i) ≡ true)) × Going out₀ at (flatMap configurationLines (bodies 2 set)) out next (flatMap (entryLines set) (rest set i))
 
 abbrev μ-loop : tie.MeasureT-loop
 μ-loop out₀ at set count next₀ i₀ out next i = count - i
@@ -25,7 +26,7 @@ peek-requires : tie.Need-peek-requires Inv-loop μ-loop
 peek-requires c κs = search needs
 
 loop-holds : tie.Need-loop-holds Inv-loop μ-loop
-loop-holds c = let s = c .before .before .before in (entries-good (s .args .set .now) (s .pre .0), rw (sym (entry-lines (s .args .set .now))) (begun (s .args .out .now) _ _ (s .pre .1)))
+loop-holds c = let s = c .before .before .before in ((s .pre .0 .0, entries-good (s .pre .0 .0) (s .args .set .now) (s .pre .0 .1)), rw (sym (entry-lines (s .args .set .now))) (begun (s .args .out .now) _ _ (s .pre .1)))
 
 entry-at-requires : tie.Need-entry-at-requires Inv-loop μ-loop
 entry-at-requires c κs = search needs
@@ -36,7 +37,7 @@ put-entry-requires c κs =
     let i = c .before .before .before .loop .i in
     let p = c .before .before .before .before .peek .ensures in
     let h = c .before .before .loop-test .taken in (
-      next-good set _ p i h _ (c .entry-at .ensures) (c .before .before .before .loop .inv .0) .0,
+      (c .before .before .before .loop .inv .0 .0, next-good set _ p i (c .before .before .before .loop .inv .0 .0) h _ (c .entry-at .ensures) (c .before .before .before .loop .inv .0 .1) .0),
       room-for (c .before .before .before .loop .inv .1) (entryLines set (c .entry-at .result)) (flatMap (entryLines set) (rest set (i + 1))) (next-entry-lines set _ p i h _ (c .entry-at .ensures)),
     )
 
@@ -53,7 +54,7 @@ loop-again c =
     let p = c .before .before .before .before .before .before .before .peek .ensures in
     let h = c .before .before .before .before .before .loop-test .taken in
     let q = c .before .before .before .entry-at .ensures in (
-      next-good set _ p i h _ q (c .before .before .before .before .before .before .loop .inv .0) .1,
+      (c .before .before .before .before .before .before .loop .inv .0 .0, next-good set _ p i (c .before .before .before .before .before .before .loop .inv .0 .0) h _ q (c .before .before .before .before .before .before .loop .inv .0 .1) .1),
       next (c .before .before .before .before .before .before .loop .inv .1) (entryLines set (c .before .before .before .entry-at .result)) (flatMap (entryLines set) (rest set (i + 1))) (next-entry-lines set _ p i h _ q) (c .before .before .put-entry .ensures),
     )
 

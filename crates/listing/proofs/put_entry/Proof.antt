@@ -1,7 +1,6 @@
 -- `listing::put_entry` meets its contract, by the entry's type. No axiom.
 use borrow.Author.Tests.{eq-eqb, ne-eqb}
 use Rattle.octets.proofs.Sentences.{if-then}
-use Rattle.descriptors.specs.Limits.{fullSpeed}
 use Rattle.descriptors.specs.Configuration.{goodConfiguration}
 use Rattle.sets.specs.Contents.{isKind, bodyOf}
 use Rattle.listing.proofs.Written.{wrote-nothing}
@@ -17,7 +16,7 @@ put-configuration-requires c κs =
     let s = c .before .before .before .before .before .before in
     let e = s .args .e in
     let k = eq-eqb (e .kind) 2 (c .before .before .if1 .taken) in
-    (rw (c .body-of .ensures) (if-then (isKind 2 e) (goodConfiguration fullSpeed (bodyOf (s .args .set .now) e)) (s .pre .0) k), rw (c .body-of .ensures) (rw k at (s .pre .1)))
+    ((s .pre .0 .0, rw (c .body-of .ensures) (if-then (isKind 2 e) (goodConfiguration (s .pre .0 .0) (bodyOf (s .args .set .now) e)) (s .pre .0 .1) k)), rw (c .body-of .ensures) (rw k at (s .pre .1)))
 
 same-length : tie.Need-same-length
 same-length c = search needs
