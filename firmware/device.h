@@ -9,6 +9,10 @@
 
 #include "heideklonk.h"
 
+#ifdef __cplusplus
+extern "C" {
+#endif
+
 /* What stands in flash and is only read: the set, and this unit's own serial block (NULL and 0 where there is none). */
 struct device_flash {
     const uint8_t *set;
@@ -48,5 +52,9 @@ void device_run(struct device *device);
 /* The application halts a bulk or interrupt endpoint: from then on it answers STALL, until the host clears it.
  * HK_DONE, or why not. */
 uint8_t device_halt(struct device *device, uint8_t endpoint);
+
+#ifdef __cplusplus
+}
+#endif
 
 #endif

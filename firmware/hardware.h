@@ -8,6 +8,10 @@
 
 #include "heideklonk.h"
 
+#ifdef __cplusplus
+extern "C" {
+#endif
+
 enum hardware_event_kind {
     HARDWARE_BUS_RESET,
     HARDWARE_SETUP,           /* a SETUP packet stands in setup, setup_length bytes of it */
@@ -49,5 +53,9 @@ void hardware_set_endpoints(const uint8_t *record);
 /* The application hears every number but HK_DONE. HK_REQUEST_UNKNOWN to HK_NO_SUCH_FEATURE are the host's doing, and it
  * was told by STALL. All others are a fault on the board: its flash, its memory, its peripheral or its application. */
 void application_hear(uint8_t number);
+
+#ifdef __cplusplus
+}
+#endif
 
 #endif

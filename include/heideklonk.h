@@ -15,7 +15,8 @@
  *     part and packet).
  *   - What is written (image, bytes, count, part, packet) overlaps nothing else that is passed. Set, serial and setup,
  *     which are only read, may overlap each other.
- *   - A pointer whose length is 0 may be NULL. This is tested and not proved.
+ *   - A pointer whose length is 0 may be NULL. A set (or reply) of NULL and 0 leaves a part whose start is NULL and whose
+ *     length is 0, and that is a valid part. This is tested and not proved.
  *   - A hk_part holds a valid value at the call: HK_NO_PART, or what an earlier call left there.
  *   - A part points into the set, the serial block or the reply that was lent. It is no copy: it lasts as long as they do.
  *   - One image is lent to one call at a time.
@@ -52,7 +53,8 @@ extern "C" {
 #define HK_NO_SUCH_PACKET 15          /* packet: size, lengths or packet number */
 #define HK_ENDPOINT_UNFIT 16          /* function event on an unfit endpoint */
 
-/* Bytes in memory that the caller lent. Test length, not start: an empty part has a start too. */
+/* Bytes in memory that the caller lent. Test length, not start: the start of an empty part is NULL only where NULL was
+ * lent. */
 typedef struct hk_part {
     const uint8_t *start;
     size_t length;

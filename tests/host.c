@@ -12,6 +12,7 @@
 
 #define ADDRESS 5
 #define INTERRUPTED_ADDRESS 9
+#define UNWRITTEN 0xA5
 #define MOST_CONFIGURATIONS 8
 #define MOST_BODY 16384
 #define MOST_FILE 65536
@@ -55,6 +56,17 @@ static void err_in_default(struct host *host) {
     ask(host, 0xC0, 1, 0, 0, 4, HK_REQUEST_UNKNOWN);
 }
 
+/* A host that has seen enough goes on to the status stage. */
+static void end_data_stage_early(struct host *host, const uint8_t *setup) {
+    hk_part packet = HK_NO_PART;
+    print_setup(setup);
+    wire_send_setup(host->address, setup);
+    if (wire_take_packet(host->address, &packet) != WIRE_DONE)
+        fail(host, "no packet came");
+    printf("\n  -> a packet of %u\n", (unsigned)packet.length);
+    end_transfer_with_status(host, setup, HK_DONE);
+}
+
 static void leave_set_address_open(struct host *host) {
     uint8_t setup[HK_SETUP_LENGTH];
     fill_setup(setup, 0x00, SET_ADDRESS, INTERRUPTED_ADDRESS, 0, 0);
@@ -73,6 +85,23 @@ static void interrupt_set_address(struct host *host) {
     get_descriptor(host, TYPE_DEVICE_QUALIFIER, 0, 0, 10, HK_DOES_NOT_EXIST);
     leave_set_address_open(host);
     reset_bus(host);
+}
+
+/* In the two stages in which the host's OUT packet is the status stage, a second one is stray. */
+static void send_stray_outs(struct host *host) {
+    uint8_t setup[HK_SETUP_LENGTH];
+    heading("Stray OUT packets, in every stage: none ends a transfer or takes a waiting address");
+    send_stray_out(host, "before any transfer");
+    leave_set_address_open(host);
+    send_stray_out(host, "before our status stage");
+    reset_bus(host);
+    get_descriptor(host, TYPE_DEVICE, 0, 0, 18, HK_DONE);
+    send_stray_out(host, "after the host's status stage");
+    fill_setup(setup, 0x80, GET_DESCRIPTOR, TYPE_DEVICE << 8, 0, 18);
+    end_data_stage_early(host, setup);
+    send_stray_out(host, "after the host has ended the data stage early");
+    get_descriptor(host, TYPE_DEVICE_QUALIFIER, 0, 0, 10, HK_DOES_NOT_EXIST);
+    send_stray_out(host, "after a STALL");
 }
 
 static void set_address(struct host *host) {
@@ -111,18 +140,11 @@ static void read_configurations(struct host *host, struct learnt *learnt) {
     get_descriptor(host, TYPE_CONFIGURATION, learnt->configurations, 0, 9, HK_DOES_NOT_EXIST);
 }
 
-/* A host that has seen enough goes on to the status stage. */
-static void end_data_stage_early(struct host *host, const struct body *body) {
-    heading("The host ends the data stage after one packet");
+static void read_one_packet(struct host *host, const struct body *body) {
     uint8_t setup[HK_SETUP_LENGTH];
-    hk_part packet = HK_NO_PART;
+    heading("The host ends the data stage after one packet");
     fill_setup(setup, 0x80, GET_DESCRIPTOR, TYPE_CONFIGURATION << 8, 0, (unsigned)body->length);
-    print_setup(setup);
-    wire_send_setup(host->address, setup);
-    if (wire_take_packet(host->address, &packet) != WIRE_DONE)
-        fail(host, "no packet came");
-    printf("\n  -> a packet of %u\n", (unsigned)packet.length);
-    end_transfer_with_status(host, setup, HK_DONE);
+    end_data_stage_early(host, setup);
 }
 
 static int is_listed(const struct learnt *learnt, unsigned language) {
@@ -304,6 +326,7 @@ static void disturb_board(struct host *host) {
 static int enumerate(const struct device_flash *flash) {
     static struct host host;
     static struct learnt learnt;
+    memset(&host.device, UNWRITTEN, sizeof host.device); /* memory at power-on */
     wire_attach(&host.device);
     uint8_t number = device_start(&host.device, flash);
     if (number != HK_DONE) {
@@ -311,14 +334,16 @@ static int enumerate(const struct device_flash *flash) {
         return 1;
     }
     printf("power on, the set is accepted\n");
+    check_transfer_ended(&host);
     show_record(&host, "");
     learn_packet_size(&host);
     err_in_default(&host);
     interrupt_set_address(&host);
+    send_stray_outs(&host);
     set_address(&host);
     read_device(&host, &learnt);
     read_configurations(&host, &learnt);
-    end_data_stage_early(&host, &learnt.bodies[0]);
+    read_one_packet(&host, &learnt.bodies[0]);
     read_strings(&host, &learnt);
     use_wakeup(&host, &learnt);
     for (unsigned index = 0; index < learnt.configurations; index++)

@@ -27,9 +27,19 @@ static void show_fault(uint8_t number) {
         printf("  the board's application hears %u: %s\n", number, number_in_words(number));
 }
 
-static void check_transfer_ended(struct host *host) {
+void check_transfer_ended(struct host *host) {
     if (host->device.transfer.stage != STAGE_NONE)
         fail(host, "the device is still in a control transfer");
+}
+
+void send_stray_out(struct host *host, const char *when) {
+    enum device_stage stage = host->device.transfer.stage;
+    printf("stray OUT packet %s\n", when);
+    wire_send_stray_out();
+    if (host->device.transfer.stage != stage)
+        fail(host, "it counted as a status stage");
+    show_fault(wire_heard());
+    show_record(host, "");
 }
 
 void reset_bus(struct host *host) {

@@ -22,6 +22,12 @@ void fail(struct host *host, const char *what);
 /* Prints the record if it is another than the one printed last. */
 void show_record(struct host *host, const char *when);
 
+/* Fails if a control transfer is under way. */
+void check_transfer_ended(struct host *host);
+
+/* An OUT packet that belongs to no stage; the transfer under way must go on as if it had not come. */
+void send_stray_out(struct host *host, const char *when);
+
 void reset_bus(struct host *host);
 
 void fill_setup(uint8_t *setup, uint8_t type, uint8_t code, unsigned value, unsigned index, unsigned length);

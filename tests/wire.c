@@ -119,6 +119,10 @@ enum wire_answer wire_send_status(uint8_t address) {
     return send_token(address, &wire.status_expected, HARDWARE_STATUS_RECEIVED);
 }
 
+void wire_send_stray_out(void) {
+    happen(HARDWARE_STATUS_RECEIVED);
+}
+
 static int is_halted(uint8_t endpoint) {
     int bit = (endpoint & 15) + (endpoint & 0x80 ? 16 : 0);
     return wire.record[RECORD_HALTS + bit / 8] >> bit % 8 & 1;

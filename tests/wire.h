@@ -19,6 +19,9 @@ enum wire_answer wire_send_setup(uint8_t address, const uint8_t *setup);
 enum wire_answer wire_take_packet(uint8_t address, hk_part *packet);
 enum wire_answer wire_send_status(uint8_t address);
 
+/* An OUT packet that nobody waits for, and a peripheral that reports it all the same. */
+void wire_send_stray_out(void);
+
 /* From now on the hardware hands over so many bytes of a SETUP. */
 void wire_hand_over(uint8_t setup_length);
 

@@ -21,10 +21,12 @@ const DEFAULT_CALLS: usize = 200_000;
 const PATIENCE: usize = 1_000;
 
 pub const USAGE: &str = "\
-reference vectors FILE..                        answers every question of the files and compares
-reference run-vectors --program CMD FILE..      the same, and through a harness
+reference vectors [--least N] FILE..            answers every question of the files, at least N (1) in each, and compares
+reference run-vectors --program CMD [--least N] FILE..
+                                                the same, and through a harness
 reference compare --program CMD [--sets N] [--calls N] [--seed S] [--fault NAME]
-                                                sets through opening, calls over the whole boundary; or both
+                                                sets through opening, calls over the whole boundary; or both;
+                                                from 100,000 sets and 200,000 calls on each rule and number must be reached
 reference faults --program CMD [--seed S]       every planted fault must be noticed
 reference serve [--fault NAME]                  the reference in a harness's place
 reference list SET SERIAL [--fault NAME]        the lister's text for two files
@@ -81,8 +83,10 @@ type Verdict = Result<bool, String>;
 pub fn run(arguments: &Arguments) -> ExitCode {
     let words: Vec<&str> = arguments.words.iter().map(String::as_str).collect();
     let verdict = match words.as_slice() {
-        ["vectors", files @ ..] => run_vectors(files, None),
-        ["run-vectors", files @ ..] => arguments.program().and_then(|program| run_vectors(files, Some(program))),
+        ["vectors", files @ ..] => run_vectors(arguments, files, None),
+        ["run-vectors", files @ ..] => {
+            arguments.program().and_then(|program| run_vectors(arguments, files, Some(program)))
+        }
         ["compare"] => compare(arguments),
         ["faults"] => faults(arguments),
         ["serve"] => arguments.fault().and_then(answer_commands),
@@ -114,7 +118,8 @@ fn answer_commands(fault: Fault) -> Verdict {
     }
 }
 
-fn run_vectors(files: &[&str], program: Option<&str>) -> Verdict {
+fn run_vectors(arguments: &Arguments, files: &[&str], program: Option<&str>) -> Verdict {
+    let least = arguments.number("least")?.unwrap_or(1);
     let mut right = true;
     for file in files {
         let text = std::fs::read_to_string(file).map_err(|error| format!("{file}: {error}"))?;
@@ -129,6 +134,10 @@ fn run_vectors(files: &[&str], program: Option<&str>) -> Verdict {
         }
         println!("{file}: {} questions, {} disagree", tally.questions, tally.disagreements.len());
         right &= tally.disagreements.is_empty();
+        if tally.questions < least {
+            println!("{file}: TOO FEW questions, at least {least} belong there");
+            right = false;
+        }
         if let Some(comparison) = comparison {
             let calls = comparison.calls;
             right &= agrees(&format!("{file}: {calls} calls"), &comparison.finish().map_err(told)?);
@@ -164,7 +173,8 @@ fn compare_opening(arguments: &Arguments, sets: usize) -> Verdict {
     let same = ended(comparison, "opening", "sets")?;
     let by_name =
         rules.iter().map(|(rule, count)| (format!("{} {}", rule.group(), kebab(&format!("{rule:?}"))), *count));
-    Ok(same & none_zero(&numbered(&numbers[..=6])) & none_zero(&by_name.collect::<Vec<_>>()))
+    let demanded = sets >= DEFAULT_SETS;
+    Ok(same & reached(&numbered(&numbers[..=6]), demanded) & reached(&by_name.collect::<Vec<_>>(), demanded))
 }
 
 fn compare_whole(arguments: &Arguments, calls: usize) -> Verdict {
@@ -175,7 +185,7 @@ fn compare_whole(arguments: &Arguments, calls: usize) -> Verdict {
     if let Some(unlike) = &unlike {
         println!("{unlike}");
     }
-    Ok(same & unlike.is_none() & none_zero(&numbered(&numbers)))
+    Ok(same & unlike.is_none() & reached(&numbered(&numbers), calls >= DEFAULT_CALLS))
 }
 
 /// Tells how a comparison went and how long it took.
@@ -189,12 +199,13 @@ fn numbered(counts: &[usize]) -> Vec<(String, usize)> {
     counts.iter().enumerate().map(|(number, &count)| (format!("number {number}"), count)).collect()
 }
 
-/// Prints how often each was reached, and whether all were.
-fn none_zero(counts: &[(String, usize)]) -> bool {
+/// Prints how often each was reached; whether all were, where that is demanded: a short run misses some.
+fn reached(counts: &[(String, usize)], demanded: bool) -> bool {
+    let mark = if demanded { "  NOT REACHED" } else { "  not reached, by so few" };
     for (name, count) in counts {
-        println!("  {count:>8}  {name}{}", if *count == 0 { "  NOT REACHED" } else { "" });
+        println!("  {count:>8}  {name}{}", if *count == 0 { mark } else { "" });
     }
-    counts.iter().all(|(_, count)| *count > 0)
+    !demanded || counts.iter().all(|(_, count)| *count > 0)
 }
 
 /// One comparison for each planted fault, to the first difference.
