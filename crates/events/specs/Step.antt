@@ -8,9 +8,8 @@ use lib.Dec.{eqb}
 use Rattle.octets.specs.Bit.{bit, flipBit}
 use Rattle.octets.specs.Sentences.{pick}
 use Rattle.descriptors.specs.declared.Endpoint.{Endpoint}
-use Rattle.descriptors.specs.Limits.{fullSpeed}
-use Rattle.sets.specs.Opening.{Board, opening}
-use Rattle.sets.specs.View.{View, accepted}
+use Rattle.sets.specs.Opening.{Board}
+use Rattle.sets.specs.View.{View, openingOf, accepted}
 use Rattle.records.specs.declared.Device.{Device}
 use Rattle.records.specs.Device.{inDefault, inAddress, nothing, fresh, settled, withAddress, withEndpoints}
 use Rattle.records.specs.Image.{deviceOf, imageOf}
@@ -112,5 +111,5 @@ pub record Opened : Type 0 where
 
 unfoldable pub opened : Board → List ℕ → Opened
 opened b image =
-    pick (eqb (length image) 32) (record { number = opening fullSpeed b; image = imageOf fresh })
+    pick (eqb (length image) 32) (record { number = openingOf b; image = imageOf fresh })
     (record { number = 8; image = image })

@@ -12,7 +12,6 @@ use Rattle.descriptors.specs.Cut.{cut, descriptorsOf, wellCut}
 use Rattle.descriptors.specs.Descriptor.{isInterface, isEndpoint, goodDescriptor}
 use Rattle.descriptors.specs.Interfaces.{grouped, settingOf, endpointsOf, goodSettings, counted, apart, goodInterfaces}
 use Rattle.descriptors.specs.Configuration.{bNumInterfaces, bConfigurationValue, goodHead, goodDescriptors, goodConfiguration, behind, groupsOf}
-use Rattle.descriptors.specs.declared.Limits.{Limits}
 use Rattle.sets.specs.declared.Entry.{Entry}
 use Rattle.sets.specs.Contents.{entryOf, entries, bodyOf, bodies, isKind, count}
 use Rattle.sets.proofs.Entries.{rest, rest-start, next-entry, no-entry, every-cons}

@@ -11,6 +11,7 @@ use borrow.Author.Tests.{eqb-true, ltb-true, ltb-false}
 use Rattle.octets.specs.Bit.{bit}
 use Rattle.octets.specs.Sentences.{pick, every, any, first, pairs}
 use Rattle.octets.proofs.Sentences.{both, conjunct, every-map, every-member, any-member, first-some}
+use Rattle.descriptors.specs.declared.Limits.{Limits}
 use Rattle.descriptors.specs.Limits.{fullSpeed}
 use Rattle.descriptors.specs.Cut.{cut, cutAfter, descriptorsOf, wellCut}
 use Rattle.descriptors.specs.Interfaces.{grouped, endpointsOf}
@@ -24,7 +25,7 @@ use Rattle.sets.specs.Opening.{Board, numberedFrom, goodConfigurations}
 use Rattle.sets.specs.Found.{found, valued, configurationFound}
 use Rattle.sets.specs.View.{entryByIndex, byIndex, byValue, openingOf}
 use Rattle.octets.specs.Octets.{Bytes}
-use Rattle.sets.proofs.Groups.{groups}
+use Rattle.sets.proofs.Groups.{Groups, groups}
 use Rattle.sets.proofs.Bodies.{bytes-part, soundConfiguration}
 use Rattle.sets.proofs.Strings.{found-some}
 use Rattle.sets.proofs.Lookups.{value-found, index-found}
@@ -67,14 +68,14 @@ module _ (set : List ℕ) where
   first-by-index = index-found set (record { 0 = 0 }) ∙ sym (body-found (found (entryByIndex (record { 0 = 0 }) (entries set))))
 
 -- ---- the selected configuration's body of an accepted board
-module _ (b : Board) (h : Bytes (b .set)) (p : openingOf b ≡ 0) (value : ℕ) where
-  good : every (goodConfiguration fullSpeed) (bodies 2 (b .set)) ≡ true
+module _ (limits : Limits) (b : Board) (h : Bytes (b .set)) (g : Groups limits b) (value : ℕ) where
+  good : every (goodConfiguration limits) (bodies 2 (b .set)) ≡ true
   unfolding goodConfigurations
   good =
       let set = b .set in
-      let rules = numberedFrom 0 (entriesOf 2 set) ∷ every (goodConfiguration fullSpeed) (bodies 2 set) ∷ every (λ x. leb 1 (bConfigurationValue x)) (bodies 2 set)
+      let rules = numberedFrom 0 (entriesOf 2 set) ∷ every (goodConfiguration limits) (bodies 2 set) ∷ every (λ x. leb 1 (bConfigurationValue x)) (bodies 2 set)
       ∷ pairs (λ x y. not (eqb (bConfigurationValue x) (bConfigurationValue y))) (bodies 2 set) ∷ [] in
-      conjunct 1 rules (groups fullSpeed b p .configurations)
+      conjunct 1 rules (g .configurations)
 
   none-usable : Usable []
   unfolding wellCut configurationOf groupsOf grouped cutAfter descriptorsOf any
@@ -85,10 +86,10 @@ module _ (b : Board) (h : Bytes (b .set)) (p : openingOf b ≡ 0) (value : ℕ) 
   entry-usable e m =
       let set = b .set in
       let body = bodyOf set e in
-      let rules = every-member (λ e. goodConfiguration fullSpeed (bodyOf set e)) (sym (every-map (goodConfiguration fullSpeed) (bodyOf set) (entriesOf 2 set)) ∙ good) m in
-      let sound = soundConfiguration fullSpeed body (bytes-part set (e .offset) (e .length) h) rules in
+      let rules = every-member (λ e. goodConfiguration limits (bodyOf set e)) (sym (every-map (goodConfiguration limits) (bodyOf set) (entriesOf 2 set)) ∙ good) m in
+      let sound = soundConfiguration limits body (bytes-part set (e .offset) (e .length) h) rules in
       record {
-        whole = both (wellCut (cut body)) (goodDescriptors fullSpeed (length body) (descriptorsOf (cut body))) rules .0;
+        whole = both (wellCut (cut body)) (goodDescriptors limits (length body) (descriptorsOf (cut body))) rules .0;
         few = λ j t.
             let (s, n, u) = any-member (λ s. eqb (s .interface) j) (configurationOf body .settings) t in
             rw (eqb-true (s .interface) j u) at (sound .interfaces s n);
@@ -98,9 +99,12 @@ module _ (b : Board) (h : Bytes (b .set)) (p : openingOf b ≡ 0) (value : ℕ) 
             (rw (eqb-true (s .interface) j i) at (sound .interfaces s n), rw (eqb-true (s .alternate) a k) at (sound .alternates s n));
       }
 
-  pub usable : Usable (selectedBody (b .set) value)
-  usable = go (found (first (valued (b .set) value) (entriesOf 2 (b .set)))) refl
+  in-groups : Usable (selectedBody (b .set) value)
+  in-groups = go (found (first (valued (b .set) value) (entriesOf 2 (b .set)))) refl
     where
       go : (f : EntryFound) → found (first (valued (b .set) value) (entriesOf 2 (b .set))) ≡ f → Usable (bodyFound (b .set) f)
       go Nothing q = none-usable
       go (At e) q = entry-usable e (first-some (valued (b .set) value) (entriesOf 2 (b .set)) (found-some (first (valued (b .set) value) (entriesOf 2 (b .set))) q) .0)
+
+pub usable : (b : Board) → Bytes (b .set) → openingOf b ≡ 0 → (value : ℕ) → Usable (selectedBody (b .set) value)
+usable b h p = in-groups fullSpeed b h (groups fullSpeed b p)

@@ -1,4 +1,5 @@
 -- `bench_replay::replay` is safe: the part of a step's answer lies inside its slice. No axiom.
+use Rattle.sets.specs.Opening.{lent}
 use Rattle.promises.specs.Refusals.{stepInside}
 use borrow.Author.Needs.{needs}
 use Rattle.bench_replay.proofs.replay.Statement.{statement}
@@ -13,7 +14,7 @@ step-requires c κs = search needs
 part-requires : tie.Need-part-requires
 part-requires c κs =
     let a = c .before .before .before .before .before .before .args in
-    rw (c .step .ensures) (stepInside (record { set = a .set .now; serial = a .serial .now }) (a .device) (c .before .setup-event .result))
+    rw (c .step .ensures) (stepInside (lent (a .set .now) (a .serial .now)) (a .device) (c .before .setup-event .result))
 
 transfer-requires : tie.Need-transfer-requires
 transfer-requires c κs = search needs

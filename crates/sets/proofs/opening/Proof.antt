@@ -6,7 +6,7 @@ use Rattle.octets.specs.Sentences.{pick}
 use Rattle.descriptors.proofs.CheckReferences.{told}
 use Rattle.sets.specs.Contents.{goodFrame, goodContents}
 use Rattle.sets.specs.Strings.{goodStrings}
-use Rattle.sets.specs.Opening.{goodDevices, goodConfigurations, goodBlock, opening}
+use Rattle.sets.specs.Opening.{lent, goodDevices, goodConfigurations, goodBlock, opening}
 use borrow.Author.Needs.{needs}
 use Rattle.sets.proofs.opening.Statement.{statement}
 use Rattle.sets.proofs.opening.Tie as tie
@@ -103,7 +103,7 @@ good-serial-requires c κs = search needs
 -- all but the serial block is good
 met : (c : tie.Else5) {b : Bool}
     → let a = c .before .before .before .before .before .before .before .before .before .before .before .before .before .before .before .before .before .args in
-    goodBlock (a .set .now) (a .serial .now) ≡ b → pick (not b) 6 0 ≡ opening (a .limits) (record { set = a .set .now; serial = a .serial .now })
+    goodBlock (a .set .now) (a .serial .now) ≡ b → pick (not b) 6 0 ≡ opening (a .limits) (lent (a .set .now) (a .serial .now))
 unfolding opening
 met c p =
     let g = c .before .before .before in
