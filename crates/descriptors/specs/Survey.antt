@@ -1,6 +1,6 @@
 -- Working definitions for the contract of the survey of a body, a descriptor at a time; no promise cites them.
 use mathlib.Core.Bool.{Bool, false, _&&_, _||_}
-use mathlib.Core.List.{List, [], _∷_}
+use mathlib.Core.List.{List}
 use Prim.Native.Nat.{ℕ, _<_}
 use mathlib.Core.Path.{_≡_}
 use lib.ListN.{getD}
@@ -16,7 +16,7 @@ use Rattle.descriptors.specs.declared.survey.Asked.{Asked}
 use Rattle.descriptors.specs.declared.survey.Survey.{Survey}
 use Rattle.descriptors.specs.Descriptor.{isInterface}
 use Rattle.descriptors.specs.Configuration.{Configuration, hasInterface, hasSetting, isCurrent, currentOf, addressed, canHalt, ofEither}
-use Rattle.descriptors.specs.Walk.{standOf}
+use Rattle.descriptors.specs.Walk.{Walk, gathering}
 use Rattle.descriptors.specs.Lookup.{found, beginsOne, listed, listsOne, withBit, bitsOf}
 
 -- ---- what is asked of settings and of endpoints
@@ -61,9 +61,9 @@ onward alternates asked s stand d = record {
   bits = withBit (s .bits) (listsOne (changing alternates asked) stand d) d;
 }
 
-unfoldable pub surveyed : List ℕ → Asked → Survey → Stand → List (List ℕ) → Survey
-surveyed alternates asked s stand [] = s
-surveyed alternates asked s stand (d ∷ ds) = surveyed alternates asked (onward alternates asked s (standOf stand d) d) (standOf stand d) ds
+-- the walk over the descriptors after the first
+abbrev pub surveying : List ℕ → Asked → Walk Survey Survey
+surveying alternates asked = gathering (onward alternates asked)
 
 -- ---- the whole
 -- two words say which interfaces a configuration has, and of which the current setting exists
