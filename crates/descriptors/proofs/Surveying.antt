@@ -1,12 +1,12 @@
 -- A survey of a body: what each descriptor adds to it, and what it tells once the walk is over. Assumes nothing.
-use Prim.Native.Nat.{ℕ, _%_, _<_}
+use Prim.Native.Nat.{ℕ, _<_}
 use native.Mathlib.Omega.{arith}
 use mathlib.Core.Path.{_≡_, refl, sym, ap, _∙_}
 use mathlib.Core.List.{List, [], _∷_}
 use mathlib.Core.Bool.{Bool, true, false, _&&_, _||_, or-assoc, or-false, and-true, and-false}
 use mathlib.Core.Option.{Option, some}
 use lib.ListN.{getD, drop}
-use lib.Dec.{eqb, leb, ltb}
+use lib.Dec.{eqb, ltb}
 use borrow.Author.Tests.{eqb-true, ne-eqb, ltb-false}
 use Rattle.octets.specs.Bit.{bit}
 use Rattle.octets.specs.Sentences.{pick, any, only, first}
@@ -21,12 +21,12 @@ use Rattle.descriptors.specs.declared.lookup.EndpointFound.the-variants.
 use Rattle.descriptors.specs.declared.survey.Asked.{Asked}
 use Rattle.descriptors.specs.declared.survey.Survey.{Survey}
 use Rattle.descriptors.specs.Cut.{Cutting, cut, descriptorsOf}
-use Rattle.descriptors.specs.Descriptor.{bDescriptorType, isInterface, isEndpoint, bEndpointAddress, bmAttributes}
+use Rattle.descriptors.specs.Descriptor.{bDescriptorType, isInterface, isEndpoint}
 use Rattle.descriptors.specs.Interfaces.{begunBy}
 use Rattle.descriptors.specs.Configuration.{configurationOf, isCurrent, canHalt}
 use Rattle.descriptors.specs.Walk.{before, standOf, walked}
 use Rattle.descriptors.specs.Lookup.{found, beginsOne, lists, listed, listsOne, withBit, bitsFrom, bitsOf}
-use Rattle.descriptors.specs.Survey.{isSetting, currentAt, currentHalting, changing, noting, earlier, foundHere, nothingSeen, onward, surveying, Surveys}
+use Rattle.descriptors.specs.Survey.{isSetting, currentAt, currentHalting, changing, noting, earlier, foundHere, nothingSeen, onward, atCurrent, atOther, surveying, Surveys}
 use Rattle.descriptors.proofs.Walk.{gathers}
 use Rattle.descriptors.proofs.Ahead.{Begun, settings-begin, endpointsUnder, endpoints-begin}
 
@@ -86,23 +86,23 @@ earlier-step (At x) b stand d o = refl
 earlier-step Nothing true stand d o = refl
 earlier-step Nothing false stand d o = refl
 
--- what an endpoint descriptor adds. Of the asked interface it lists an endpoint of either setting if that is current, or the asked one
-module _ (alternates : List ℕ) (asked : Asked) (s : Survey) (stand : Stand) (d : List ℕ) where
-  either-setting : (eqb (stand .interface) (asked .interface) && (isCurrent alternates (listed stand d) || eqb (stand .alternate) (asked .alternate)))
-      ≡ changing alternates asked (listed stand d)
+-- what an endpoint descriptor adds: one of a current setting, of another, and one before the first interface
+module _ (alternates : List ℕ) (asked : Asked) (s : Survey) (stand : Stand) (d : List ℕ) (p : isEndpoint d ≡ true) where
+  -- of the asked interface it lists an endpoint of either setting if its own is current, or the asked one
+  either-setting : changing alternates asked (listed stand d)
+      ≡ (eqb (stand .interface) (asked .interface) && (isCurrent alternates (listed stand d) || eqb (stand .alternate) (asked .alternate)))
   either-setting = cases (eqb (stand .interface) (asked .interface))
-      (λ p. rw (p, eqb-true (stand .interface) (asked .interface) p))
-      (λ p. rw p)
+      (λ q. rw (q, eqb-true (stand .interface) (asked .interface) q))
+      (λ q. rw q)
 
-  pub endpoint-adds : isEndpoint d ≡ true → record {
-    existing = s .existing;
-    current = s .current;
-    halting = withBit (s .halting) (stand .inside && (isCurrent alternates (listed stand d) && leb 2 (bmAttributes d % 4))) d;
-    endpoint = earlier (s .endpoint) (foundHere (stand .inside && (isCurrent alternates (listed stand d) && eqb (bEndpointAddress d) (asked .address))) stand d);
-    there = s .there;
-    bits = withBit (s .bits) (stand .inside && (eqb (stand .interface) (asked .interface) && (isCurrent alternates (listed stand d) || eqb (stand .alternate) (asked .alternate)))) d;
-  } ≡ onward alternates asked s stand d
-  endpoint-adds p = rw (eqb-true (bDescriptorType d) 5 p, or-false (s .there), either-setting)
+  pub current-adds : stand .inside ≡ true → isCurrent alternates (listed stand d) ≡ true → atCurrent asked s stand d ≡ onward alternates asked s stand d
+  current-adds i c = rw (eqb-true (bDescriptorType d) 5 p, i, or-false (s .there), either-setting, c, and-true (eqb (stand .interface) (asked .interface)))
+
+  pub other-adds : stand .inside ≡ true → isCurrent alternates (listed stand d) ≡ false → atOther asked s stand d ≡ onward alternates asked s stand d
+  other-adds i c = rw (eqb-true (bDescriptorType d) 5 p, i, or-false (s .there), either-setting, c, earlier-none (s .endpoint))
+
+  pub outside-adds : stand .inside ≡ false → s ≡ onward alternates asked s stand d
+  outside-adds i = rw (eqb-true (bDescriptorType d) 5 p, i, or-false (s .there), earlier-none (s .endpoint))
 
 -- ---- what the walk gathers, part by part
 module _ (alternates : List ℕ) (asked : Asked) where

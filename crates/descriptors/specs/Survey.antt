@@ -4,7 +4,7 @@ use mathlib.Core.List.{List}
 use Prim.Native.Nat.{ℕ, _<_}
 use mathlib.Core.Path.{_≡_}
 use lib.ListN.{getD}
-use lib.Dec.{eqb, ltb}
+use lib.Dec.{eqb, leb, ltb}
 use Rattle.octets.specs.Bit.{bit, setBit}
 use Rattle.octets.specs.Sentences.{pick, only}
 use Rattle.descriptors.specs.declared.Setting.{Setting}
@@ -14,9 +14,9 @@ use Rattle.descriptors.specs.declared.lookup.EndpointFound.{EndpointFoun
 use Rattle.descriptors.specs.declared.lookup.EndpointFound.the-variants.{At, Nothing}
 use Rattle.descriptors.specs.declared.survey.Asked.{Asked}
 use Rattle.descriptors.specs.declared.survey.Survey.{Survey}
-use Rattle.descriptors.specs.Descriptor.{isInterface}
+use Rattle.descriptors.specs.Descriptor.{isInterface, bEndpointAddress, bmAttributes, transferType}
 use Rattle.descriptors.specs.Configuration.{Configuration, hasInterface, hasSetting, isCurrent, currentOf, addressed, canHalt, ofEither}
-use Rattle.descriptors.specs.Walk.{Walk, gathering}
+use Rattle.descriptors.specs.Walk.{settingAt, Walk, gathering}
 use Rattle.descriptors.specs.Lookup.{found, beginsOne, listed, listsOne, withBit, bitsOf}
 
 -- ---- what is asked of settings and of endpoints
@@ -59,6 +59,27 @@ onward alternates asked s stand d = record {
   endpoint = earlier (s .endpoint) (foundHere (listsOne (currentAt alternates (asked .address)) stand d) stand d);
   there = s .there || beginsOne (isSetting (asked .interface) (asked .alternate)) stand d;
   bits = withBit (s .bits) (listsOne (changing alternates asked) stand d) d;
+}
+
+-- the same after an endpoint descriptor of a setting: of a current one, and of another
+abbrev pub atCurrent : Asked → Survey → Stand → List ℕ → Survey
+atCurrent asked s stand d = record {
+  existing = s .existing;
+  current = s .current;
+  halting = withBit (s .halting) (leb 2 (transferType (bmAttributes d))) d;
+  endpoint = earlier (s .endpoint) (foundHere (eqb (bEndpointAddress d) (asked .address)) stand d);
+  there = s .there;
+  bits = withBit (s .bits) (eqb (stand .interface) (asked .interface)) d;
+}
+
+abbrev pub atOther : Asked → Survey → Stand → List ℕ → Survey
+atOther asked s stand d = record {
+  existing = s .existing;
+  current = s .current;
+  halting = s .halting;
+  endpoint = s .endpoint;
+  there = s .there;
+  bits = withBit (s .bits) (isSetting (asked .interface) (asked .alternate) (settingAt stand)) d;
 }
 
 -- the walk over the descriptors after the first
