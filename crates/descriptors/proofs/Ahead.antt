@@ -18,7 +18,7 @@ use Rattle.descriptors.specs.declared.Stand.{Stand}
 use Rattle.descriptors.specs.declared.Step.{Step}
 use Rattle.descriptors.specs.Cut.{Cutting, whole, descriptor, cut, cutAfter, descriptorsOf, wellCut}
 use Rattle.descriptors.specs.Descriptor.{isInterface, isEndpoint}
-use Rattle.descriptors.specs.Interfaces.{grouped, begun, settingOf, endpointOf, endpointsOf}
+use Rattle.descriptors.specs.Interfaces.{grouped, begunBy, settingOf, endpointOf, endpointsOf}
 use Rattle.descriptors.specs.Configuration.{behind, groupsOf, configurationOf}
 use Rattle.descriptors.specs.Walk.{settingAt, before, standOf, stepsOn, stepOf}
 use Rattle.descriptors.specs.Lookup.{lists, listed}
@@ -108,16 +108,16 @@ heads (d ∷ ds) = go (isInterface d) (isEndpoint d) refl refl (heads ds)
     go false false p q rest = rw (p, q) rest
 
 any-setting : (t : Setting → Bool) (body : List ℕ)
-    → any t (configurationOf body .settings) ≡ any (λ d. isInterface d && t (begun d)) (behind (descriptorsOf (cut body)))
+    → any t (configurationOf body .settings) ≡ any (λ d. isInterface d && t (begunBy d)) (behind (descriptorsOf (cut body)))
 unfolding configurationOf groupsOf
 any-setting t body =
     let ds = behind (descriptorsOf (cut body)) in
-    any-map t settingOf (grouped ds .groups) ∙ sym (any-map (λ d. t (begun d)) (λ g. g .head) (grouped ds .groups)) ∙
-    ap (any (λ d. t (begun d))) (heads ds) ∙ any-only (λ d. t (begun d)) isInterface ds
+    any-map t settingOf (grouped ds .groups) ∙ sym (any-map (λ d. t (begunBy d)) (λ g. g .head) (grouped ds .groups)) ∙
+    ap (any (λ d. t (begunBy d))) (heads ds) ∙ any-only (λ d. t (begunBy d)) isInterface ds
 
 pub settings-begin : (t : Setting → Bool) {body : List ℕ} {at : ℕ} → Begun body at
-    → any t (configurationOf body .settings) ≡ any (λ d. isInterface d && t (begun d)) (ahead body at)
-settings-begin t {body} b = any-setting t body ∙ sym (ap (any (λ d. isInterface d && t (begun d))) (b .all))
+    → any t (configurationOf body .settings) ≡ any (λ d. isInterface d && t (begunBy d)) (ahead body at)
+settings-begin t {body} b = any-setting t body ∙ sym (ap (any (λ d. isInterface d && t (begunBy d))) (b .all))
 
 -- ---- the endpoints: those that the descriptors list, each where it stands
 unfoldable pub endpointsUnder : Stand → List (List ℕ) → List Endpoint

@@ -17,23 +17,24 @@ use Rattle.octets.proofs.Bits.{set-same, set-other, bit-zero}
 use Rattle.descriptors.specs.declared.Limits.{Limits}
 use Rattle.descriptors.specs.declared.Setting.{Setting}
 use Rattle.descriptors.specs.declared.Endpoint.{Endpoint}
+use Rattle.descriptors.specs.declared.Stand.{Stand}
 use Rattle.descriptors.specs.declared.check.Progress.{Progress}
 use Rattle.descriptors.specs.Limits.{named}
 use Rattle.descriptors.specs.Descriptor.{bDescriptorType, isInterface, isEndpoint, bInterfaceNumber, bEndpointAddress, bmAttributes, wMaxPacketSize, bInterval, transferType, goodAddress, goodAttributes, goodSize, goodInterval, goodEndpoint, goodDescriptor}
-use Rattle.descriptors.specs.Interfaces.{Group, Groups, grouped, begun, settingOf, endpointOf, endpointsOf, follows, apart}
+use Rattle.descriptors.specs.Interfaces.{Group, Groups, grouped, begunBy, settingOf, endpointOf, endpointsOf, follows, apart}
 use Rattle.descriptors.specs.Configuration.{bitOf}
 use Rattle.descriptors.specs.Walk.{before}
-use Rattle.descriptors.specs.Check.{placed, fresh, unshared, passed, beginning}
-use Rattle.descriptors.proofs.CheckOrder.{at, chain, kinds}
+use Rattle.descriptors.specs.Check.{placed, fresh, unshared, onward, beginning}
+use Rattle.descriptors.proofs.Walk.{holding}
+use Rattle.descriptors.proofs.CheckOrder.{at, passed, chain, kinds}
 
 -- no address is shared where it may not be, from the state w on
-unfoldable pub unsharedAll : Progress → List (List ℕ) → Bool
-unsharedAll w [] = true
-unsharedAll w (d ∷ ds) = unshared w d && unsharedAll (passed w d) ds
+abbrev pub unsharedAll : Progress → Stand → List (List ℕ) → Bool
+unsharedAll = holding unshared onward (λ w last. true)
 
 -- every endpoint of descriptors of which the first stand under the setting s
-abbrev pub listed : Setting → Groups → List Endpoint
-listed s gs = map (endpointOf s) (gs .loose) ++ endpointsOf (gs .groups)
+abbrev pub endpointsIn : Setting → Groups → List Endpoint
+endpointsIn s gs = map (endpointOf s) (gs .loose) ++ endpointsOf (gs .groups)
 
 -- ---- good addresses have bits of their own
 by-bit : (a : ℕ) → goodAddress a ≡ true → a ≡ bitOf a % 16 + 128 * (bitOf a / 16)
@@ -56,15 +57,15 @@ good-address limits d p q =
 abbrev goodIn : Endpoint → Bool
 goodIn e = goodAddress (e .address)
 
-good-listed : (limits : Limits) (s : Setting) (ds : List (List ℕ)) → every (goodDescriptor limits) ds ≡ true → every goodIn (listed s (grouped ds)) ≡ true
+good-listed : (limits : Limits) (s : Setting) (ds : List (List ℕ)) → every (goodDescriptor limits) ds ≡ true → every goodIn (endpointsIn s (grouped ds)) ≡ true
 unfolding every grouped endpointsOf
 good-listed limits s [] p = refl
 good-listed limits s (d ∷ ds) p = go (both (goodDescriptor limits d) (every (goodDescriptor limits) ds) p) (λ t q. good-listed limits t ds q)
   where
     go : (goodDescriptor limits d ≡ true) × (every (goodDescriptor limits) ds ≡ true)
-        → ((t : Setting) → every (goodDescriptor limits) ds ≡ true → every goodIn (listed t (grouped ds)) ≡ true) → every goodIn (listed s (grouped (d ∷ ds))) ≡ true
+        → ((t : Setting) → every (goodDescriptor limits) ds ≡ true → every goodIn (endpointsIn t (grouped ds)) ≡ true) → every goodIn (endpointsIn s (grouped (d ∷ ds))) ≡ true
     go (q, r) ih = kinds d
-        (λ i e. rw i (ih (begun d) r))
+        (λ i e. rw i (ih (begunBy d) r))
         (λ i e. rw (i, e) (joined (good-address limits d q e) (ih s r)))
         (λ i e. rw (i, e) (ih s r))
 
@@ -129,11 +130,11 @@ in-chain n s ds (g ∷ gs) p =
 
 -- ---- an endpoint against the addresses that a walk has seen
 -- if its address was seen, then in this interface, and not in this setting
-abbrev holds : ℕ → Endpoint → Bool
-holds word e = bit word (bitOf (e .address))
+abbrev marked : ℕ → Endpoint → Bool
+marked word e = bit word (bitOf (e .address))
 
 clear : Setting → Progress → Endpoint → Bool
-clear s w e = holds (w .seen) e ⇒ (eqb (s .interface) (e .interface) && (holds (w .interface) e && not (eqb (s .alternate) (e .alternate) && holds (w .setting) e)))
+clear s w e = marked (w .seen) e ⇒ (eqb (s .interface) (e .interface) && (marked (w .interface) e && not (eqb (s .alternate) (e .alternate) && marked (w .setting) e)))
 
 -- at an interface descriptor: a further setting of the interface, and a new interface
 module _ (s t : Setting) (e : Endpoint) (seen interface setting : Bool) where
@@ -149,15 +150,15 @@ module _ (s t : Setting) (e : Endpoint) (seen interface setting : Bool) where
   new-interface p (inl m) = rw (ne-eqb (s .interface) (e .interface) (λ r. omega arith), and-false)
   new-interface p (inr (m, n)) = rw (ne-eqb (s .interface) (e .interface) (λ r. omega arith), and-false)
 
-at-interface : (s : Setting) (w : Progress) (d : List ℕ) (e : Endpoint) → w .stand ≡ at s → isInterface d ≡ true → Follows s (begun d) → NotBefore (begun d) e
-    → clear (begun d) (passed w d) e ≡ clear s w e
+at-interface : (s : Setting) (w : Progress) (d : List ℕ) (e : Endpoint) → isInterface d ≡ true → Follows s (begunBy d) → NotBefore (begunBy d) e
+    → clear (begunBy d) (passed w (at s) d) e ≡ clear s w e
 unfolding clear
-at-interface s w d e h i (inl (p, q)) l =
-    rw (i, h, eq-eqb (bInterfaceNumber d) (s .interface) p, bit-zero (bitOf (e .address)))
-    (same-interface s (begun d) e (holds (w .seen) e) (holds (w .interface) e) (holds (w .setting) e) p q l)
-at-interface s w d e h i (inr (p, q)) l =
-    rw (i, h, ne-eqb (bInterfaceNumber d) (s .interface) (λ r. omega arith), bit-zero (bitOf (e .address)))
-    (new-interface s (begun d) e (holds (w .seen) e) (holds (w .interface) e) (holds (w .setting) e) p l)
+at-interface s w d e i (inl (p, q)) l =
+    rw (i, eq-eqb (bInterfaceNumber d) (s .interface) p, bit-zero (bitOf (e .address)))
+    (same-interface s (begunBy d) e (marked (w .seen) e) (marked (w .interface) e) (marked (w .setting) e) p q l)
+at-interface s w d e i (inr (p, q)) l =
+    rw (i, ne-eqb (bInterfaceNumber d) (s .interface) (λ r. omega arith), bit-zero (bitOf (e .address)))
+    (new-interface s (begunBy d) e (marked (w .seen) e) (marked (w .interface) e) (marked (w .setting) e) p l)
 
 -- at an endpoint: what is clear of the words with its address in them is clear of the words, and apart from it
 met : (seen interface setting same alike : Bool) → (seen ⇒ (interface && not setting)) ≡ true
@@ -170,13 +171,13 @@ met true true false false alike p = refl
 met false interface setting same true p = refl
 met false interface setting same false p = refl
 
-module _ (s : Setting) (w : Progress) (d : List ℕ) (e : Endpoint) (h : w .stand ≡ at s) (i : isInterface d ≡ false) (j : isEndpoint d ≡ true)
+module _ (s : Setting) (w : Progress) (d : List ℕ) (e : Endpoint) (i : isInterface d ≡ false) (j : isEndpoint d ≡ true)
     (g : goodAddress (bEndpointAddress d) ≡ true) (k : goodAddress (e .address) ≡ true) (f : fresh w (bEndpointAddress d) ≡ true) where
-  at-endpoint : clear s (passed w d) e ≡ (clear s w e && apart (endpointOf s d) e)
+  at-endpoint : clear s (passed w (at s) d) e ≡ (clear s w e && apart (endpointOf s d) e)
   unfolding clear
   at-endpoint = cases (eqb (bEndpointAddress d) (e .address))
       (λ q. rw (i, j, alike q (w .seen), alike q (w .interface), alike q (w .setting), q)
-      (met (holds (w .seen) e) (holds (w .interface) e) (holds (w .setting) e) (eqb (s .interface) (e .interface)) (eqb (s .alternate) (e .alternate)) (rw (eqb-true (bEndpointAddress d) (e .address) q) at f)))
+      (met (marked (w .seen) e) (marked (w .interface) e) (marked (w .setting) e) (eqb (s .interface) (e .interface)) (eqb (s .alternate) (e .alternate)) (rw (eqb-true (bEndpointAddress d) (e .address) q) at f)))
       (λ q. rw (i, j, other q (w .seen), other q (w .interface), other q (w .setting), q) (sym (and-true (clear s w e))))
     where
       alike : eqb (bEndpointAddress d) (e .address) ≡ true → (word : ℕ) → bit (setBit word (bitOf (bEndpointAddress d))) (bitOf (e .address)) ≡ true
@@ -210,52 +211,53 @@ one-more false x y z h = refl
 
 module _ (limits : Limits) (n : ℕ) where
   Same : List (List ℕ) → Type 0
-  Same ds = (s : Setting) (w : Progress) → w .stand ≡ at s → every (goodDescriptor limits) ds ≡ true → chain n (at s) (map settingOf (grouped ds .groups)) ≡ true
-      → unsharedAll w ds ≡ Apart s w (listed s (grouped ds))
+  Same ds = (s : Setting) (w : Progress) → every (goodDescriptor limits) ds ≡ true → chain n (at s) (map settingOf (grouped ds .groups)) ≡ true
+      → unsharedAll w (at s) ds ≡ Apart s w (endpointsIn s (grouped ds))
 
-  module _ (d : List ℕ) (ds : List (List ℕ)) (s : Setting) (w : Progress) (h : w .stand ≡ at s) (same : Same ds)
+  module _ (d : List ℕ) (ds : List (List ℕ)) (s : Setting) (w : Progress) (same : Same ds)
       (g : every (goodDescriptor limits) (d ∷ ds) ≡ true) (c : chain n (at s) (map settingOf (grouped (d ∷ ds) .groups)) ≡ true) where
     good-rest : (goodDescriptor limits d ≡ true) × (every (goodDescriptor limits) ds ≡ true)
     unfolding every
     good-rest = both (goodDescriptor limits d) (every (goodDescriptor limits) ds) g
 
-    interface-same : isInterface d ≡ true → isEndpoint d ≡ false → unsharedAll w (d ∷ ds) ≡ Apart s w (listed s (grouped (d ∷ ds)))
-    unfolding Same unsharedAll grouped endpointsOf chain Apart
+    interface-same : isInterface d ≡ true → isEndpoint d ≡ false → unsharedAll w (at s) (d ∷ ds) ≡ Apart s w (endpointsIn s (grouped (d ∷ ds)))
+    unfolding Same holding grouped endpointsOf chain Apart
     interface-same i j =
-        let t = begun d in
+        let t = begunBy d in
         let (p, q) = both (placed (at s) t) (chain n (at t) (map settingOf (grouped ds .groups))) (rw i at c) in
-        let es = listed t (grouped ds) in
-        let u : unsharedAll (passed w d) ds ≡ Apart t (passed w d) es = same t (passed w d) (rw i) (good-rest .1) q in
-        let v : every (clear t (passed w d)) es ≡ every (clear s w) es =
-        every-alike (clear t (passed w d)) (clear s w) es (λ e m. at-interface s w d e h i (follows-is s t (follows-of s t p)) (not-before-is t e (every-member (notBefore t) (in-chain n t (grouped ds .loose) (grouped ds .groups) q) m))) in
+        let es = endpointsIn t (grouped ds) in
+        let w' = passed w (at s) d in
+        let u : unsharedAll w' (at t) ds ≡ Apart t w' es = same t w' (good-rest .1) q in
+        let v : every (clear t w') es ≡ every (clear s w) es =
+        every-alike (clear t w') (clear s w) es (λ e m. at-interface s w d e i (follows-is s t (follows-of s t p)) (not-before-is t e (every-member (notBefore t) (in-chain n t (grouped ds .loose) (grouped ds .groups) q) m))) in
         rw (i, j) (rw i at (u ∙ ap (λ (b : Bool). b && pairs apart es) v))
 
-    endpoint-same : isInterface d ≡ false → isEndpoint d ≡ true → unsharedAll w (d ∷ ds) ≡ Apart s w (listed s (grouped (d ∷ ds)))
-    unfolding Same unsharedAll grouped endpointsOf Apart every pairs
+    endpoint-same : isInterface d ≡ false → isEndpoint d ≡ true → unsharedAll w (at s) (d ∷ ds) ≡ Apart s w (endpointsIn s (grouped (d ∷ ds)))
+    unfolding Same holding grouped endpointsOf Apart every pairs
     endpoint-same i j =
         let a = bEndpointAddress d in
         let f = endpointOf s d in
-        let es = listed s (grouped ds) in
+        let es = endpointsIn s (grouped ds) in
         let k = good-address limits d (good-rest .0) j in
         let goods = good-listed limits s ds (good-rest .1) in
-        let stays : passed w d .stand ≡ at s = rw (i, j) h in
-        let u : unsharedAll (passed w d) ds ≡ Apart s (passed w d) es = same s (passed w d) stays (good-rest .1) (rw (i, j) at c) in
-        let v : fresh w a ≡ true → every (clear s (passed w d)) es ≡ (every (clear s w) es && every (apart f) es) = λ p.
-        every-alike (clear s (passed w d)) (λ e. clear s w e && apart f e) es (λ e m. at-endpoint s w d e h i j k (every-member goodIn goods m) p)
+        let w' = passed w (at s) d in
+        let u : unsharedAll w' (at s) ds ≡ Apart s w' es = same s w' (good-rest .1) (rw (i, j) at c) in
+        let v : fresh w a ≡ true → every (clear s w') es ≡ (every (clear s w) es && every (apart f) es) = λ p.
+        every-alike (clear s w') (λ e. clear s w e && apart f e) es (λ e m. at-endpoint s w d e i j k (every-member goodIn goods m) p)
         ∙ every-and (clear s w) (apart f) es in
         rw (i, j, own-clear s w d) (one-more (fresh w a) (every (clear s w) es) (every (apart f) es) (pairs apart es) (λ p. rw (i, j) at (u ∙ ap (λ (b : Bool). b && pairs apart es) (v p))))
 
-    other-same : isInterface d ≡ false → isEndpoint d ≡ false → unsharedAll w (d ∷ ds) ≡ Apart s w (listed s (grouped (d ∷ ds)))
-    unfolding Same unsharedAll grouped endpointsOf
-    other-same i j = rw (i, j) (same s w h (good-rest .1) (rw (i, j) at c))
+    other-same : isInterface d ≡ false → isEndpoint d ≡ false → unsharedAll w (at s) (d ∷ ds) ≡ Apart s w (endpointsIn s (grouped (d ∷ ds)))
+    unfolding Same holding grouped endpointsOf
+    other-same i j = rw (i, j) (same s w (good-rest .1) (rw (i, j) at c))
 
   same : (ds : List (List ℕ)) → Same ds
-  unfolding Same unsharedAll grouped endpointsOf Apart every pairs
-  same [] s w h g c = refl
-  same (d ∷ ds) s w h g c = go (same ds)
+  unfolding Same holding grouped endpointsOf Apart every pairs
+  same [] s w g c = refl
+  same (d ∷ ds) s w g c = go (same ds)
     where
-      go : Same ds → unsharedAll w (d ∷ ds) ≡ Apart s w (listed s (grouped (d ∷ ds)))
-      go ih = kinds d (λ i j. interface-same d ds s w h ih g c i j) (λ i j. endpoint-same d ds s w h ih g c i j) (λ i j. other-same d ds s w h ih g c i j)
+      go : Same ds → unsharedAll w (at s) (d ∷ ds) ≡ Apart s w (endpointsIn s (grouped (d ∷ ds)))
+      go ih = kinds d (λ i j. interface-same d ds s w ih g c i j) (λ i j. endpoint-same d ds s w ih g c i j) (λ i j. other-same d ds s w ih g c i j)
 
   -- ---- from the beginning: nothing was seen
   unseen : (s : Setting) (w : Progress) → w .seen ≡ 0 → (es : List Endpoint) → every (clear s w) es ≡ true
@@ -263,22 +265,22 @@ module _ (limits : Limits) (n : ℕ) where
   unseen s w p es = member-every (clear s w) es (λ e m. rw (p, bit-zero (bitOf (e .address))))
 
   pub addresses-same : (ds : List (List ℕ)) → every (goodDescriptor limits) ds ≡ true → isEmpty (grouped ds .loose) ≡ true → chain n before (map settingOf (grouped ds .groups)) ≡ true
-      → unsharedAll beginning ds ≡ pairs apart (endpointsOf (grouped ds .groups))
-  unfolding Same unsharedAll grouped endpointsOf Apart every pairs chain
+      → unsharedAll beginning before ds ≡ pairs apart (endpointsOf (grouped ds .groups))
+  unfolding Same holding grouped endpointsOf Apart every pairs chain
   addresses-same [] g l c = refl
   addresses-same (d ∷ ds) g l c = go (both (goodDescriptor limits d) (every (goodDescriptor limits) ds) g .1) (λ q m b. addresses-same ds q m b)
     where
       go : every (goodDescriptor limits) ds ≡ true
           → (every (goodDescriptor limits) ds ≡ true → isEmpty (grouped ds .loose) ≡ true → chain n before (map settingOf (grouped ds .groups)) ≡ true
-          → unsharedAll beginning ds ≡ pairs apart (endpointsOf (grouped ds .groups)))
-          → unsharedAll beginning (d ∷ ds) ≡ pairs apart (endpointsOf (grouped (d ∷ ds) .groups))
+          → unsharedAll beginning before ds ≡ pairs apart (endpointsOf (grouped ds .groups)))
+          → unsharedAll beginning before (d ∷ ds) ≡ pairs apart (endpointsOf (grouped (d ∷ ds) .groups))
       go q ih = kinds d
           (λ i j.
-          let t = begun d in
-          let es = listed t (grouped ds) in
+          let t = begunBy d in
+          let es = endpointsIn t (grouped ds) in
           let r = both (placed before t) (chain n (at t) (map settingOf (grouped ds .groups))) (rw i at c) .1 in
-          let w : Progress = passed beginning d in
-          let u : unsharedAll w ds ≡ Apart t w es = same ds t w (rw i) q r in
+          let w : Progress = passed beginning before d in
+          let u : unsharedAll w (at t) ds ≡ Apart t w es = same ds t w q r in
           rw (i, j) (rw i at (u ∙ ap (λ (b : Bool). b && pairs apart es) (unseen t w (rw i) es))))
           (λ i j. absurd (false≢true (rw (i, j) at l)))
           (λ i j. rw (i, j) (ih q (rw (i, j) at l) (rw (i, j) at c)))

@@ -14,14 +14,18 @@ use Rattle.descriptors.specs.declared.Setting.{Setting}
 use Rattle.descriptors.specs.declared.Stand.{Stand}
 use Rattle.descriptors.specs.declared.check.Progress.{Progress}
 use Rattle.descriptors.specs.Descriptor.{bDescriptorType, isInterface, isEndpoint, bNumEndpoints}
-use Rattle.descriptors.specs.Interfaces.{Groups, grouped, begun, settingOf, follows, startsAtZero, endsAt, goodSettings, counted}
-use Rattle.descriptors.specs.Walk.{before}
-use Rattle.descriptors.specs.Check.{placed, inOrder, passed, ended, beginning}
+use Rattle.descriptors.specs.Interfaces.{Groups, grouped, begunBy, settingOf, follows, startsAtZero, endsAt, goodSettings, counted}
+use Rattle.descriptors.specs.Walk.{before, standOf}
+use Rattle.descriptors.specs.Check.{placed, inOrder, onward, ended, beginning}
+use Rattle.descriptors.proofs.Walk.{holding}
 
 -- the descriptors come in order from the state w on, for n interfaces
-unfoldable pub ordered : ℕ → Progress → List (List ℕ) → Bool
-ordered n w [] = ended n w
-ordered n w (d ∷ ds) = inOrder w d && ordered n (passed w d) ds
+abbrev pub ordered : ℕ → Progress → Stand → List (List ℕ) → Bool
+ordered n = holding inOrder onward (ended n)
+
+-- what is known after a descriptor that follows one at `last`
+abbrev pub passed : Progress → Stand → List ℕ → Progress
+passed w last d = onward w last (standOf last d) d
 
 -- where a setting's endpoints stand
 abbrev pub at : Setting → Stand
@@ -33,8 +37,8 @@ chain n stand [] = stand .inside && eqb (stand .interface + 1) n
 chain n stand (t ∷ ts) = placed stand t && chain n (at t) ts
 
 -- what the rest of the descriptors has to be in the state w
-abbrev pub Rest : ℕ → Progress → Groups → Bool
-Rest n w gs = chain n (w .stand) (map settingOf (gs .groups)) && (eqb (w .coming) (length (gs .loose)) && every counted (gs .groups))
+abbrev pub Rest : ℕ → Progress → Stand → Groups → Bool
+Rest n w last gs = chain n last (map settingOf (gs .groups)) && (eqb (w .coming) (length (gs .loose)) && every counted (gs .groups))
 
 pub not-both : (d : List ℕ) → isInterface d ≡ true → isEndpoint d ≡ true → ⊥
 not-both d p q =
@@ -60,26 +64,26 @@ pull false c e k r q = rw (← q) (sym (and-false c))
 pub eqb-swap : (a b : ℕ) → eqb a b ≡ eqb b a
 eqb-swap a b = same-test (eqb a b) (eqb b a) (λ p. eq-eqb b a (sym (eqb-true a b p))) (λ p. eq-eqb a b (sym (eqb-true b a p)))
 
-Same : ℕ → Progress → List (List ℕ) → Type 0
-Same n w ds = ordered n w ds ≡ Rest n w (grouped ds)
+Same : ℕ → Progress → Stand → List (List ℕ) → Type 0
+Same n w last ds = ordered n w last ds ≡ Rest n w last (grouped ds)
 
-module _ (n : ℕ) (w : Progress) (d : List ℕ) (ds : List (List ℕ)) where
-  at-interface : isInterface d ≡ true → isEndpoint d ≡ false → Same n (passed w d) ds → Same n w (d ∷ ds)
-  unfolding Same ordered chain grouped every
+module _ (n : ℕ) (w : Progress) (last : Stand) (d : List ℕ) (ds : List (List ℕ)) where
+  at-interface : isInterface d ≡ true → isEndpoint d ≡ false → Same n (passed w last d) (standOf last d) ds → Same n w last (d ∷ ds)
+  unfolding Same holding chain grouped every
   at-interface i e h =
       rw (i, e)
-      (ap (λ (b : Bool). (eqb (w .coming) 0 && placed (w .stand) (begun d) && true) && b) (rw (i, eqb-swap (bNumEndpoints d)) at h)
-      ∙ shuffle (eqb (w .coming) 0) (placed (w .stand) (begun d)) (chain n (at (begun d)) (map settingOf (grouped ds .groups))) _)
+      (ap (λ (b : Bool). (eqb (w .coming) 0 && placed last (begunBy d) && true) && b) (rw (i, eqb-swap (bNumEndpoints d)) at h)
+      ∙ shuffle (eqb (w .coming) 0) (placed last (begunBy d)) (chain n (at (begunBy d)) (map settingOf (grouped ds .groups))) _)
 
-  at-endpoint : isInterface d ≡ false → isEndpoint d ≡ true → Same n (passed w d) ds → Same n w (d ∷ ds)
-  unfolding Same ordered chain grouped every
+  at-endpoint : isInterface d ≡ false → isEndpoint d ≡ true → Same n (passed w last d) (standOf last d) ds → Same n w last (d ∷ ds)
+  unfolding Same holding chain grouped every
   at-endpoint i e h =
       rw (i, e)
       (ap (λ (b : Bool). leb 1 (w .coming) && b) (rw (i, e) at h)
-      ∙ pull (leb 1 (w .coming)) (chain n (w .stand) (map settingOf (grouped ds .groups))) (eqb (w .coming - 1) (length (grouped ds .loose))) _ _ (one-more (w .coming) (length (grouped ds .loose))))
+      ∙ pull (leb 1 (w .coming)) (chain n last (map settingOf (grouped ds .groups))) (eqb (w .coming - 1) (length (grouped ds .loose))) _ _ (one-more (w .coming) (length (grouped ds .loose))))
 
-  at-other : isInterface d ≡ false → isEndpoint d ≡ false → Same n (passed w d) ds → Same n w (d ∷ ds)
-  unfolding Same ordered chain grouped every
+  at-other : isInterface d ≡ false → isEndpoint d ≡ false → Same n (passed w last d) (standOf last d) ds → Same n w last (d ∷ ds)
+  unfolding Same holding chain grouped every
   at-other i e h = rw (i, e) (rw (i, e) at h)
 
 -- by the kind of a descriptor
@@ -88,13 +92,13 @@ kinds d f g h = cases (isInterface d)
     (λ p. cases (isEndpoint d) (λ q. absurd (not-both d p q)) (λ q. f p q))
     (λ p. cases (isEndpoint d) (λ q. g p q) (λ q. h p q))
 
-same : (n : ℕ) (w : Progress) (ds : List (List ℕ)) → Same n w ds
-unfolding Same ordered chain grouped every
-same n w [] = rw (and-true (eqb (w .coming) 0))
-same n w (d ∷ ds) = go (same n (passed w d) ds)
+same : (n : ℕ) (w : Progress) (last : Stand) (ds : List (List ℕ)) → Same n w last ds
+unfolding Same holding chain grouped every
+same n w last [] = rw (and-true (eqb (w .coming) 0))
+same n w last (d ∷ ds) = go (same n (passed w last d) (standOf last d) ds)
   where
-    go : Same n (passed w d) ds → Same n w (d ∷ ds)
-    go h = kinds d (λ p q. at-interface n w d ds p q h) (λ p q. at-endpoint n w d ds p q h) (λ p q. at-other n w d ds p q h)
+    go : Same n (passed w last d) (standOf last d) ds → Same n w last (d ∷ ds)
+    go h = kinds d (λ p q. at-interface n w last d ds p q h) (λ p q. at-endpoint n w last d ds p q h) (λ p q. at-other n w last d ds p q h)
 
 -- ---- from the beginning: the sentences
 sort : (f l m e a : Bool) → (f && l) && ((m && e) && a) ≡ ((f && m) && e) && (l && a)
@@ -118,6 +122,6 @@ empty (x ∷ xs) = rw eqb·zero-suc
 
 -- ordered from the beginning on, as the sentences say it
 pub order-same : (n : ℕ) (ds : List (List ℕ))
-    → ordered n beginning ds ≡ (goodSettings n (map settingOf (grouped ds .groups)) && (isEmpty (grouped ds .loose) && every counted (grouped ds .groups)))
+    → ordered n beginning before ds ≡ (goodSettings n (map settingOf (grouped ds .groups)) && (isEmpty (grouped ds .loose) && every counted (grouped ds .groups)))
 unfolding Same
-order-same n ds = same n beginning ds ∙ rw (from-beginning, empty)
+order-same n ds = same n beginning before ds ∙ rw (from-beginning, empty)

@@ -13,17 +13,18 @@ use Rattle.octets.specs.Octets.{byte}
 use Rattle.octets.specs.Sentences.{pick, every, pairs, isEmpty}
 use Rattle.octets.proofs.Sentences.{cases}
 use Rattle.descriptors.specs.declared.Limits.{Limits}
+use Rattle.descriptors.specs.declared.Stand.{Stand}
 use Rattle.descriptors.specs.declared.Step.{Step}
 use Rattle.descriptors.specs.declared.check.Progress.{Progress}
 use Rattle.descriptors.specs.Cut.{Cutting, whole, broken, descriptor, cut, descriptorsOf, wellCut}
 use Rattle.descriptors.specs.Descriptor.{goodDescriptor}
 use Rattle.descriptors.specs.Interfaces.{grouped, settingOf, endpointsOf, goodSettings, counted, apart, goodInterfaces}
 use Rattle.descriptors.specs.Configuration.{bNumInterfaces, goodHead, goodDescriptors, goodConfiguration}
-use Rattle.descriptors.specs.Walk.{before, orElse, walked, stepOf}
-use Rattle.descriptors.specs.Check.{inOrder, unshared, allowed, onward, passed, ended, beginning, checking}
-use Rattle.descriptors.proofs.CheckOrder.{ordered, order-same, from-beginning}
+use Rattle.descriptors.specs.Walk.{before, standOf, stepOf, orElse, walked}
+use Rattle.descriptors.specs.Check.{inOrder, unshared, ended, beginning, checking}
+use Rattle.descriptors.proofs.CheckOrder.{ordered, passed, order-same, from-beginning}
 use Rattle.descriptors.proofs.CheckAddresses.{unsharedAll, addresses-same}
-use Rattle.descriptors.proofs.Walk.{moved, stuck, spanned, walk-on, walk-stop, cut-end}
+use Rattle.descriptors.proofs.Walk.{Walking, holding, moved, stuck, cut-end}
 
 -- ---- the walk, rule by rule
 apart-by : (wellcut a b c g o u : Bool) → orElse (pick (a && b && c) none (some false)) (wellcut && (g && o && u)) ≡ (wellcut && ((a && g) && (b && o) && (c && u)))
@@ -32,51 +33,39 @@ apart-by x true true false g o u = rw (and-false (g && o)) (sym (and-false x))
 apart-by x true false c g o u = rw (and-false g) (sym (and-false x))
 apart-by x false b c g o u = sym (and-false x)
 
-rules : (limits : Limits) (n : ℕ) (w : Progress) (cs : Cutting)
-    → walked (checking limits n) w cs ≡ (wellCut cs && (every (goodDescriptor limits) (descriptorsOf cs) && ordered n w (descriptorsOf cs) && unsharedAll w (descriptorsOf cs)))
-unfolding walked wellCut descriptorsOf every ordered unsharedAll
-rules limits n w whole = sym (and-true (ended n w))
-rules limits n w broken = refl
-rules limits n w (descriptor d ds) =
-    rw (rules limits n (passed w d) ds)
-    (apart-by (wellCut ds) (goodDescriptor limits d) (inOrder w d) (unshared w d) (every (goodDescriptor limits) (descriptorsOf ds)) (ordered n (passed w d) (descriptorsOf ds)) (unsharedAll (passed w d) (descriptorsOf ds)))
+rules : (limits : Limits) (n : ℕ) (w : Progress) (last : Stand) (cs : Cutting)
+    → walked (checking limits n) w last cs ≡ (wellCut cs && (every (goodDescriptor limits) (descriptorsOf cs) && ordered n w last (descriptorsOf cs) && unsharedAll w last (descriptorsOf cs)))
+unfolding walked wellCut descriptorsOf every holding
+rules limits n w last whole = sym (and-true (ended n w last))
+rules limits n w last broken = refl
+rules limits n w last (descriptor d ds) =
+    let stand = standOf last d in
+    rw (rules limits n (passed w last d) stand ds)
+    (apart-by (wellCut ds) (goodDescriptor limits d) (inOrder w last stand d) (unshared w last stand d) (every (goodDescriptor limits) (descriptorsOf ds)) (ordered n (passed w last d) stand (descriptorsOf ds)) (unsharedAll (passed w last d) stand (descriptorsOf ds)))
 
 -- ---- the rules, as sentences
-gathered : {unshared : Bool} (good set empty count apart : Bool) → (good ≡ true → set ≡ true → empty ≡ true → unshared ≡ apart)
+regrouped : {unshared : Bool} (good set empty count apart : Bool) → (good ≡ true → set ≡ true → empty ≡ true → unshared ≡ apart)
     → (good && (set && (empty && count)) && unshared) ≡ (good && (((empty && set) && count) && apart))
-gathered true true true count a h = rw (h refl refl refl)
-gathered true true false count a h = refl
-gathered true false empty count a h = rw (and-false empty)
-gathered false set empty count a h = refl
+regrouped true true true count a h = rw (h refl refl refl)
+regrouped true true false count a h = refl
+regrouped true false empty count a h = rw (and-false empty)
+regrouped false set empty count a h = refl
 
 rest-same : (limits : Limits) (n : ℕ) (cs : Cutting)
-    → walked (checking limits n) beginning cs ≡ (wellCut cs && (every (goodDescriptor limits) (descriptorsOf cs) && goodInterfaces n (grouped (descriptorsOf cs))))
+    → walked (checking limits n) beginning before cs ≡ (wellCut cs && (every (goodDescriptor limits) (descriptorsOf cs) && goodInterfaces n (grouped (descriptorsOf cs))))
 rest-same limits n cs =
     let ds = descriptorsOf cs in
     let gs = grouped ds in
-    rules limits n beginning cs
-    ∙ ap (λ (b : Bool). wellCut cs && (every (goodDescriptor limits) ds && b && unsharedAll beginning ds)) (order-same n ds)
-    ∙ ap (λ (b : Bool). wellCut cs && b) (gathered (every (goodDescriptor limits) ds) (goodSettings n (map settingOf (gs .groups))) (isEmpty (gs .loose)) (every counted (gs .groups)) (pairs apart (endpointsOf (gs .groups)))
+    rules limits n beginning before cs
+    ∙ ap (λ (b : Bool). wellCut cs && (every (goodDescriptor limits) ds && b && unsharedAll beginning before ds)) (order-same n ds)
+    ∙ ap (λ (b : Bool). wellCut cs && b) (regrouped (every (goodDescriptor limits) ds) (goodSettings n (map settingOf (gs .groups))) (isEmpty (gs .loose)) (every counted (gs .groups)) (pairs apart (endpointsOf (gs .groups)))
     (λ g s e. addresses-same limits n ds g e (from-beginning n (map settingOf (gs .groups)) ∙ s)))
 
--- ---- the loop: `total` is what the whole walk says, and the invariant that the walk from `at` in the state w says the same
-module _ (limits : Limits) (n : ℕ) (body : List ℕ) (at : ℕ) (w : Progress) (total : Bool) (inv : total ≡ walked (checking limits n) w (cut (drop at body)))
-    (step : Step) (e : step ≡ stepOf body at (w .stand)) (h : at < length body) where
-  pub check-stuck : step .end ≤ at → false ≡ total
-  check-stuck m = sym (inv ∙ rules limits n w (cut (drop at body)) ∙ rw (stuck body at (w .stand) h (rw e at m)))
-
-  module _ (m : at < step .end) where
-    pub check-inside : step .end ≤ length body
-    check-inside = rw e (moved body at (w .stand) h (rw e at m) .inside)
-
-    pub check-refused : allowed limits w (spanned body at (step .end)) ≡ false → false ≡ total
-    check-refused r = walk-stop (checking limits n) body at w total inv (w .stand) h (rw e at m) false (rw (rw e at r))
-
-    pub check-on : (v : Progress) → allowed limits w (spanned body at (step .end)) ≡ true → v ≡ onward w (step .stand) (spanned body at (step .end))
-        → total ≡ walked (checking limits n) v (cut (drop (step .end) body))
-    check-on v r q =
-        let k = rw e at m in
-        rw (q, e, moved body at (w .stand) h k .stands) (walk-on (checking limits n) body at w total inv (w .stand) h k (rw (rw e at r)))
+-- ---- the loop: a body that is broken further on is no good one
+pub check-stuck : (limits : Limits) (n : ℕ) {body : List ℕ} {total : Bool} {w : Progress} {last : Stand} {at : ℕ} → Walking (checking limits n) body total w last at
+    → {step : Step} → step ≡ stepOf body at last → at < length body → step .end ≤ at → false ≡ total
+check-stuck limits n {body} {total} {w} {last} {at} walking e h m =
+    sym (walking .rest ∙ rules limits n w last (cut (drop at body)) ∙ rw (stuck body at last h (rw e at m)))
 
 -- ---- the first descriptor
 past : (well head rest : Bool) (kinds interfaces : Bool) → rest ≡ (well && (kinds && interfaces)) → (well && (head && kinds && interfaces)) ≡ (head && rest)
@@ -107,7 +96,7 @@ module _ (limits : Limits) (body : List ℕ) (step : Step) (e : step ≡ stepOf 
 
   module _ (m : 0 < step .end) where
     pub check-head : goodConfiguration limits body
-        ≡ (goodHead (length body) (take (step .end) body) && walked (checking limits (bNumInterfaces (take (step .end) body))) beginning (cut (drop (step .end) body)))
+        ≡ (goodHead (length body) (take (step .end) body) && walked (checking limits (bNumInterfaces (take (step .end) body))) beginning before (cut (drop (step .end) body)))
     unfolding goodConfiguration goodDescriptors wellCut descriptorsOf
     check-head =
         let d = take (step .end) body in

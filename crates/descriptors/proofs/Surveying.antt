@@ -1,12 +1,12 @@
 -- A survey of a body: what each descriptor adds to it, and what it tells once the walk is over. No axiom.
-use Prim.Native.Nat.{ℕ, _%_, _<_, _≤_}
+use Prim.Native.Nat.{ℕ, _<_}
 use native.Mathlib.Omega.{arith}
 use mathlib.Core.Path.{_≡_, refl, sym, ap, _∙_}
 use mathlib.Core.List.{List, [], _∷_}
 use mathlib.Core.Bool.{Bool, true, false, _&&_, _||_, or-assoc, or-false, and-true, and-false}
 use mathlib.Core.Option.{Option, some}
-use lib.ListN.{length, getD}
-use lib.Dec.{eqb, leb, ltb}
+use lib.ListN.{getD, drop}
+use lib.Dec.{eqb, ltb}
 use borrow.Author.Tests.{eqb-true, ne-eqb, ltb-false}
 use Rattle.octets.specs.Bit.{bit}
 use Rattle.octets.specs.Sentences.{pick, any, only, first}
@@ -16,19 +16,19 @@ use Rattle.octets.proofs.Words.{set-digit}
 use Rattle.descriptors.specs.declared.Setting.{Setting}
 use Rattle.descriptors.specs.declared.Endpoint.{Endpoint}
 use Rattle.descriptors.specs.declared.Stand.{Stand}
-use Rattle.descriptors.specs.declared.Step.{Step}
 use Rattle.descriptors.specs.declared.lookup.EndpointFound.{EndpointFound}
 use Rattle.descriptors.specs.declared.lookup.EndpointFound.the-variants.{At, Nothing}
 use Rattle.descriptors.specs.declared.survey.Asked.{Asked}
 use Rattle.descriptors.specs.declared.survey.Survey.{Survey}
-use Rattle.descriptors.specs.Descriptor.{bDescriptorType, isInterface, isEndpoint, bEndpointAddress, bmAttributes}
-use Rattle.descriptors.specs.Interfaces.{begun}
+use Rattle.descriptors.specs.Cut.{Cutting, cut, descriptorsOf}
+use Rattle.descriptors.specs.Descriptor.{bDescriptorType, isInterface, isEndpoint}
+use Rattle.descriptors.specs.Interfaces.{begunBy}
 use Rattle.descriptors.specs.Configuration.{configurationOf, isCurrent, canHalt}
-use Rattle.descriptors.specs.Walk.{before, standOf}
+use Rattle.descriptors.specs.Walk.{before, standOf, walked}
 use Rattle.descriptors.specs.Lookup.{found, beginsOne, lists, listed, listsOne, withBit, bitsFrom, bitsOf}
-use Rattle.descriptors.specs.Survey.{isSetting, currentAt, currentHalting, changing, noting, earlier, foundHere, nothingSeen, onward, surveyed, Surveys}
-use Rattle.descriptors.proofs.Walk.{spanned}
-use Rattle.descriptors.proofs.Ahead.{Turn, Begun, ahead, ahead-end, settings-begin, endpointsUnder, endpoints-begin}
+use Rattle.descriptors.specs.Survey.{isSetting, currentAt, currentHalting, changing, noting, earlier, foundHere, nothingSeen, onward, atCurrent, atOther, surveying, Surveys}
+use Rattle.descriptors.proofs.Walk.{gathers}
+use Rattle.descriptors.proofs.Ahead.{Begun, settings-begin, endpointsUnder, endpoints-begin}
 
 -- ---- the words of interfaces
 noting-digit : (w n k : ℕ) → k < 32 → bit (noting w n) k ≡ (bit w k || eqb n k)
@@ -52,7 +52,7 @@ current-digit alternates w n a k h = cases (eqb n k)
 
 -- whether a descriptor begins a setting for which a test holds
 abbrev opens : (Setting → Bool) → List ℕ → Bool
-opens t d = isInterface d && t (begun d)
+opens t d = isInterface d && t (begunBy d)
 
 opens-here : (t : Setting → Bool) (stand : Stand) (d : List ℕ) → beginsOne t (standOf stand d) d ≡ opens t d
 opens-here t stand d = cases (isInterface d) (λ p. rw p) (λ p. rw p)
@@ -86,62 +86,45 @@ earlier-step (At x) b stand d o = refl
 earlier-step Nothing true stand d o = refl
 earlier-step Nothing false stand d o = refl
 
--- what an endpoint descriptor adds. Of the asked interface it lists an endpoint of either setting if that is current, or the asked one
-module _ (alternates : List ℕ) (asked : Asked) (s : Survey) (stand : Stand) (d : List ℕ) where
-  either-setting : (eqb (stand .interface) (asked .interface) && (isCurrent alternates (listed stand d) || eqb (stand .alternate) (asked .alternate)))
-      ≡ changing alternates asked (listed stand d)
+-- what an endpoint descriptor adds: one of a current setting, of another, and one before the first interface
+module _ (alternates : List ℕ) (asked : Asked) (s : Survey) (stand : Stand) (d : List ℕ) (p : isEndpoint d ≡ true) where
+  -- of the asked interface it lists an endpoint of either setting if its own is current, or the asked one
+  either-setting : changing alternates asked (listed stand d)
+      ≡ (eqb (stand .interface) (asked .interface) && (isCurrent alternates (listed stand d) || eqb (stand .alternate) (asked .alternate)))
   either-setting = cases (eqb (stand .interface) (asked .interface))
-      (λ p. rw (p, eqb-true (stand .interface) (asked .interface) p))
-      (λ p. rw p)
+      (λ q. rw (q, eqb-true (stand .interface) (asked .interface) q))
+      (λ q. rw q)
 
-  pub endpoint-adds : isEndpoint d ≡ true → record {
-    existing = s .existing;
-    current = s .current;
-    halting = withBit (s .halting) (stand .inside && (isCurrent alternates (listed stand d) && leb 2 (bmAttributes d % 4))) d;
-    endpoint = earlier (s .endpoint) (foundHere (stand .inside && (isCurrent alternates (listed stand d) && eqb (bEndpointAddress d) (asked .address))) stand d);
-    there = s .there;
-    bits = withBit (s .bits) (stand .inside && (eqb (stand .interface) (asked .interface) && (isCurrent alternates (listed stand d) || eqb (stand .alternate) (asked .alternate)))) d;
-  } ≡ onward alternates asked s stand d
-  endpoint-adds p = rw (eqb-true (bDescriptorType d) 5 p, or-false (s .there), either-setting)
+  pub current-adds : stand .inside ≡ true → isCurrent alternates (listed stand d) ≡ true → atCurrent asked s stand d ≡ onward alternates asked s stand d
+  current-adds i c = rw (eqb-true (bDescriptorType d) 5 p, i, or-false (s .there), either-setting, c, and-true (eqb (stand .interface) (asked .interface)))
 
--- ---- a part of the survey, q, is what `total` says of the descriptors, if one descriptor adds to it what `total` says
+  pub other-adds : stand .inside ≡ true → isCurrent alternates (listed stand d) ≡ false → atOther asked s stand d ≡ onward alternates asked s stand d
+  other-adds i c = rw (eqb-true (bDescriptorType d) 5 p, i, or-false (s .there), either-setting, c, earlier-none (s .endpoint))
+
+  pub outside-adds : stand .inside ≡ false → s ≡ onward alternates asked s stand d
+  outside-adds i = rw (eqb-true (bDescriptorType d) 5 p, i, or-false (s .there), earlier-none (s .endpoint))
+
+-- ---- what the walk gathers, part by part
 module _ (alternates : List ℕ) (asked : Asked) where
   abbrev after : Survey → Stand → List ℕ → Survey
-  after s stand d = onward alternates asked s (standOf stand d) d
+  after s last d = onward alternates asked s (standOf last d) d
 
-  module _ {X : Type 0} (q : Survey → X) (total : X → Stand → List (List ℕ) → X)
-      (none : (x : X) (stand : Stand) → total x stand [] ≡ x)
-      (more : (s : Survey) (stand : Stand) (d : List ℕ) (ds : List (List ℕ)) → total (q s) stand (d ∷ ds) ≡ total (q (after s stand d)) (standOf stand d) ds) where
-    tells : (s : Survey) (stand : Stand) (ds : List (List ℕ)) → q (surveyed alternates asked s stand ds) ≡ total (q s) stand ds
-    unfolding surveyed
-    tells s stand [] = sym (none (q s) stand)
-    tells s stand (d ∷ ds) = tells (after s stand d) (standOf stand d) ds ∙ sym (more s stand d ds)
-
-  -- the loop: what is surveyed from here on is what is surveyed from the next descriptor on, with what this one adds
-  pub surveyed-on : {body : List ℕ} {at : ℕ} (s : Survey) {next total : Survey} {stand : Stand} {step : Step} → Turn body at stand step
-      → total ≡ surveyed alternates asked s stand (ahead body at) → next ≡ onward alternates asked s (step .stand) (spanned body at (step .end))
-      → total ≡ surveyed alternates asked next (step .stand) (ahead body (step .end))
-  unfolding surveyed
-  surveyed-on s {stand = stand} t inv e = inv ∙ ap (surveyed alternates asked s stand) (t .next) ∙ rw (e, t .stands)
-
-  pub surveyed-end : (body : List ℕ) (at : ℕ) (s : Survey) (stand : Stand) {total : Survey} → length body ≤ at
-      → total ≡ surveyed alternates asked s stand (ahead body at) → s ≡ total
-  unfolding surveyed
-  surveyed-end body at s stand h inv = sym (inv ∙ ap (surveyed alternates asked s stand) (ahead-end body at h))
+  abbrev seen : Survey → Stand → Cutting → Survey
+  seen = walked (surveying alternates asked)
 
   -- whether a setting was begun
   tells-any : (t : Setting → Bool) (q : Survey → Bool) → ((s : Survey) (stand : Stand) (d : List ℕ) → q (after s stand d) ≡ (q s || opens t d))
-      → (s : Survey) (stand : Stand) (ds : List (List ℕ)) → q (surveyed alternates asked s stand ds) ≡ (q s || any (opens t) ds)
+      → (s : Survey) (last : Stand) (cs : Cutting) → q (seen s last cs) ≡ (q s || any (opens t) (descriptorsOf cs))
   unfolding any
-  tells-any t q adds = tells q (λ b stand ds. b || any (opens t) ds) (λ b stand. or-false b)
+  tells-any t q adds = gathers (onward alternates asked) q (λ b stand ds. b || any (opens t) ds) (λ b stand. or-false b)
       (λ s stand d ds. rw (adds s stand d) (sym (or-assoc (q s) (opens t d) (any (opens t) ds))))
 
   -- the bits of endpoints
   tells-bits : (t : Endpoint → Bool) (q : Survey → ℕ)
       → ((s : Survey) (stand : Stand) (d : List ℕ) → q (after s stand d) ≡ withBit (q s) (listsOne t (standOf stand d) d) d)
-      → (s : Survey) (stand : Stand) (ds : List (List ℕ)) → q (surveyed alternates asked s stand ds) ≡ bitsFrom (q s) (only t (endpointsUnder stand ds))
+      → (s : Survey) (last : Stand) (cs : Cutting) → q (seen s last cs) ≡ bitsFrom (q s) (only t (endpointsUnder last (descriptorsOf cs)))
   unfolding endpointsUnder only bitsFrom
-  tells-bits t q adds = tells q (λ bits stand ds. bitsFrom bits (only t (endpointsUnder stand ds))) (λ bits stand. refl)
+  tells-bits t q adds = gathers (onward alternates asked) q (λ bits stand ds. bitsFrom bits (only t (endpointsUnder stand ds))) (λ bits stand. refl)
       (λ s stand d ds.
       let here = standOf stand d in
       let es = endpointsUnder here ds in
@@ -150,9 +133,9 @@ module _ (alternates : List ℕ) (asked : Asked) where
   -- the first of some endpoints
   tells-first : (t : Endpoint → Bool) (q : Survey → EndpointFound)
       → ((s : Survey) (stand : Stand) (d : List ℕ) → q (after s stand d) ≡ earlier (q s) (foundHere (listsOne t (standOf stand d) d) (standOf stand d) d))
-      → (s : Survey) (stand : Stand) (ds : List (List ℕ)) → q (surveyed alternates asked s stand ds) ≡ earlier (q s) (found (first t (endpointsUnder stand ds)))
+      → (s : Survey) (last : Stand) (cs : Cutting) → q (seen s last cs) ≡ earlier (q s) (found (first t (endpointsUnder last (descriptorsOf cs))))
   unfolding endpointsUnder first
-  tells-first t q adds = tells q (λ f stand ds. earlier f (found (first t (endpointsUnder stand ds)))) (λ f stand. earlier-none f)
+  tells-first t q adds = gathers (onward alternates asked) q (λ f stand ds. earlier f (found (first t (endpointsUnder stand ds)))) (λ f stand. earlier-none f)
       (λ s stand d ds.
       let here = standOf stand d in
       let es = endpointsUnder here ds in
@@ -162,31 +145,31 @@ module _ (alternates : List ℕ) (asked : Asked) where
   -- ---- what a descriptor adds to the words of interfaces
   exists-on : (k : ℕ) → k < 32 → (s : Survey) (stand : Stand) (d : List ℕ) → bit (after s stand d .existing) k ≡ (bit (s .existing) k || opens (λ t. eqb (t .interface) k) d)
   exists-on k h s stand d = cases (isInterface d)
-      (λ p. rw p (noting-digit (s .existing) (begun d .interface) k h))
+      (λ p. rw p (noting-digit (s .existing) (begunBy d .interface) k h))
       (λ p. rw p (sym (or-false (bit (s .existing) k))))
 
   stands-on : (k : ℕ) → k < 32 → (s : Survey) (stand : Stand) (d : List ℕ)
       → bit (after s stand d .current) k ≡ (bit (s .current) k || opens (isSetting k (getD alternates k 0)) d)
   stands-on k h s stand d = cases (isInterface d)
-      (λ p. rw p (current-digit alternates (s .current) (begun d .interface) (begun d .alternate) k h))
+      (λ p. rw p (current-digit alternates (s .current) (begunBy d .interface) (begunBy d .alternate) k h))
       (λ p. rw p (sym (or-false (bit (s .current) k))))
 
   -- ---- the whole: from nothing seen, over all descriptors behind the first
-  pub surveys : {body : List ℕ} {at : ℕ} {s : Survey} → Begun body at → s ≡ surveyed alternates asked nothingSeen before (ahead body at)
+  pub surveys : {body : List ℕ} {at : ℕ} {s : Survey} → Begun body at → s ≡ seen nothingSeen before (cut (drop at body))
       → Surveys (configurationOf body) alternates asked s
   surveys {body} {at} b e =
-      let ds = ahead body at in
+      let cs = cut (drop at body) in
       rw e (record {
         interfaces = record {
-          exists = λ k h. settings-begin (λ t. eqb (t .interface) k) b ∙ sym (tells-any (λ t. eqb (t .interface) k) (λ s. bit (s .existing) k) (exists-on k h) nothingSeen before ds ∙ rw (bit-zero k));
-          stands = λ k h. settings-begin (isSetting k (getD alternates k 0)) b ∙ sym (tells-any (isSetting k (getD alternates k 0)) (λ s. bit (s .current) k) (stands-on k h) nothingSeen before ds ∙ rw (bit-zero k));
+          exists = λ k h. settings-begin (λ t. eqb (t .interface) k) b ∙ sym (tells-any (λ t. eqb (t .interface) k) (λ s. bit (s .existing) k) (exists-on k h) nothingSeen before cs ∙ rw (bit-zero k));
+          stands = λ k h. settings-begin (isSetting k (getD alternates k 0)) b ∙ sym (tells-any (isSetting k (getD alternates k 0)) (λ s. bit (s .current) k) (stands-on k h) nothingSeen before cs ∙ rw (bit-zero k));
         };
-        halts = tells-bits (currentHalting alternates) (λ s. s .halting) (λ s stand d. refl) nothingSeen before ds
+        halts = tells-bits (currentHalting alternates) (λ s. s .halting) (λ s stand d. refl) nothingSeen before cs
             ∙ sym (ap bitsOf (only-only canHalt _ _ ∙ ap (only (currentHalting alternates)) (endpoints-begin b)));
-        asked = tells-first (currentAt alternates (asked .address)) (λ s. s .endpoint) (λ s stand d. refl) nothingSeen before ds
+        asked = tells-first (currentAt alternates (asked .address)) (λ s. s .endpoint) (λ s stand d. refl) nothingSeen before cs
             ∙ sym (ap found (first-only (λ e. eqb (e .address) (asked .address)) _ _ ∙ ap (first (currentAt alternates (asked .address))) (endpoints-begin b)));
-        there = tells-any (isSetting (asked .interface) (asked .alternate)) (λ s. s .there) (λ s stand d. rw (opens-here (isSetting (asked .interface) (asked .alternate)) stand d)) nothingSeen before ds
+        there = tells-any (isSetting (asked .interface) (asked .alternate)) (λ s. s .there) (λ s stand d. rw (opens-here (isSetting (asked .interface) (asked .alternate)) stand d)) nothingSeen before cs
             ∙ sym (settings-begin (isSetting (asked .interface) (asked .alternate)) b);
-        bits = tells-bits (changing alternates asked) (λ s. s .bits) (λ s stand d. refl) nothingSeen before ds
+        bits = tells-bits (changing alternates asked) (λ s. s .bits) (λ s stand d. refl) nothingSeen before cs
             ∙ sym (ap bitsOf (ap (only (changing alternates asked)) (endpoints-begin b)));
       })

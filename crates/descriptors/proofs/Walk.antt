@@ -1,4 +1,4 @@
--- A walk over the descriptors of a body, a descriptor at a time: said once, for every walk. No axiom.
+-- A walk over the descriptors of a body, a descriptor at a time: its laws, once for every walk. No axiom.
 use Prim.Native.Nat.{ℕ, zero, suc, _+_, _-_, _≤_, _<_}
 use native.Mathlib.Nat.{not-suc-le-zero, le-of-suc-le-suc, add-sub-cancel-left}
 use native.Mathlib.Numerals.{add-one}
@@ -13,11 +13,11 @@ use lib.Dec.{leb, ltb}
 use borrow.Author.Tests.{lt-leb, le-leb, lt-ltb, leb-true, leb-false, ltb-true}
 use Rattle.octets.specs.Octets.{byte, part}
 use Rattle.octets.specs.Sentences.{pick}
-use Rattle.octets.proofs.Sentences.{both}
+use Rattle.octets.proofs.Sentences.{cases, both}
 use Rattle.descriptors.specs.declared.Stand.{Stand}
 use Rattle.descriptors.specs.declared.Step.{Step}
-use Rattle.descriptors.specs.Cut.{Cutting, whole, broken, descriptor, cut, cutAfter, wellCut}
-use Rattle.descriptors.specs.Walk.{standOf, stepsOn, stepOf, Walk, orElse, walked}
+use Rattle.descriptors.specs.Cut.{Cutting, whole, broken, descriptor, cut, cutAfter, descriptorsOf, wellCut}
+use Rattle.descriptors.specs.Walk.{standOf, stepsOn, stepOf, Walk, orElse, walked, gathering}
 
 -- ---- cutting
 after-drop : (k : ℕ) (xs : List ℕ) → k ≤ length xs → cutAfter k xs ≡ cut (drop k xs)
@@ -69,10 +69,6 @@ well-descriptor d ds = refl
 well-broken : wellCut broken ≡ false
 unfolding wellCut
 well-broken = refl
-
-cases : {A : Type 0} (b : Bool) → (b ≡ true → A) → (b ≡ false → A) → A
-cases true f g = f refl
-cases false f g = g refl
 
 -- the descriptor from `at` to `end`, as the code's `&body[at..end]` has it
 abbrev pub spanned : List ℕ → ℕ → ℕ → List ℕ
@@ -128,32 +124,60 @@ module _ (body : List ℕ) (at : ℕ) (stand : Stand) (h : at < length body) whe
       (λ r. rw (cut-long body at h (leb-true 2 (byte body at) q) (leb-false (byte body at) (length body - at) r), well-descriptor) well-broken))
       (λ q. rw (cut-small body at h (leb-false 2 (byte body at) q)) well-broken)
 
--- ---- a loop that walks: `total` is what the whole walk answers, and the invariant that the walk from `at` in the state w answers the same
-module _ {W A : Type 0} (R : Walk W A) where
-  walked-whole : (w : W) → walked R w whole ≡ R .finish w
-  unfolding walked
-  walked-whole w = refl
-
-  walked-descriptor : (w : W) (d : List ℕ) (ds : Cutting) → walked R w (descriptor d ds) ≡ orElse (R .stop w d) (walked R (R .on w d) ds)
-  unfolding walked
-  walked-descriptor w d ds = refl
-
-  module _ (body : List ℕ) (at : ℕ) (w : W) (total : A) (inv : total ≡ walked R w (cut (drop at body))) where
-    pub walk-end : length body ≤ at → R .finish w ≡ total
-    walk-end h = sym (inv ∙ ap (walked R w) (cut-end body at h) ∙ walked-whole w)
-
-    module _ (stand : Stand) (h : at < length body) (m : at < stepOf body at stand .end) where
-      turn : total ≡ orElse (R .stop w (spanned body at (stepOf body at stand .end))) (walked R (R .on w (spanned body at (stepOf body at stand .end))) (cut (drop (stepOf body at stand .end) body)))
-      turn = inv ∙ ap (walked R w) (moved body at stand h m .cuts) ∙ walked-descriptor w _ _
-
-      pub walk-stop : (a : A) → R .stop w (spanned body at (stepOf body at stand .end)) ≡ some a → a ≡ total
-      walk-stop a e = sym (turn ∙ rw e)
-
-      pub walk-on : R .stop w (spanned body at (stepOf body at stand .end)) ≡ none
-          → total ≡ walked R (R .on w (spanned body at (stepOf body at stand .end))) (cut (drop (stepOf body at stand .end) body))
-      walk-on e = turn ∙ rw e
-
 -- a well-cut body stays well cut further on
 module _ (body : List ℕ) (at : ℕ) (stand : Stand) (h : at < length body) (m : at < stepOf body at stand .end) where
   pub well-on : wellCut (cut (drop at body)) ≡ wellCut (cut (drop (stepOf body at stand .end) body))
   well-on = ap wellCut (moved body at stand h m .cuts) ∙ well-descriptor _ _
+
+-- ---- a loop that walks: its invariant is that the walk from `at` answers what the whole walk answers, in the state w and after a descriptor
+-- that stands at `last`
+pub record Walking {W A : Type 0} (R : Walk W A) (body : List ℕ) (total : A) (w : W) (last : Stand) (at : ℕ) : Type 0 where
+  pub rest : total ≡ walked R w last (cut (drop at body))
+
+module _ {W A : Type 0} {R : Walk W A} {body : List ℕ} {total : A} {w : W} {last : Stand} {at : ℕ} (walking : Walking R body total w last at) where
+  walked-whole : walked R w last whole ≡ R .finish w last
+  unfolding walked
+  walked-whole = refl
+
+  walked-descriptor : (d : List ℕ) (ds : Cutting)
+      → walked R w last (descriptor d ds) ≡ orElse (R .stop w last (standOf last d) d) (walked R (R .on w last (standOf last d) d) (standOf last d) ds)
+  unfolding walked
+  walked-descriptor d ds = refl
+
+  pub walk-end : length body ≤ at → R .finish w last ≡ total
+  walk-end h = sym (walking .rest ∙ ap (walked R w last) (cut-end body at h) ∙ walked-whole)
+
+  module _ {step : Step} (e : step ≡ stepOf body at last) (h : at < length body) (m : at < step .end) where
+    -- it moved on, as `moved` says
+    stepped : Moved body at last step
+    stepped = rw e (moved body at last h (rw e at m))
+
+    pub walk-inside : step .end ≤ length body
+    walk-inside = stepped .inside
+
+    turn : total ≡ orElse (R .stop w last (step .stand) (spanned body at (step .end)))
+        (walked R (R .on w last (step .stand) (spanned body at (step .end))) (step .stand) (cut (drop (step .end) body)))
+    turn = walking .rest ∙ ap (walked R w last) (stepped .cuts) ∙ walked-descriptor _ _ ∙ rw (stepped .stands)
+
+    pub walk-stop : (a : A) → R .stop w last (step .stand) (spanned body at (step .end)) ≡ some a → a ≡ total
+    walk-stop a p = sym (turn ∙ rw p)
+
+    pub walk-on : {next : W} → R .stop w last (step .stand) (spanned body at (step .end)) ≡ none → next ≡ R .on w last (step .stand) (spanned body at (step .end))
+        → Walking R body total next (step .stand) (step .end)
+    walk-on p q = record { rest = turn ∙ rw (p, q) }
+
+-- ---- what a walk that gathers has gathered
+-- a part of it, q, is what `total` says of the descriptors, if one descriptor adds to it what `total` says
+module _ {W X : Type 0} (on : W → Stand → List ℕ → W) (q : W → X) (total : X → Stand → List (List ℕ) → X)
+    (none-left : (x : X) (last : Stand) → total x last [] ≡ x)
+    (one-more : (w : W) (last : Stand) (d : List ℕ) (ds : List (List ℕ)) → total (q w) last (d ∷ ds) ≡ total (q (on w (standOf last d) d)) (standOf last d) ds) where
+  pub gathers : (w : W) (last : Stand) (cs : Cutting) → q (walked (gathering on) w last cs) ≡ total (q w) last (descriptorsOf cs)
+  unfolding walked descriptorsOf
+  gathers w last whole = sym (none-left (q w) last)
+  gathers w last broken = sym (none-left (q w) last)
+  gathers w last (descriptor d ds) = gathers (on w (standOf last d) d) (standOf last d) ds ∙ sym (one-more w last d (descriptorsOf ds))
+
+-- ---- a test of each descriptor, from the state w on, and of the end
+unfoldable pub holding : {W : Type 0} → (W → Stand → Stand → List ℕ → Bool) → (W → Stand → Stand → List ℕ → W) → (W → Stand → Bool) → W → Stand → List (List ℕ) → Bool
+holding test on finish w last [] = finish w last
+holding test on finish w last (d ∷ ds) = let stand = standOf last d in test w last stand d && holding test on finish (on w last stand d) stand ds

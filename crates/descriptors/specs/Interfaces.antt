@@ -27,11 +27,11 @@ grouped (d ∷ ds) =
     (pick (isEndpoint d) (record { loose = d ∷ rest .loose; groups = rest .groups }) rest)
 
 -- the setting that an interface descriptor begins, and that of its group
-abbrev pub begun : List ℕ → Setting
-begun d = record { interface = bInterfaceNumber d; alternate = bAlternateSetting d }
+abbrev pub begunBy : List ℕ → Setting
+begunBy d = record { interface = bInterfaceNumber d; alternate = bAlternateSetting d }
 
 abbrev pub settingOf : Group → Setting
-settingOf g = begun (g .head)
+settingOf g = begunBy (g .head)
 
 abbrev pub endpointOf : Setting → List ℕ → Endpoint
 endpointOf s d = record { interface = s .interface; alternate = s .alternate; address = bEndpointAddress d; attributes = bmAttributes d }

@@ -17,33 +17,55 @@ use Rattle.descriptors.specs.Descriptor.{isInterface, bInterfaceNumber, 
 abbrev pub settingAt : Stand → Setting
 settingAt stand = record { interface = stand .interface; alternate = stand .alternate }
 
+-- before the first interface; and where a descriptor stands that follows one at `last`
 abbrev pub before : Stand
 before = record { inside = false; interface = 0; alternate = 0 }
 
 abbrev pub standOf : Stand → List ℕ → Stand
-standOf stand d = pick (isInterface d) (record { inside = true; interface = bInterfaceNumber d; alternate = bAlternateSetting d }) stand
+standOf last d = pick (isInterface d) (record { inside = true; interface = bInterfaceNumber d; alternate = bAlternateSetting d }) last
 
 -- a descriptor begins at `at` and is whole
 abbrev pub stepsOn : List ℕ → ℕ → Bool
 stepsOn body at = leb 2 (byte body at) && ltb at (length body) && leb (byte body at) (length body - at)
 
+-- the one step over a descriptor: where it ends, and where it stands
 abbrev pub stepOf : List ℕ → ℕ → Stand → Step
-stepOf body at stand =
-    pick (stepsOn body at) (record { end = at + byte body at; stand = standOf stand (part body at (byte body at)) }) (record { end = at; stand = stand })
+stepOf body at last =
+    pick (stepsOn body at) (record { end = at + byte body at; stand = standOf last (part body at (byte body at)) }) (record { end = at; stand = last })
 
--- a walk: what is known (W) when a descriptor comes; the answer that it may give at once, or what is known after it; the answer at the body's
--- end, and where the body is broken
+-- a walk over a body: what is known (W) when a descriptor comes, which stands at the second stand, the one before it at the first; the answer that
+-- it may give at once, or what is known after it; the answer at the body's end, where the last descriptor stands there, and where the body is broken
 pub record Walk (W A : Type 0) : Type 0 where
-  pub stop : W → List ℕ → Option A
-  pub on : W → List ℕ → W
-  pub finish : W → A
+  pub stop : W → Stand → Stand → List ℕ → Option A
+  pub on : W → Stand → Stand → List ℕ → W
+  pub finish : W → Stand → A
   pub astray : W → A
 
 abbrev pub orElse : {A : Type 0} → Option A → A → A
 orElse none b = b
 orElse (some a) b = a
 
-unfoldable pub walked : {W A : Type 0} → Walk W A → W → Cutting → A
-walked R w whole = R .finish w
-walked R w broken = R .astray w
-walked R w (descriptor d ds) = orElse (R .stop w d) (walked R (R .on w d) ds)
+-- every walk: the step alone says where a descriptor stands
+unfoldable pub walked : {W A : Type 0} → Walk W A → W → Stand → Cutting → A
+walked R w last whole = R .finish w last
+walked R w last broken = R .astray w
+walked R w last (descriptor d ds) =
+    let stand = standOf last d in
+    orElse (R .stop w last stand d) (walked R (R .on w last stand d) stand ds)
+
+-- a walk that gathers, and one that tests
+abbrev pub gathering : {W : Type 0} → (W → Stand → List ℕ → W) → Walk W W
+gathering on = record {
+  stop = λ w last stand d. none;
+  on = λ w last stand d. on w stand d;
+  finish = λ w stand. w;
+  astray = λ w. w;
+}
+
+abbrev pub testing : {W : Type 0} → (W → Stand → Stand → List ℕ → Bool) → (W → Stand → Stand → List ℕ → W) → (W → Stand → Bool) → Walk W Bool
+testing test on finish = record {
+  stop = λ w last stand d. pick (test w last stand d) none (some false);
+  on = on;
+  finish = finish;
+  astray = λ w. false;
+}

@@ -11,16 +11,15 @@ ghost use Rattle.descriptors.specs.Limits.{within, doubled, named};
 ghost use Rattle.descriptors.specs.Descriptor.{goodAddress, goodAttributes, sized, goodSize, goodInterval, goodEndpoint};
 ghost use Rattle.descriptors.specs.Configuration.{goodHead, goodConfiguration};
 ghost use Rattle.descriptors.specs.Cut.{cut, descriptorsOf};
-ghost use Rattle.descriptors.specs.Walk.{walked};
+ghost use Rattle.descriptors.specs.Walk.{before, walked};
 ghost use Rattle.descriptors.specs.Check.{placed, fresh, mayBegin, mayList, allowed, atInterface, atEndpoint, onward, ended, beginning, checking, interfaceRefers, configurationRefers, verdict};
 ghost use lib.ListN.{drop};
 ghost use Prim.Native.Nat.{_-_};
 ghost use Rattle.octets.specs.Sentences.{pick, every};
 
-// How far the check of a body is: where it stands; how many endpoints of this setting are still to come; and, a bit for each
-// address, the addresses of this setting, of this interface's settings, and of all that was seen.
+// How far the check of a body is: how many endpoints of this setting are still to come; and, a bit for each address, the addresses of
+// this setting, of this interface's settings, and of all that was seen. Where it stands is the step's to say.
 struct Progress {
-    stand: Stand,
     coming: u8,
     setting: u32,
     interface: u32,
@@ -142,7 +141,6 @@ fn start() -> Progress
     ensures { λ r. ⌜ r ≡ beginning ⌝ }
 {
     Progress {
-        stand: crate::outside(),
         coming: 0,
         setting: 0,
         interface: 0,
@@ -150,15 +148,14 @@ fn start() -> Progress
     }
 }
 
-// Whether setting `t` may come where the last one is that of `stand`.
-fn is_placed(stand: Stand, t: Setting) -> bool
-    ensures { λ r. ⌜ r ≡ placed stand t ⌝ }
+// Whether setting `t` may come after a descriptor that stands at `last`.
+fn is_placed(last: Stand, t: Setting) -> bool
+    ensures { λ r. ⌜ r ≡ placed last t ⌝ }
 {
-    let again = (t.interface == stand.interface)
-        & (t.alternate as u16 == stand.alternate as u16 + 1);
-    let next = (t.interface as u16 == stand.interface as u16 + 1) & (t.alternate == 0);
-    let first = !stand.inside & (t.interface == 0) & (t.alternate == 0);
-    ((stand.inside & (again | next)) | first) & (t.alternate <= 15)
+    let again = (t.interface == last.interface) & (t.alternate as u16 == last.alternate as u16 + 1);
+    let next = (t.interface as u16 == last.interface as u16 + 1) & (t.alternate == 0);
+    let first = !last.inside & (t.interface == 0) & (t.alternate == 0);
+    ((last.inside & (again | next)) | first) & (t.alternate <= 15)
 }
 
 // An address that was seen before may come again in another setting of this interface only.
@@ -170,18 +167,18 @@ fn is_fresh(progress: Progress, address: u8) -> bool
         | (octets::test_bit(progress.interface, e) & !octets::test_bit(progress.setting, e))
 }
 
-// An interface descriptor may come.
-fn may_begin(d: &[u8], progress: Progress, limits: Limits) -> bool
-    ensures { λ r. ⌜ r ≡ mayBegin limits progress (now (d .entry)) ⌝ }
+// An interface descriptor, which stands at `stand`, may come after a descriptor that stands at `last`.
+fn may_begin(d: &[u8], progress: Progress, last: Stand, stand: Stand, limits: Limits) -> bool
+    ensures { λ r. ⌜ r ≡ mayBegin limits progress last stand (now (d .entry)) ⌝ }
 {
     if d.len() < 9 {
         return false;
     }
     let begun = Setting {
-        interface: octets::peek(d, 2),
-        alternate: octets::peek(d, 3),
+        interface: stand.interface,
+        alternate: stand.alternate,
     };
-    !is_named(limits.refused, 4) & (progress.coming == 0) & is_placed(progress.stand, begun)
+    !is_named(limits.refused, 4) & (progress.coming == 0) & is_placed(last, begun)
 }
 
 // An endpoint descriptor may come.
@@ -195,12 +192,12 @@ fn may_list(d: &[u8], progress: Progress, limits: Limits) -> bool
 }
 
 // A descriptor is asked what its type asks and no more, so that many small ones cost little.
-fn is_allowed(d: &[u8], progress: Progress, limits: Limits) -> bool
-    ensures { λ r. ⌜ r ≡ allowed limits progress (now (d .entry)) ⌝ }
+fn is_allowed(d: &[u8], progress: Progress, last: Stand, stand: Stand, limits: Limits) -> bool
+    ensures { λ r. ⌜ r ≡ allowed limits progress last stand (now (d .entry)) ⌝ }
 {
     let t = octets::peek(d, 1);
     if t == 4 {
-        return may_begin(d, progress, limits);
+        return may_begin(d, progress, last, stand, limits);
     }
     if t == 5 {
         return may_list(d, progress, limits);
@@ -228,19 +225,13 @@ fn kept(keep: bool, word: u32) -> u32
 }
 
 // After an interface descriptor: a new setting begins, and with another number a new interface.
-fn at_interface(d: &[u8], progress: Progress, stand: Stand) -> Progress
-    ensures { λ r. ⌜ r ≡ atInterface progress stand (now (d .entry)) ⌝ }
+fn at_interface(d: &[u8], progress: Progress, last: Stand, stand: Stand) -> Progress
+    ensures { λ r. ⌜ r ≡ atInterface progress last stand (now (d .entry)) ⌝ }
 {
-    let coming = octets::peek(d, 4);
-    let interface = kept(
-        octets::peek(d, 2) == progress.stand.interface,
-        progress.interface,
-    );
     Progress {
-        stand,
-        coming,
+        coming: octets::peek(d, 4),
         setting: 0,
-        interface,
+        interface: kept(stand.interface == last.interface, progress.interface),
         seen: progress.seen,
     }
 }
@@ -249,10 +240,8 @@ fn at_interface(d: &[u8], progress: Progress, stand: Stand) -> Progress
 fn at_endpoint(d: &[u8], progress: Progress) -> Progress
     ensures { λ r. ⌜ r ≡ atEndpoint progress (now (d .entry)) ⌝ }
 {
-    let stand = progress.stand;
     let e = bit_of(octets::peek(d, 2));
     Progress {
-        stand,
         coming: less_one(progress.coming),
         setting: octets::set_bit(progress.setting, e),
         interface: octets::set_bit(progress.interface, e),
@@ -260,12 +249,13 @@ fn at_endpoint(d: &[u8], progress: Progress) -> Progress
     }
 }
 
-fn move_on(d: &[u8], progress: Progress, stand: Stand) -> Progress
-    ensures { λ r. ⌜ r ≡ onward progress stand (now (d .entry)) ⌝ }
+// After any descriptor, which stands at `stand`, the one before it at `last`.
+fn move_on(d: &[u8], progress: Progress, last: Stand, stand: Stand) -> Progress
+    ensures { λ r. ⌜ r ≡ onward progress last stand (now (d .entry)) ⌝ }
 {
     let t = octets::peek(d, 1);
     if t == 4 {
-        return at_interface(d, progress, stand);
+        return at_interface(d, progress, last, stand);
     }
     if t == 5 {
         return at_endpoint(d, progress);
@@ -273,12 +263,10 @@ fn move_on(d: &[u8], progress: Progress, stand: Stand) -> Progress
     progress
 }
 
-fn may_end(progress: Progress, interfaces: u8) -> bool
-    ensures { λ r. ⌜ r ≡ ended interfaces progress ⌝ }
+fn may_end(progress: Progress, last: Stand, interfaces: u8) -> bool
+    ensures { λ r. ⌜ r ≡ ended interfaces progress last ⌝ }
 {
-    progress.stand.inside
-        & (progress.stand.interface as u16 + 1 == interfaces as u16)
-        & (progress.coming == 0)
+    last.inside & (last.interface as u16 + 1 == interfaces as u16) & (progress.coming == 0)
 }
 
 // Not good.
@@ -303,26 +291,28 @@ fn still_refers(d: &[u8], refers: bool, names: &[u32; 8]) -> bool
 
 // The descriptors from `from` on, for so many interfaces.
 fn good_rest(body: &[u8], from: usize, interfaces: u8, limits: Limits, names: &[u32; 8]) -> Verdict
-    ensures { λ r. ⌜ r ≡ verdict (walked (checking limits interfaces) beginning (cut (drop from (now (body .entry))))) (every (interfaceRefers (now (names .entry))) (descriptorsOf (cut (drop from (now (body .entry)))))) ⌝ }
+    ensures { λ r. ⌜ r ≡ verdict (walked (checking limits interfaces) beginning before (cut (drop from (now (body .entry))))) (every (interfaceRefers (now (names .entry))) (descriptorsOf (cut (drop from (now (body .entry)))))) ⌝ }
 {
     let mut progress = start();
     let mut refers = true;
+    let mut last = crate::outside();
     let mut at = from;
     while at < body.len() {
-        let step = crate::advance(body, at, progress.stand);
+        let step = crate::advance(body, at, last);
         let end = step.end;
         if end <= at {
             return refuse();
         }
-        if is_allowed(&body[at..end], progress, limits) {
-            progress = move_on(&body[at..end], progress, step.stand);
+        if is_allowed(&body[at..end], progress, last, step.stand, limits) {
+            progress = move_on(&body[at..end], progress, last, step.stand);
             refers = still_refers(&body[at..end], refers, names);
+            last = step.stand;
             at = end;
         } else {
             return refuse();
         }
     }
-    let good = may_end(progress, interfaces);
+    let good = may_end(progress, last, interfaces);
     Verdict {
         good,
         refers: good & refers,

@@ -95,9 +95,9 @@ pub fn outside() -> Stand
     }
 }
 
-// Where a descriptor stands that follows one that stands at `stand`.
-fn stand_of(d: &[u8], stand: Stand) -> Stand
-    ensures { λ r. ⌜ r ≡ standOf stand (now (d .entry)) ⌝ }
+// Where a descriptor stands that follows one that stands at `last`.
+fn stand_of(d: &[u8], last: Stand) -> Stand
+    ensures { λ r. ⌜ r ≡ standOf last (now (d .entry)) ⌝ }
 {
     if octets::peek(d, 1) == 4 {
         return Stand {
@@ -106,35 +106,45 @@ fn stand_of(d: &[u8], stand: Stand) -> Stand
             alternate: octets::peek(d, 3),
         };
     }
-    stand
+    last
 }
 
-// The step over a whole descriptor at `at`: every walk takes it.
-pub fn step_over(body: &[u8], at: usize, stand: Stand) -> Step
+// The step over a whole descriptor at `at`, after one that stands at `last`. Every walk takes it, and takes from it alone where the next
+// descriptor begins and where this one stands.
+pub fn step_over(body: &[u8], at: usize, last: Stand) -> Step
     requires { ⌜ stepsOn (now body) at ≡ true ⌝ }
-    ensures { λ r. ⌜ r ≡ stepOf (now (body .entry)) at stand ⌝ }
+    ensures { λ r. ⌜ r ≡ stepOf (now (body .entry)) at last ⌝ }
 {
     let end = at + octets::peek(body, at) as usize;
     Step {
         end,
-        stand: stand_of(&body[at..end], stand),
+        stand: stand_of(&body[at..end], last),
     }
 }
 
 // The same where nothing is known of the body. A bLength below 2 or past the body's end leaves it where it is, and a walk that finds
 // itself no further on must stop.
-pub fn advance(body: &[u8], at: usize, stand: Stand) -> Step
-    ensures { λ r. ⌜ r ≡ stepOf (now (body .entry)) at stand ⌝ }
+pub fn advance(body: &[u8], at: usize, last: Stand) -> Step
+    ensures { λ r. ⌜ r ≡ stepOf (now (body .entry)) at last ⌝ }
 {
     let size = octets::peek(body, at) as usize;
     if size < 2 {
-        return Step { end: at, stand };
+        return Step {
+            end: at,
+            stand: last,
+        };
     }
     if body.len() <= at {
-        return Step { end: at, stand };
+        return Step {
+            end: at,
+            stand: last,
+        };
     }
     if body.len() - at < size {
-        return Step { end: at, stand };
+        return Step {
+            end: at,
+            stand: last,
+        };
     }
-    step_over(body, at, stand)
+    step_over(body, at, last)
 }

@@ -14,7 +14,7 @@ ghost use Rattle.descriptors.specs.Cut.{cut, wellCut};
 ghost use Rattle.descriptors.specs.Descriptor.{isInterface, isEndpoint};
 ghost use Rattle.descriptors.specs.Configuration.{Configuration, configurationOf};
 ghost use Rattle.descriptors.specs.Lookup.{listed};
-ghost use Rattle.descriptors.specs.Survey.{noting, earlier, foundHere, onward, nothingSeen, TellsInterfaces, Surveys, goodAlternate};
+ghost use Rattle.descriptors.specs.Survey.{noting, earlier, foundHere, onward, atCurrent, atOther, nothingSeen, TellsInterfaces, Surveys, goodAlternate};
 
 // What an event asks of the selected configuration: an endpoint, by its address, and a setting of an interface.
 pub struct Asked {
@@ -113,25 +113,51 @@ fn first_found(endpoint: EndpointFound, d: &[u8], stand: Stand, wanted: bool) ->
     endpoint
 }
 
+// What is known after an endpoint descriptor of a current setting.
+fn at_current(seen: Survey, d: &[u8], stand: Stand, asked: Asked) -> Survey
+    ensures { λ r. ⌜ r ≡ atCurrent asked seen stand (now (d .entry)) ⌝ }
+{
+    let wanted = octets::peek(d, 2) as u16 == asked.address;
+    let endpoint = seen.endpoint;
+    Survey {
+        existing: seen.existing,
+        current: seen.current,
+        halting: with_bit(seen.halting, d, 2 <= octets::peek(d, 3) % 4),
+        endpoint: first_found(endpoint, d, stand, wanted),
+        there: seen.there,
+        bits: with_bit(seen.bits, d, stand.interface as u16 == asked.interface),
+    }
+}
+
+// What is known after an endpoint descriptor of another setting: it counts if that is the one that is asked for.
+fn at_other(seen: Survey, d: &[u8], stand: Stand, asked: Asked) -> Survey
+    ensures { λ r. ⌜ r ≡ atOther asked seen stand (now (d .entry)) ⌝ }
+{
+    let wanted = (stand.interface as u16 == asked.interface)
+        & (stand.alternate as u16 == asked.alternate);
+    let endpoint = seen.endpoint;
+    Survey {
+        existing: seen.existing,
+        current: seen.current,
+        halting: seen.halting,
+        endpoint,
+        there: seen.there,
+        bits: with_bit(seen.bits, d, wanted),
+    }
+}
+
 // What is known after an endpoint descriptor, which stands at `stand`.
 fn at_endpoint(seen: Survey, d: &[u8], stand: Stand, alternates: &[u8], asked: Asked) -> Survey
     requires { ⌜ isEndpoint (now d) ≡ true ⌝ }
     ensures { λ r. ⌜ r ≡ onward (now (alternates .entry)) asked seen stand (now (d .entry)) ⌝ }
 {
-    let current = stand.alternate == octets::peek(alternates, stand.interface as usize);
-    let halting = stand.inside & (current & (2 <= octets::peek(d, 3) % 4));
-    let wanted = stand.inside & (current & (octets::peek(d, 2) as u16 == asked.address));
-    let either = current | (stand.alternate as u16 == asked.alternate);
-    let changing = stand.inside & ((stand.interface as u16 == asked.interface) & either);
-    let endpoint = seen.endpoint;
-    Survey {
-        existing: seen.existing,
-        current: seen.current,
-        halting: with_bit(seen.halting, d, halting),
-        endpoint: first_found(endpoint, d, stand, wanted),
-        there: seen.there,
-        bits: with_bit(seen.bits, d, changing),
+    if stand.inside {
+        if stand.alternate == octets::peek(alternates, stand.interface as usize) {
+            return at_current(seen, d, stand, asked);
+        }
+        return at_other(seen, d, stand, asked);
     }
+    seen
 }
 
 // What is known after any descriptor, which stands at `stand`.

@@ -6,17 +6,18 @@ use mathlib.Core.List.{List, [], _∷_, _++_, map, flatMap, append-assoc}
 use mathlib.Core.Bool.{Bool, true, false, _&&_}
 use lib.ListN.{length, drop, getD, drop-of-length-le}
 use Rattle.octets.specs.Sentences.{pick, _⇒_, every, only, pairs, isEmpty}
-use Rattle.octets.proofs.Sentences.{both, conjunct}
+use Rattle.octets.proofs.Sentences.{cases, both, conjunct}
 use Rattle.descriptors.specs.declared.Limits.{Limits}
 use Rattle.descriptors.specs.Cut.{cut, descriptorsOf, wellCut}
 use Rattle.descriptors.specs.Descriptor.{isInterface, isEndpoint, goodDescriptor}
-use Rattle.descriptors.specs.Interfaces.{grouped, settingOf, endpointsOf, goodSettings, counted, apart, goodInterfaces}
+use Rattle.descriptors.specs.Interfaces.{grouped, begunBy, settingOf, endpointsOf, goodSettings, counted, apart, goodInterfaces}
 use Rattle.descriptors.specs.Configuration.{bNumInterfaces, bConfigurationValue, goodHead, goodDescriptors, goodConfiguration, behind, groupsOf}
+use Rattle.descriptors.specs.Walk.{standOf}
 use Rattle.sets.specs.declared.Entry.{Entry}
 use Rattle.sets.specs.Contents.{entryOf, entries, bodyOf, bodies, isKind, count}
 use Rattle.sets.proofs.Entries.{rest, rest-start, next-entry, no-entry, every-cons}
 use Rattle.listing.specs.Listing.{decimal, fields, line, endpointLine, interfaceLines, configurationLines}
-use Rattle.listing.specs.Written.{Room, interfaceLine, descriptorLine, descriptorLines, entryLines, goodListed}
+use Rattle.listing.specs.Written.{Room, interfaceLine, descriptorLine, lineAt, descriptorLines, entryLines, goodListed}
 use Rattle.descriptors.specs.declared.Stand.{Stand}
 use Rattle.descriptors.specs.declared.Step.{Step}
 use Rattle.descriptors.proofs.Walk.{spanned}
@@ -56,7 +57,7 @@ by-descriptor (d ∷ ds) = go (isInterface d) (isEndpoint d) refl refl (by-descr
     go : (b c : Bool) → isInterface d ≡ b → isEndpoint d ≡ c
         → flatMap endpointLine (grouped ds .loose) ++ flatMap interfaceLines (grouped ds .groups) ≡ flatMap descriptorLine ds
         → flatMap endpointLine (grouped (d ∷ ds) .loose) ++ flatMap interfaceLines (grouped (d ∷ ds) .groups) ≡ flatMap descriptorLine (d ∷ ds)
-    go true c p q rest = rw (p, append-assoc) (ap (λ (l : List ℕ). interfaceLine d ++ l) rest)
+    go true c p q rest = rw (p, append-assoc) (ap (λ (l : List ℕ). interfaceLine (begunBy d) d ++ l) rest)
     go false true p q rest = rw (p, q, append-assoc) (ap (λ (l : List ℕ). endpointLine d ++ l) rest)
     go false false p q rest = rw (p, q) rest
 
@@ -74,6 +75,10 @@ in-order body p =
     let ds = behind (descriptorsOf (cut body)) in
     ap (λ (l : List ℕ). l ++ flatMap interfaceLines (grouped ds .groups)) (sym (none-loose (grouped ds .loose) p)) ∙ by-descriptor ds
 
+-- an interface descriptor stands under the setting that it begins
+line-here : (last : Stand) (d : List ℕ) → lineAt (standOf last d) d ≡ descriptorLine d
+line-here last d = cases (isInterface d) (λ p. rw p) (λ p. rw p)
+
 -- the lines of the descriptors ahead, in a walk: all of them, those behind the next descriptor, none
 module _ {body : List ℕ} {at : ℕ} where
   pub lines-begin : Begun body at → (out : List ℕ) (place : ℕ) → Room out place (descriptorLines body)
@@ -82,8 +87,8 @@ module _ {body : List ℕ} {at : ℕ} where
   lines-begin b out place h = rw (b .all) (begun out place (descriptorLines body) h)
 
   pub next-lines : {stand : Stand} {step : Step} → Turn body at stand step
-      → flatMap descriptorLine (ahead body at) ≡ descriptorLine (spanned body at (step .end)) ++ flatMap descriptorLine (ahead body (step .end))
-  next-lines t = ap (flatMap descriptorLine) (t .next) ∙ flat-cons descriptorLine _ _
+      → flatMap descriptorLine (ahead body at) ≡ lineAt (step .stand) (spanned body at (step .end)) ++ flatMap descriptorLine (ahead body (step .end))
+  next-lines {stand} t = ap (flatMap descriptorLine) (t .next) ∙ flat-cons descriptorLine _ _ ∙ rw (t .stands, line-here stand)
 
 pub no-lines : (body : List ℕ) (at : ℕ) → length body ≤ at → flatMap descriptorLine (ahead body at) ≡ []
 no-lines body at h = ap (flatMap descriptorLine) (ahead-end body at h) ∙ flat-none descriptorLine

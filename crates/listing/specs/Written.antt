@@ -7,12 +7,16 @@ use lib.ListN.{length}
 use lib.Seq.{sets}
 use lib.Dec.{leb}
 use Rattle.octets.specs.Sentences.{pick, _⇒_}
+use Rattle.descriptors.specs.declared.Setting.{Setting}
+use Rattle.descriptors.specs.declared.Stand.{Stand}
 use Rattle.descriptors.specs.Cut.{cut, descriptorsOf}
 use Rattle.descriptors.specs.Configuration.{behind, goodConfiguration}
 use Rattle.descriptors.specs.declared.Limits.{Limits}
 use Rattle.sets.specs.declared.Entry.{Entry}
 use Rattle.sets.specs.Contents.{isKind, bodyOf}
-use Rattle.descriptors.specs.Descriptor.{isInterface, isEndpoint, bInterfaceNumber, bAlternateSetting, bNumEndpoints}
+use Rattle.descriptors.specs.Descriptor.{isInterface, isEndpoint, bNumEndpoints}
+use Rattle.descriptors.specs.Interfaces.{begunBy}
+use Rattle.descriptors.specs.Walk.{settingAt}
 use Rattle.listing.specs.Listing.{line, endpointLine, configurationLines}
 
 -- a buffer has room for a text at a place
@@ -28,12 +32,16 @@ pub record Wrote (out : List ℕ) (at : ℕ) (text : List ℕ) (after : List ℕ
 abbrev pub lead : ℕ → ℕ → List ℕ
 lead power x = pick (leb power x) ((48 + x / power % 10) ∷ []) []
 
--- the line of one descriptor behind the first, where it has one
-abbrev pub interfaceLine : List ℕ → List ℕ
-interfaceLine d = line (73 ∷ []) (bInterfaceNumber d ∷ bAlternateSetting d ∷ bNumEndpoints d ∷ [])
+-- the line of one descriptor behind the first, where it has one: an interface's names the setting that it begins
+abbrev pub interfaceLine : Setting → List ℕ → List ℕ
+interfaceLine t d = line (73 ∷ []) (t .interface ∷ t .alternate ∷ bNumEndpoints d ∷ [])
 
 abbrev pub descriptorLine : List ℕ → List ℕ
-descriptorLine d = pick (isInterface d) (interfaceLine d) (pick (isEndpoint d) (endpointLine d) [])
+descriptorLine d = pick (isInterface d) (interfaceLine (begunBy d) d) (pick (isEndpoint d) (endpointLine d) [])
+
+-- the same of one that stands at `stand`
+abbrev pub lineAt : Stand → List ℕ → List ℕ
+lineAt stand d = pick (isInterface d) (interfaceLine (settingAt stand) d) (pick (isEndpoint d) (endpointLine d) [])
 
 unfoldable pub descriptorLines : List ℕ → List ℕ
 descriptorLines body = flatMap descriptorLine (behind (descriptorsOf (cut body)))

@@ -1,4 +1,5 @@
 // The lister's lines, written into a lent buffer. Each function writes at a place and gives the place behind what it wrote.
+use descriptors::Stand;
 use sets::Entry;
 use sets::contents::body_of;
 use sets::contents::count_of;
@@ -12,11 +13,12 @@ ghost use Rattle.octets.specs.Sentences.{every};
 ghost use Rattle.descriptors.specs.declared.Limits.{Limits};
 ghost use Rattle.descriptors.specs.Cut.{cut, wellCut};
 ghost use Rattle.descriptors.specs.Configuration.{goodConfiguration};
+ghost use Rattle.descriptors.specs.Walk.{settingAt};
 ghost use Rattle.sets.specs.Contents.{bodies};
 ghost use Rattle.sets.specs.Opening.{lent};
 ghost use Rattle.listing.specs.Listing.{decimal, fields, line, endpointLine, configurationLines, acceptedLines};
 ghost use Rattle.listing.specs.Listed.{room, Listed};
-ghost use Rattle.listing.specs.Written.{Room, Wrote, lead, interfaceLine, descriptorLine, descriptorLines, entryLines, goodListed};
+ghost use Rattle.listing.specs.Written.{Room, Wrote, lead, interfaceLine, lineAt, descriptorLines, entryLines, goodListed};
 
 // The length of a buffer in which the text of any set has room.
 pub const ROOM: usize = 49152;
@@ -92,13 +94,13 @@ fn put_line(out: &mut [u8], at: usize, word: &[u8], numbers: &[u16]) -> usize
     put_fields(out, next, numbers)
 }
 
-// An interface descriptor's line.
-fn put_interface(out: &mut [u8], at: usize, d: &[u8]) -> usize
-    requires { ⌜ Room (now out) at (interfaceLine (now d)) ⌝ }
-    ensures { λ r. ⌜ Wrote (now (out .entry)) at (interfaceLine (now (d .entry))) (now (out .exit)) r ⌝ }
+// The line of an interface descriptor, which stands at `stand`.
+fn put_interface(out: &mut [u8], at: usize, d: &[u8], stand: Stand) -> usize
+    requires { ⌜ Room (now out) at (interfaceLine (settingAt stand) (now d)) ⌝ }
+    ensures { λ r. ⌜ Wrote (now (out .entry)) at (interfaceLine (settingAt stand) (now (d .entry))) (now (out .exit)) r ⌝ }
 {
-    let number = octets::peek(d, 2) as u16;
-    let alternate = octets::peek(d, 3) as u16;
+    let number = stand.interface as u16;
+    let alternate = stand.alternate as u16;
     let endpoints = octets::peek(d, 4) as u16;
     put_line(out, at, b"I", &[number, alternate, endpoints])
 }
@@ -115,13 +117,13 @@ fn put_endpoint(out: &mut [u8], at: usize, d: &[u8]) -> usize
 }
 
 // The line of a descriptor behind the first, if it is an interface's or an endpoint's.
-fn put_descriptor(out: &mut [u8], at: usize, d: &[u8]) -> usize
-    requires { ⌜ Room (now out) at (descriptorLine (now d)) ⌝ }
-    ensures { λ r. ⌜ Wrote (now (out .entry)) at (descriptorLine (now (d .entry))) (now (out .exit)) r ⌝ }
+fn put_descriptor(out: &mut [u8], at: usize, d: &[u8], stand: Stand) -> usize
+    requires { ⌜ Room (now out) at (lineAt stand (now d)) ⌝ }
+    ensures { λ r. ⌜ Wrote (now (out .entry)) at (lineAt stand (now (d .entry))) (now (out .exit)) r ⌝ }
 {
     let kind = octets::peek(d, 1);
     if kind == 4 {
-        return put_interface(out, at, d);
+        return put_interface(out, at, d, stand);
     }
     if kind == 5 {
         return put_endpoint(out, at, d);
@@ -135,12 +137,14 @@ fn put_descriptors(out: &mut [u8], at: usize, body: &[u8]) -> usize
     requires { ⌜ Room (now out) at (descriptorLines (now body)) ⌝ }
     ensures { λ r. ⌜ Wrote (now (out .entry)) at (descriptorLines (now (body .entry))) (now (out .exit)) r ⌝ }
 {
-    let stand = descriptors::outside();
+    let mut stand = descriptors::outside();
     let mut next = at;
     let mut from = octets::peek(body, 0) as usize;
     while from < body.len() {
-        let end = descriptors::advance(body, from, stand).end;
-        next = put_descriptor(out, next, &body[from..end]);
+        let step = descriptors::step_over(body, from, stand);
+        let end = step.end;
+        stand = step.stand;
+        next = put_descriptor(out, next, &body[from..end], stand);
         from = end;
     }
     next

@@ -5,18 +5,18 @@ use mathlib.Core.List.{flatMap}
 use lib.ListN.{length}
 use borrow.Author.Needs.{needs}
 use Rattle.descriptors.proofs.Walk.{spanned}
-use Rattle.descriptors.proofs.Ahead.{Place, Turn, ahead, at-first, turn}
-use Rattle.listing.specs.Written.{descriptorLine, descriptorLines}
+use Rattle.descriptors.proofs.Ahead.{Place, Turn, ahead, at-first, steps, turn}
+use Rattle.listing.specs.Written.{descriptorLine, lineAt, descriptorLines}
 use Rattle.listing.proofs.Written.{Going, room-for, next, done, same}
 use Rattle.listing.proofs.Lines.{lines-begin, next-lines, no-lines}
 use Rattle.listing.proofs.put_descriptors.Statement.{statement}
 use Rattle.listing.proofs.put_descriptors.Tie as tie
 
 abbrev Inv-loop : tie.InvT-loop
-Inv-loop out₀ at body stand next₀ from₀ out next from = Place body from × Going out₀ at (descriptorLines body) out next (flatMap descriptorLine (ahead body from))
+Inv-loop out₀ at body stand₀ next₀ from₀ out stand next from = Place body from × Going out₀ at (descriptorLines body) out next (flatMap descriptorLine (ahead body from))
 
 abbrev μ-loop : tie.MeasureT-loop
-μ-loop out₀ at body stand next₀ from₀ out next from = length body - from
+μ-loop out₀ at body stand₀ next₀ from₀ out stand next from = length body - from
 
 outside-requires : tie.Need-outside-requires Inv-loop μ-loop
 outside-requires c κs = search needs
@@ -33,33 +33,37 @@ loop-holds c =
     let b = at-first (s .args .body .now) _ (s .pre .0) (c .peek .ensures) in
     (b .place, lines-begin b (s .args .out .now) _ (s .pre .1))
 
-advance-requires : tie.Need-advance-requires Inv-loop μ-loop
-advance-requires c κs = search needs
+step-over-requires : tie.Need-step-over-requires Inv-loop μ-loop
+step-over-requires c κs = steps _ _ (c .before .loop .inv .0) (c .loop-test .taken)
 
 -- one descriptor on
-turned : (c : tie.After-advance Inv-loop μ-loop) → Turn (c .before .before .before .before .before .before .before .args .body .now) (c .before .before .loop .from) (c .before .before .before .before .outside .result) (c .advance .result)
-turned c = turn _ _ _ (c .before .before .loop .inv .0) (c .before .loop-test .taken) _ (c .advance .ensures)
+turned : (c : tie.After-step-over Inv-loop μ-loop) → Turn (c .before .before .before .before .before .before .before .args .body .now) (c .before .before .loop .from) (c .before .before .loop .stand) (c .step-over .result)
+turned c = turn _ _ _ (c .before .before .loop .inv .0) (c .before .loop-test .taken) _ (c .step-over .ensures)
 
 sub-put-descriptor : tie.Need-sub-put-descriptor Inv-loop μ-loop
-sub-put-descriptor c = let t = turned (c .before) in omega arith
+sub-put-descriptor c = let t = turned (c .before .before) in omega arith
 
 part-put-descriptor-start : tie.Need-part-put-descriptor-start Inv-loop μ-loop
-part-put-descriptor-start c = let t = turned (c .before) in omega arith
+part-put-descriptor-start c = let t = turned (c .before .before) in omega arith
 
 part-put-descriptor-end : tie.Need-part-put-descriptor-end Inv-loop μ-loop
-part-put-descriptor-end c = let t = turned (c .before) in omega (arith, t .place .inside)
+part-put-descriptor-end c = let t = turned (c .before .before) in omega (arith, t .place .inside)
 
 put-descriptor-requires : tie.Need-put-descriptor-requires Inv-loop μ-loop
 put-descriptor-requires c κs =
-    let body = c .before .before .before .before .before .before .before .before .before .args .body .now in
-    let end = c .before .before .advance .result .end in
-    room-for (c .before .before .before .before .loop .inv .1) (descriptorLine (spanned body (c .before .before .before .before .loop .from) end)) (flatMap descriptorLine (ahead body end)) (next-lines (turned (c .before .before)))
+    let w = c .before .before .before in
+    let body = w .before .before .before .before .before .before .before .args .body .now in
+    let s = w .step-over .result in
+    room-for (w .before .before .loop .inv .1) (lineAt (s .stand) (spanned body (w .before .before .loop .from) (s .end))) (flatMap descriptorLine (ahead body (s .end))) (next-lines (turned w))
 
 loop-less : tie.Need-loop-less Inv-loop μ-loop
-loop-less c = let t = turned (c .before .before .before .before .before) in omega (arith, t .place .inside)
+loop-less c = let t = turned (c .before .before .before .before .before .before) in omega (arith, t .place .inside)
 
 loop-again : tie.Need-loop-again Inv-loop μ-loop
-loop-again c = let t = turned (c .before .before .before .before .before) in (t .place, next (c .before .before .before .before .before .before .before .loop .inv .1) _ _ (next-lines t) (c .before .before .put-descriptor .ensures))
+loop-again c =
+    let w = c .before .before .before .before .before .before in
+    let t = turned w in
+    (t .place, next (w .before .before .loop .inv .1) _ _ (next-lines t) (c .before .before .put-descriptor .ensures))
 
 same-length : tie.Need-same-length Inv-loop μ-loop
 same-length c = same (c .before .loop .inv .1)
@@ -77,7 +81,7 @@ put-descriptors-spec =
     peek-requires
     cast-from
     loop-holds
-    advance-requires
+    step-over-requires
     sub-put-descriptor
     part-put-descriptor-start
     part-put-descriptor-end

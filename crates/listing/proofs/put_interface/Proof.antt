@@ -3,20 +3,14 @@ use borrow.Author.Needs.{needs}
 use Rattle.listing.proofs.put_interface.Statement.{statement}
 use Rattle.listing.proofs.put_interface.Tie as tie
 
-peek-requires : tie.Need-peek-requires
-peek-requires c κs = search needs
-
 cast-number : tie.Need-cast-number
 cast-number c = search needs
-
-peek-requires-2 : tie.Need-peek-requires-2
-peek-requires-2 c κs = search needs
 
 cast-alternate : tie.Need-cast-alternate
 cast-alternate c = search needs
 
-peek-requires-3 : tie.Need-peek-requires-3
-peek-requires-3 c κs = search needs
+peek-requires : tie.Need-peek-requires
+peek-requires c κs = search needs
 
 cast-endpoints : tie.Need-cast-endpoints
 cast-endpoints c = search needs
@@ -28,23 +22,21 @@ slice-aggregate-put-line-2 : tie.Need-slice-aggregate-put-line-2
 slice-aggregate-put-line-2 c = search needs
 
 put-line-requires : tie.Need-put-line-requires
-put-line-requires c κs = rw (c .before .before .before .before .before .peek .ensures, c .before .before .before .before .peek2 .ensures, c .before .before .before .peek3 .ensures) (c .before .before .before .before .before .before .before .before .pre)
+put-line-requires c κs = rw (c .before .before .before .peek .ensures) (c .before .before .before .before .before .before .before .before .pre)
 
 same-length : tie.Need-same-length
 same-length c = search needs
 
 returns : tie.Need-returns
-returns c = rw (c .before .before .before .before .before .before .before .before .peek .ensures, c .before .before .before .before .before .before .before .peek2 .ensures, c .before .before .before .before .before .before .peek3 .ensures) at (c .before .before .put-line .ensures)
+returns c = rw (c .before .before .before .before .before .before .peek .ensures) at (c .before .before .put-line .ensures)
 
 pub put-interface-spec : {M : Type 1} → statement M
 put-interface-spec =
     tie.close
     (tie.spec
-    peek-requires
     cast-number
-    peek-requires-2
     cast-alternate
-    peek-requires-3
+    peek-requires
     cast-endpoints
     slice-aggregate-put-line
     slice-aggregate-put-line-2

@@ -6,9 +6,6 @@ use Rattle.descriptors.proofs.check.at_interface.Tie as tie
 peek-requires : tie.Need-peek-requires
 peek-requires c κs = search needs
 
-peek-requires-2 : tie.Need-peek-requires-2
-peek-requires-2 c κs = search needs
-
 kept-requires : tie.Need-kept-requires
 kept-requires c κs = search needs
 
@@ -16,4 +13,4 @@ returns : tie.Need-returns
 returns c = cc
 
 pub at-interface-spec : {M : Type 1} → statement M
-at-interface-spec = tie.close (tie.spec peek-requires peek-requires-2 kept-requires returns)
+at-interface-spec = tie.close (tie.spec peek-requires kept-requires returns)

@@ -7,35 +7,36 @@ use lib.ListN.{length, drop}
 use borrow.Author.Needs.{needs}
 use Rattle.octets.specs.Sentences.{every}
 use Rattle.descriptors.specs.Cut.{cut}
-use Rattle.descriptors.specs.Walk.{walked}
+use Rattle.descriptors.specs.Walk.{before, walked}
 use Rattle.descriptors.specs.Check.{beginning, checking, interfaceRefers}
-use Rattle.descriptors.proofs.Walk.{walk-end}
+use Rattle.descriptors.proofs.Walk.{Walking, walk-inside, walk-stop, walk-on, walk-end}
 use Rattle.descriptors.proofs.Ahead.{ahead}
-use Rattle.descriptors.proofs.CheckWhole.{check-stuck, check-inside, check-refused, check-on}
+use Rattle.descriptors.proofs.CheckWhole.{check-stuck}
 use Rattle.descriptors.proofs.CheckReferences.{asked-all, asked-on, refused}
 use Rattle.descriptors.proofs.check.good_rest.Statement.{statement}
 use Rattle.descriptors.proofs.check.good_rest.Tie as tie
 
 abbrev Inv-loop : tie.InvT-loop
-Inv-loop body from interfaces limits names progress₀ refers₀ at₀ progress refers at =
-    (walked (checking limits interfaces) beginning (cut (drop from body)) ≡ walked (checking limits interfaces) progress (cut (drop at body)))
+Inv-loop body from interfaces limits names progress₀ refers₀ last₀ at₀ progress refers last at =
+    Walking (checking limits interfaces) body (walked (checking limits interfaces) beginning before (cut (drop from body))) progress last at
     × (every (interfaceRefers names) (ahead body from) ≡ (refers && every (interfaceRefers names) (ahead body at)))
 
 abbrev μ-loop : tie.MeasureT-loop
-μ-loop body from interfaces limits names progress₀ refers₀ at₀ progress refers at = length body - at
+μ-loop body from interfaces limits names progress₀ refers₀ last₀ at₀ progress refers last at = length body - at
 
 -- the descriptor at hand ends inside the body
-inside : (c : tie.Else1 Inv-loop μ-loop) → c .before .advance .result .end ≤ length (c .before .before .before .before .before .before .args .body .now)
+inside : (c : tie.Else1 Inv-loop μ-loop) → c .before .advance .result .end ≤ length (c .before .before .before .before .before .before .before .args .body .now)
 inside c =
-    let l = c .before .before .before .loop in
-    check-inside (c .before .before .before .before .before .before .args .limits) _ _ _ _ _ (l .inv .0) _ (c .before .advance .ensures)
-    (c .before .before .loop-test .taken) (c .if1 .left)
+    walk-inside (c .before .before .before .loop .inv .0) (c .before .advance .ensures) (c .before .before .loop-test .taken) (c .if1 .left)
 
 start-requires : tie.Need-start-requires Inv-loop μ-loop
 start-requires c κs = search needs
 
+outside-requires : tie.Need-outside-requires Inv-loop μ-loop
+outside-requires c κs = search needs
+
 loop-holds : tie.Need-loop-holds Inv-loop μ-loop
-loop-holds c = (rw (c .start .ensures), refl)
+loop-holds c = (record { rest = rw (c .before .start .ensures, c .outside .ensures) }, refl)
 
 advance-requires : tie.Need-advance-requires Inv-loop μ-loop
 advance-requires c κs = search needs
@@ -46,10 +47,10 @@ refuse-requires c κs = search needs
 returns : tie.Need-returns Inv-loop μ-loop
 returns c =
     let w = c .before in
-    let l = w .before .before .before .loop in
+    let a = w .before .before .before .before .before .before .before .args in
     c .refuse .ensures
     ∙ refused _
-    (check-stuck (w .before .before .before .before .before .before .args .limits) _ _ _ _ _ (l .inv .0) _ (w .before .advance .ensures) (w .before .before .loop-test .taken) (w .if1 .taken))
+    (check-stuck (a .limits) (a .interfaces) (w .before .before .before .loop .inv .0) (w .before .advance .ensures) (w .before .before .loop-test .taken) (w .if1 .taken))
 
 sub-is-allowed : tie.Need-sub-is-allowed Inv-loop μ-loop
 sub-is-allowed c = search needs
@@ -89,20 +90,20 @@ still-refers-requires c κs = search needs
 
 loop-less : tie.Need-loop-less Inv-loop μ-loop
 loop-less c =
-    let w = c .before .before .before .before .before .before .before in
+    let w = c .before .before .before .before .before .before .before .before in
     let i = inside w in
     omega (arith, i, w .if1 .left, w .before .before .loop-test .taken)
 
 loop-again : tie.Need-loop-again Inv-loop μ-loop
 loop-again c =
-    let w = c .before .before .before .before .before .before .before in
-    let a = w .before .before .before .before .before .before .args in
+    let w = c .before .before .before .before .before .before .before .before in
+    let a = w .before .before .before .before .before .before .before .args in
     let l = w .before .before .before .loop in
     let s = w .before .advance in (
-      check-on (a .limits) _ _ _ _ _ (l .inv .0) _ (s .ensures) (w .before .before .loop-test .taken) (w .if1 .left) _
-          (sym (c .before .before .before .before .before .is-allowed .ensures) ∙ c .before .before .before .before .if2 .taken) (c .before .before .move-on .ensures),
-      rw (c .still-refers .ensures)
-          (asked-on (interfaceRefers (a .names .now)) (a .body .now) (l .at) (l .refers) _ (l .inv .1) (l .progress .stand) (s .result) (s .ensures) (w .before .before .loop-test .taken) (w .if1 .left)),
+      walk-on (l .inv .0) (s .ensures) (w .before .before .loop-test .taken) (w .if1 .left)
+          (rw (sym (c .before .before .before .before .before .before .is-allowed .ensures) ∙ c .before .before .before .before .before .if2 .taken)) (c .before .before .before .move-on .ensures),
+      rw (c .before .still-refers .ensures)
+          (asked-on (interfaceRefers (a .names .now)) (a .body .now) (l .at) (l .refers) _ (l .inv .1) (l .last) (s .result) (s .ensures) (w .before .before .loop-test .taken) (w .if1 .left)),
     )
 
 refuse-requires-2 : tie.Need-refuse-requires-2 Inv-loop μ-loop
@@ -111,22 +112,21 @@ refuse-requires-2 c κs = search needs
 returns-2 : tie.Need-returns-2 Inv-loop μ-loop
 returns-2 c =
     let w = c .before .before .before .before in
-    let l = w .before .before .before .loop in
     c .refuse2 .ensures
     ∙ refused _
-    (check-refused (w .before .before .before .before .before .before .args .limits) _ _ _ _ _ (l .inv .0) _ (w .before .advance .ensures) (w .before .before .loop-test .taken) (w .if1 .left)
-    (sym (c .before .before .is-allowed .ensures) ∙ c .before .if2 .left))
+    (walk-stop (w .before .before .before .loop .inv .0) (w .before .advance .ensures) (w .before .before .loop-test .taken) (w .if1 .left) _
+    (rw (sym (c .before .before .is-allowed .ensures) ∙ c .before .if2 .left)))
 
 may-end-requires : tie.Need-may-end-requires Inv-loop μ-loop
 may-end-requires c κs = search needs
 
 returns-3 : tie.Need-returns-3 Inv-loop μ-loop
 returns-3 c =
-    let a = c .before .before .before .before .before .args in
+    let a = c .before .before .before .before .before .before .args in
     let l = c .before .before .loop in
     rw (
       asked-all (interfaceRefers (a .names .now)) (a .body .now) (l .at) (l .refers) _ (l .inv .1) (c .before .loop-test .left),
-      ← walk-end (checking (a .limits) (a .interfaces)) (a .body .now) (l .at) (l .progress) _ (l .inv .0) (c .before .loop-test .left),
+      ← walk-end (l .inv .0) (c .before .loop-test .left),
       ← c .may-end .ensures,
     )
 
@@ -137,6 +137,7 @@ good-rest-spec =
     Inv-loop
     μ-loop
     start-requires
+    outside-requires
     loop-holds
     advance-requires
     refuse-requires

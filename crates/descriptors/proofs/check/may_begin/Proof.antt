@@ -7,12 +7,6 @@ use Rattle.descriptors.proofs.check.may_begin.Tie as tie
 returns : tie.Need-returns
 returns c = rw (lt-leb 9 _ (c .if1 .taken))
 
-peek-requires : tie.Need-peek-requires
-peek-requires c κs = search needs
-
-peek-requires-2 : tie.Need-peek-requires-2
-peek-requires-2 c κs = search needs
-
 is-named-requires : tie.Need-is-named-requires
 is-named-requires c κs = search needs
 
@@ -20,9 +14,9 @@ is-placed-requires : tie.Need-is-placed-requires
 is-placed-requires c κs = search needs
 
 returns-2 : tie.Need-returns-2
-returns-2 c = rw (le-leb 9 _ (c .before .before .before .before .before .if1 .left)) cc
+returns-2 c = rw (le-leb 9 _ (c .before .before .before .if1 .left)) cc
 
 pub may-begin-spec : {M : Type 1} → statement M
 may-begin-spec =
     tie.close
-    (tie.spec returns peek-requires peek-requires-2 is-named-requires is-placed-requires returns-2)
+    (tie.spec returns is-named-requires is-placed-requires returns-2)

@@ -1,6 +1,8 @@
--- `descriptors::survey::at_endpoint` meets its contract: an endpoint descriptor adds nothing to what is known of settings. No axiom.
-use Rattle.descriptors.proofs.Surveying.{endpoint-adds}
+-- `descriptors::survey::at_endpoint` meets its contract: by whether it stands under a setting, and whether that is current. No axiom.
+use mathlib.Core.Path.{sym, _∙_}
+use borrow.Author.Tests.{eq-eqb, ne-eqb}
 use borrow.Author.Needs.{needs}
+use Rattle.descriptors.proofs.Surveying.{current-adds, other-adds, outside-adds}
 use Rattle.descriptors.proofs.survey.at_endpoint.Statement.{statement}
 use Rattle.descriptors.proofs.survey.at_endpoint.Tie as tie
 
@@ -10,44 +12,26 @@ cast-peek c = search needs
 peek-requires : tie.Need-peek-requires
 peek-requires c κs = search needs
 
-peek-requires-2 : tie.Need-peek-requires-2
-peek-requires-2 c κs = search needs
-
-peek-requires-3 : tie.Need-peek-requires-3
-peek-requires-3 c κs = search needs
-
-cast-wanted : tie.Need-cast-wanted
-cast-wanted c = search needs
-
-cast-either : tie.Need-cast-either
-cast-either c = search needs
-
-cast-changing : tie.Need-cast-changing
-cast-changing c = search needs
-
-with-bit-requires : tie.Need-with-bit-requires
-with-bit-requires c κs = search needs
-
-first-found-requires : tie.Need-first-found-requires
-first-found-requires c κs = search needs
-
-with-bit-requires-2 : tie.Need-with-bit-requires-2
-with-bit-requires-2 c κs = search needs
+at-current-requires : tie.Need-at-current-requires
+at-current-requires c κs = search needs
 
 returns : tie.Need-returns
 returns c =
-    let third = c .before .before .before .before .before .before .before .before .before .before in
-    let entry = third .before .before .before .before .before .before .before .before in
-    let a = entry .args in
-    rw (
-      c .with-bit2 .ensures,
-      c .before .first-found .ensures,
-      c .before .before .with-bit .ensures,
-      third .peek3 .ensures,
-      third .before .before .peek2 .ensures,
-      third .before .before .before .before .peek .ensures,
-    )
-    (endpoint-adds (a .alternates .now) (a .asked) (a .seen) (a .stand) (a .d .now) (entry .pre))
+    let e = c .before .before .before .before .before .before .before .before in
+    c .at-current .ensures
+    ∙ current-adds (e .args .alternates .now) (e .args .asked) (e .args .seen) (e .args .stand) (e .args .d .now) (e .pre) (c .before .before .before .before .before .if1 .taken) (eq-eqb _ _ (c .before .if2 .taken ∙ c .before .before .before .peek .ensures))
+
+at-other-requires : tie.Need-at-other-requires
+at-other-requires c κs = search needs
+
+returns-2 : tie.Need-returns-2
+returns-2 c =
+    let e = c .before .before .before .before .before .before .before .before in
+    c .at-other .ensures
+    ∙ other-adds (e .args .alternates .now) (e .args .asked) (e .args .seen) (e .args .stand) (e .args .d .now) (e .pre) (c .before .before .before .before .before .if1 .taken) (ne-eqb _ _ (λ p. c .before .if2 .left (p ∙ sym (c .before .before .before .peek .ensures))))
+
+returns-3 : tie.Need-returns-3
+returns-3 c = let e = c .before .before .before in outside-adds (e .args .alternates .now) (e .args .asked) (e .args .seen) (e .args .stand) (e .args .d .now) (e .pre) (c .if1 .left)
 
 pub at-endpoint-spec : {M : Type 1} → statement M
 at-endpoint-spec =
@@ -55,12 +39,8 @@ at-endpoint-spec =
     (tie.spec
     cast-peek
     peek-requires
-    peek-requires-2
-    peek-requires-3
-    cast-wanted
-    cast-either
-    cast-changing
-    with-bit-requires
-    first-found-requires
-    with-bit-requires-2
-    returns)
+    at-current-requires
+    returns
+    at-other-requires
+    returns-2
+    returns-3)

@@ -1,19 +1,21 @@
 -- `descriptors::survey::walk` meets its contract: what was seen and what is ahead tell of the whole. No axiom.
 use Prim.Native.Nat.{_-_}
 use native.Mathlib.Omega.{arith}
-use mathlib.Core.Path.{_≡_}
-use lib.ListN.{length}
+use mathlib.Core.Path.{refl}
+use lib.ListN.{length, drop}
 use borrow.Author.Needs.{needs}
-use Rattle.descriptors.specs.Walk.{before}
-use Rattle.descriptors.specs.Survey.{nothingSeen, surveyed}
-use Rattle.descriptors.proofs.Ahead.{Place, ahead, at-first, steps, turn}
-use Rattle.descriptors.proofs.Surveying.{surveyed-on, surveyed-end, surveys}
+use Rattle.descriptors.specs.Cut.{cut}
+use Rattle.descriptors.specs.Walk.{before, walked}
+use Rattle.descriptors.specs.Survey.{nothingSeen, surveying}
+use Rattle.descriptors.proofs.Walk.{Walking, walk-on, walk-end}
+use Rattle.descriptors.proofs.Ahead.{Place, at-first, steps, turn}
+use Rattle.descriptors.proofs.Surveying.{surveys}
 use Rattle.descriptors.proofs.survey.walk.Statement.{statement}
 use Rattle.descriptors.proofs.survey.walk.Tie as tie
 
 abbrev Inv-loop : tie.InvT-loop
 Inv-loop body asked alternates seen₀ stand₀ at₀ seen stand at =
-    Place body at × (surveyed alternates asked nothingSeen before (ahead body at₀) ≡ surveyed alternates asked seen stand (ahead body at))
+    Place body at × Walking (surveying alternates asked) body (walked (surveying alternates asked) nothingSeen before (cut (drop at₀ body))) seen stand at
 
 abbrev μ-loop : tie.MeasureT-loop
 μ-loop body asked alternates seen₀ stand₀ at₀ seen stand at = length body - at
@@ -33,7 +35,7 @@ cast-at c = search needs
 loop-holds : tie.Need-loop-holds Inv-loop μ-loop
 loop-holds c =
     let b = at-first (c .before .before .before .before .args .body .now) _ (c .before .before .before .before .pre) (c .peek .ensures) in
-    (b .place, rw (c .before .before .nothing-seen .ensures, c .before .outside .ensures))
+    (b .place, record { rest = rw (c .before .before .nothing-seen .ensures, c .before .outside .ensures) })
 
 step-over-requires : tie.Need-step-over-requires Inv-loop μ-loop
 step-over-requires c κs = steps _ _ (c .before .loop .inv .0) (c .loop-test .taken)
@@ -58,14 +60,17 @@ loop-less c = let t = turn _ _ _ (c .before .before .before .before .before .bef
 
 loop-again : tie.Need-loop-again Inv-loop μ-loop
 loop-again c =
-    let t = turn _ _ _ (c .before .before .before .before .before .before .loop .inv .0) (c .before .before .before .before .before .loop-test .taken) _ (c .before .before .before .before .step-over .ensures) in
-    (t .place, surveyed-on _ _ _ t (c .before .before .before .before .before .before .loop .inv .1) (c .move-on .ensures))
+    let l = c .before .before .before .before .before .before .loop in
+    let h = c .before .before .before .before .before .loop-test .taken in
+    let s = c .before .before .before .before .step-over in
+    let t = turn _ _ _ (l .inv .0) h _ (s .ensures) in
+    (t .place, walk-on (l .inv .1) (s .ensures) h (t .on) refl (c .move-on .ensures))
 
 returns : tie.Need-returns Inv-loop μ-loop
 returns c =
     let w = c .before .before in
-    let body = w .before .before .before .before .args .body .now in
-    surveys _ _ (at-first body _ (w .before .before .before .before .pre) (w .peek .ensures)) (surveyed-end _ _ body _ _ _ (c .loop-test .left) (c .before .loop .inv .1))
+    let entry = w .before .before .before .before in
+    surveys _ _ (at-first (entry .args .body .now) _ (entry .pre) (w .peek .ensures)) (walk-end (c .before .loop .inv .1) (c .loop-test .left))
 
 pub walk-spec : {M : Type 1} → statement M
 walk-spec =
