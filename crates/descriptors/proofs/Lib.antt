@@ -7,4 +7,5 @@ pub mod CheckReferences
 pub mod EndpointBits
 pub mod Alternates
 pub mod Surveying
+pub mod CurrentEndpoints
 pub mod FullSpeed

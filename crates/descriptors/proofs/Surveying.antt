@@ -61,7 +61,7 @@ opens-here t stand d = cases (isInterface d) (λ p. rw p) (λ p. rw p)
 abbrev before-others : Bool → Endpoint → List Endpoint → List Endpoint
 before-others b e es = pick b (e ∷ es) es
 
-only-step : (t : Endpoint → Bool) (b : Bool) (e : Endpoint) (es : List Endpoint) → only t (before-others b e es) ≡ before-others (b && t e) e (only t es)
+pub only-step : (t : Endpoint → Bool) (b : Bool) (e : Endpoint) (es : List Endpoint) → only t (before-others b e es) ≡ before-others (b && t e) e (only t es)
 unfolding only
 only-step t true e es = refl
 only-step t false e es = refl

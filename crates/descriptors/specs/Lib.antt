@@ -7,3 +7,5 @@ pub mod Walk
 pub mod Check
 pub mod Lookup
 pub mod Survey
+pub mod Endpoints
+pub mod Seek

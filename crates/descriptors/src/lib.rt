@@ -1,5 +1,6 @@
 // A configuration body: what it is made of, and the limits that a speed sets.
 pub mod check;
+pub mod endpoints;
 pub mod lookup;
 pub mod survey;
 
