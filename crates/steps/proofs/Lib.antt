@@ -1,2 +1,3 @@
 pub mod Configurations
 pub mod Steps
+pub mod EndpointParts

@@ -1,16 +1,20 @@
 -- Working definitions for the contracts that gather facts from a set; no promise cites them.
-use Prim.Native.Nat.{ℕ, _<_}
+use Prim.Native.Nat.{ℕ, _+_, _<_}
 use mathlib.Core.Path.{_≡_}
 use mathlib.Core.Bool.{true}
 use mathlib.Core.List.{List, [], map}
 use Rattle.octets.specs.Sentences.{first}
 use Rattle.descriptors.specs.Cut.{cut, wellCut}
 use Rattle.descriptors.specs.Configuration.{Configuration, configurationOf, hasInterface, hasSetting}
+use Rattle.descriptors.specs.declared.endpoints.DescriptorFound.{DescriptorFound}
+use Rattle.descriptors.specs.declared.endpoints.DescriptorFound.the-variants.{At as Standing, Nothing as Missing}
 use Rattle.sets.specs.declared.EntryFound.{EntryFound}
 use Rattle.sets.specs.declared.EntryFound.the-variants.{At, Nothing}
 use Rattle.sets.specs.Contents.{bodyOf, bodies, entries, entriesOf}
 use Rattle.sets.specs.Found.{found, valued}
 use Rattle.sets.specs.View.{entryByIndex}
+use Rattle.events.specs.declared.Answer.{Answer}
+use Rattle.events.specs.declared.Answer.the-variants.{SetPart, Refused}
 use Rattle.events.specs.declared.facts.Located.{Located}
 use Rattle.events.specs.declared.facts.Located.the-variants.{Body, Nowhere}
 
@@ -39,3 +43,13 @@ pub record Usable (body : List ℕ) : Type 0 where
   pub whole : wellCut (cut body) ≡ true
   pub few : (j : ℕ) → hasInterface (configurationOf body) j ≡ true → j < 16
   pub small : (j a : ℕ) → hasSetting (configurationOf body) j a ≡ true → (j < 16) × (a < 16)
+
+-- a descriptor that was found in the body of an entry, as a part of the set; and where it begins in the body
+abbrev pub standing : EntryFound → DescriptorFound → Answer
+standing entry Missing = Refused 16
+standing Nothing (Standing offset size) = Refused 16
+standing (At e) (Standing offset size) = SetPart (e .offset + offset) size
+
+abbrev pub beginning : DescriptorFound → ℕ
+beginning Missing = 0
+beginning (Standing offset size) = offset

@@ -53,7 +53,7 @@ fn question_of(event: Event) -> Setup
 }
 
 // An entry that was looked up: whether it is there, its body, and where that lies.
-fn is_found(entry: EntryFound) -> bool
+pub fn is_found(entry: EntryFound) -> bool
     ensures { λ r. ⌜ r ≡ isFound entry ⌝ }
 {
     match entry {
@@ -62,7 +62,7 @@ fn is_found(entry: EntryFound) -> bool
     }
 }
 
-fn body_found(set: &[u8], entry: EntryFound) -> &[u8]
+pub fn body_found(set: &[u8], entry: EntryFound) -> &[u8]
     ensures { λ r. ⌜ now r ≡ bodyFound (now (set .entry)) entry ⌝ }
 {
     match entry {

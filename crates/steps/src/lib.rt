@@ -12,6 +12,7 @@ ghost use Rattle.events.specs.Answer.{gives};
 ghost use Rattle.events.specs.Facts.{outcomeOf};
 ghost use Rattle.events.specs.Step.{step};
 
+pub mod endpoint;
 pub mod facts;
 
 // Opening, at base speed: 0, or the number of the first group that is broken.

@@ -1,0 +1,64 @@
+// The endpoint descriptors of the current settings, by number: for a board that opens its endpoints.
+use crate::facts;
+use descriptors::ConfigurationValue;
+use descriptors::endpoints;
+use descriptors::endpoints::DescriptorFound;
+use descriptors::survey;
+use events::Answer;
+use records::Device;
+use sets::EntryFound;
+use sets::configuration;
+ghost use mathlib.Core.Path.{_≡_};
+ghost use Prim.Native.Nat.{_≤_};
+ghost use Rattle.sets.specs.Opening.{lent};
+ghost use Rattle.sets.specs.View.{openingOf};
+ghost use Rattle.steps.specs.Gathering.{beginning, standing};
+ghost use Rattle.steps.specs.Endpoint.{endpoint};
+
+// A descriptor that was found in an entry's body, as a part of the set.
+fn part_of(entry: EntryFound, found: DescriptorFound) -> Answer
+    requires { ⌜ beginning found ≤ 65535 ⌝ }
+    ensures { λ r. ⌜ r ≡ standing entry found ⌝ }
+{
+    match found {
+        DescriptorFound::At { offset, length } => match entry {
+            EntryFound::At(e) => Answer::SetPart {
+                offset: e.offset as usize + offset,
+                length,
+            },
+            EntryFound::Nothing => Answer::Refused(16),
+        },
+        DescriptorFound::Nothing => Answer::Refused(16),
+    }
+}
+
+// The one with this number, on a board that was checked: `opening` is what opening gives. It is asked before this frame stands, to spare the stack.
+pub fn endpoint(opening: u8, set: &[u8], serial: &[u8], device: Device, number: u8) -> Answer
+    requires { ⌜ opening ≡ openingOf (lent (now set) (now serial)) ⌝ }
+    ensures { λ r. ⌜ r ≡ endpoint (lent (now (set .entry)) (now (serial .entry))) device number ⌝ }
+{
+    if opening != 0 {
+        return Answer::Refused(7);
+    }
+    let selected = configuration::by_value(set, ConfigurationValue(device.configuration));
+    let body = facts::body_found(set, selected);
+    let alternates = device.alternates;
+    let nothing = survey::Asked {
+        address: 0,
+        interface: 0,
+        alternate: 0,
+    };
+    let survey = survey::walk(body, alternates, nothing);
+    if !records::fits(
+        survey,
+        facts::is_found(selected),
+        configuration::wakes(set),
+        device,
+    ) {
+        return Answer::Refused(8);
+    }
+    if device.state != 2 {
+        return Answer::Refused(16);
+    }
+    part_of(selected, endpoints::find(body, alternates, number))
+}
