@@ -6,7 +6,7 @@ use Rattle.sets.specs.Opening.{Board}
 use Rattle.events.specs.declared.Answer.{Answer}
 use Rattle.events.specs.declared.Event.{Event}
 use Rattle.records.specs.declared.Device.{Device}
-use Rattle.board.specs.Exports.{Opens, Happens, Spot, Hands, AnswersSetup, CutsPacket, AnswersRecordEvent}
+use Rattle.board.specs.Exports.{Opens, Happens, Spot, Hands, AnswersSetup, CutsPacket, AnswersRecordEvent, GivesEndpoint}
 
 -- two things that are one third thing are equal
 same : {A : Type 0} {x y z : A} → x ≡ z → y ≡ z → x ≡ y
@@ -37,3 +37,7 @@ answersRecordEvent p q = (same (p .leaves) (q .leaves), hands (p .answers) (q .a
 pub cutsPacket : {reply : List ℕ} {replySpot : Spot} {asked size k n m : ℕ} {part piece : List ℕ} {spot place : Spot}
     → CutsPacket reply replySpot asked size k n part spot → CutsPacket reply replySpot asked size k m piece place → (n ≡ m) × (part ≡ piece) × (spot ≡ place)
 cutsPacket p q = (same (p .number) (q .number), same (p .shows) (q .shows), same (p .lies) (q .lies))
+
+pub givesEndpoint : {b : Board} {setSpot : Spot} {image : List ℕ} {k n m : ℕ} {part piece : List ℕ} {spot place : Spot}
+    → GivesEndpoint b setSpot image k n part spot → GivesEndpoint b setSpot image k m piece place → (n ≡ m) × (part ≡ piece) × (spot ≡ place)
+givesEndpoint p q = (same (p .number) (q .number), same (p .shows) (q .shows), same (p .lies) (q .lies))

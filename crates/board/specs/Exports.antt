@@ -14,6 +14,7 @@ use Rattle.events.specs.declared.Event.the-variants.{Malformed, StatusEnd, BusR
 use Rattle.events.specs.Answer.{Part, numberOf, bytesOf, partOf}
 use Rattle.events.specs.Places.{inBlock, bytesIn}
 use Rattle.events.specs.Step.{step, opened, event, setupEvent}
+use Rattle.steps.specs.Endpoint.{endpointOn}
 use Rattle.packets.specs.Packets.{packet}
 
 -- ---- hk_open: its number, and the image left
@@ -86,3 +87,9 @@ pub record CutsPacket (reply : List ℕ) (replySpot : Spot) (asked size k : ℕ)
   pub number : answer ≡ packet (length reply) asked size k .number
   pub shows : shown ≡ part reply (packet (length reply) asked size k .offset) (packet (length reply) asked size k .length)
   pub lies : spot ≡ record { block = replySpot .block; offset = replySpot .offset + packet (length reply) asked size k .offset }
+
+-- ---- hk_endpoint: its number, the endpoint descriptor and where it lies in the set. The image is only read
+pub record GivesEndpoint (b : Board) (setSpot : Spot) (image : List ℕ) (k : ℕ) (answer : ℕ) (shown : List ℕ) (spot : Spot) : Type 0 where
+  pub number : answer ≡ numberOf (endpointOn b image k)
+  pub shows : shown ≡ part (b .set) (partOf (endpointOn b image k) .offset) (partOf (endpointOn b image k) .length)
+  pub lies : spot ≡ record { block = setSpot .block; offset = setSpot .offset + partOf (endpointOn b image k) .offset }

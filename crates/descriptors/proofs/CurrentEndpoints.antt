@@ -1,6 +1,7 @@
 -- The endpoint descriptors of the current settings: the walk that looks for one finds it; they are those of the configuration's current endpoints,
 -- one for one; and each lies in the body where it is said to lie. No axiom.
 use Prim.Native.Nat.{ℕ, zero, suc, _+_, _-_, _≤_, _<_}
+use native.Mathlib.Nat.{add-zero}
 use native.Mathlib.Omega.{arith}
 use mathlib.Core.Path.{_≡_, refl, sym, ap, _∙_}
 use mathlib.Core.Logic.{_⊎_, inl, inr}
@@ -8,6 +9,7 @@ use mathlib.Core.List.{List, [], _∷_, map, List·Memᴰ, List·Memᴰ·head, L
 use mathlib.Core.Bool.{Bool, true, false, _&&_}
 use mathlib.Core.Option.{some, none}
 use lib.ListN.{length, drop, getD, getElem?, length-take, length-drop}
+use lib.Seq.{getD-take, getD-drop}
 use lib.Dec.{eqb, leb, ltb}
 use borrow.Author.Tests.{ne-eqb, le-leb, ltb-true, ltb-false}
 use Rattle.octets.specs.Octets.{byte, part}
@@ -24,7 +26,7 @@ use Rattle.descriptors.specs.Lookup.{listed, lists, listsOne}
 use Rattle.descriptors.specs.Endpoints.{DescriptorAt, beginsCurrent, currentFrom, currentDescriptors}
 use Rattle.descriptors.specs.Seek.{foundAt, Seek, passing, seeking}
 use Rattle.descriptors.proofs.Walk.{spanned}
-use Rattle.descriptors.proofs.Ahead.{ahead, Place, turn, ahead-end, Begun, at-first, endpointsUnder, endpoints-begin}
+use Rattle.descriptors.proofs.Ahead.{ahead, Place, steps, turn, ahead-end, Begun, at-first, endpointsUnder, endpoints-begin}
 use Rattle.descriptors.proofs.Surveying.{only-step}
 
 -- a descriptor before the others, if it counts
@@ -107,6 +109,8 @@ pub record Lies (body : List ℕ) (from : ℕ) (p : DescriptorAt) : Type 0 where
   pub begins : from ≤ p .offset
   pub inside : p .offset + length (p .bytes) ≤ length body
   pub shown : part body (p .offset) (length (p .bytes)) ≡ p .bytes
+  -- bLength
+  pub long : byte (p .bytes) 0 ≡ length (p .bytes)
 
 counted-member : (counted : Bool) (at : ℕ) (d : List ℕ) (rest : List DescriptorAt) (p : DescriptorAt)
     → List·Memᴰ p (counting counted at d rest) → ((counted ≡ true) × (p ≡ record { offset = at; bytes = d })) ⊎ List·Memᴰ p rest
@@ -127,6 +131,7 @@ record Next (body : List ℕ) (at : ℕ) : Type 0 where
   first : ahead body at ≡ here ∷ ahead body (at + length here)
   place : Place body (at + length here)
   shown : part body at (length here) ≡ here
+  long : byte here 0 ≡ length here
 
 next : (body : List ℕ) (at : ℕ) → Place body at → at < length body → Next body at
 next body at place h =
@@ -135,7 +140,8 @@ next body at place h =
     let d = spanned body at end in
     let l : length d ≡ end - at = span-length body (t .on) (t .place .inside) in
     let e : at + length d ≡ end = omega (arith, l, t .on) in
-    record { here = d; on = omega (arith, l, t .on); first = rw e (t .next); place = rw e (t .place); shown = ap (λ (n : ℕ). part body at n) l }
+    let reach : end ≡ at + byte body at = rw (steps body at place h) in
+    record { here = d; on = omega (arith, l, t .on); first = rw e (t .next); place = rw e (t .place); shown = ap (λ (n : ℕ). part body at n) l; long = getD-take (end - at) (drop at body) 0 0 (omega (arith, t .on)) ∙ rw (getD-drop, add-zero) (omega (arith, l, reach)) }
 
 module _ (alternates : List ℕ) where
   -- a descriptor of the list is one of the descriptors, and lists an endpoint
@@ -179,8 +185,8 @@ module _ (alternates body : List ℕ) where
     where
       go : {counted : Bool} (here : Bool) → ((counted ≡ true) × (p ≡ record { offset = at; bytes = x .here })) ⊎ List·Memᴰ p (those here (at + length (x .here)))
           → (List·Memᴰ p (those here (at + length (x .here))) → Lies body (at + length (x .here)) p) → Lies body at p
-      go here (inl (q, e)) known = rw e (record { begins = omega arith; inside = x .place .inside; shown = x .shown })
-      go here (inr k) known = let r = known k in record { begins = omega (arith, r .begins); inside = r .inside; shown = r .shown }
+      go here (inl (q, e)) known = rw e (record { begins = omega arith; inside = x .place .inside; shown = x .shown; long = x .long })
+      go here (inr k) known = let r = known k in record { begins = omega (arith, r .begins); inside = r .inside; shown = r .shown; long = r .long }
 
   lies-from : (n : ℕ) (current : Bool) (at : ℕ) → length body ≤ at + n → Place body at → (p : DescriptorAt) → List·Memᴰ p (those current at) → Lies body at p
   lies-from zero current at l place p m = absurd (List·Memᴰ·not-nil (rw (none-left current at (omega (arith, l))) at m))

@@ -2,38 +2,45 @@
 use Prim.Native.Nat.{ℕ, zero, suc, _+_, _≤_}
 use native.Mathlib.Omega.{arith}
 use mathlib.Core.Path.{_≡_, refl, sym, ap, _∙_}
-use mathlib.Core.List.{List, [], _∷_, map, List·Memᴰ, List·Memᴰ·head, List·Memᴰ·tail}
-use mathlib.Core.Bool.{Bool, true, false}
+use mathlib.Core.List.{List, [], _∷_, map, List·Memᴰ, List·Memᴰ·head, List·Memᴰ·tail, List·Memᴰ·not-nil}
+use mathlib.Core.Bool.{Bool, true, false, not, false≢true}
 use mathlib.Core.Option.{Option, some, none}
-use lib.ListN.{length, getElem?, length-take, length-drop}
+use lib.ListN.{length, take, drop, getElem?, length-take, length-drop}
+use lib.Seq.{take-take, drop-drop}
 use lib.Dec.{eqb, leb}
-use borrow.Author.Tests.{eq-eqb, ne-eqb, leb-true}
-use Rattle.octets.specs.Octets.{byte}
-use Rattle.octets.specs.Sentences.{any, first}
-use Rattle.octets.proofs.Sentences.{conjunct}
-use Rattle.descriptors.specs.Cut.{cut, wellCut}
-use Rattle.descriptors.specs.Limits.{fullSpeed}
+use borrow.Author.Tests.{eq-eqb, ne-eqb, eqb-true, leb-true}
+use Rattle.octets.specs.Octets.{byte, part}
+use Rattle.octets.specs.Sentences.{pick, _⇒_, every, any, first, pairs}
+use Rattle.octets.proofs.Sentences.{cases, both, if-then, conjunct, every-map, every-member, only-member, first-some}
+use Rattle.descriptors.specs.declared.Limits.{Limits}
+use Rattle.descriptors.specs.Cut.{cut, descriptorsOf, wellCut}
+use Rattle.descriptors.specs.Limits.{named, fullSpeed}
+use Rattle.descriptors.specs.Descriptor.{bDescriptorType, isInterface, isEndpoint, goodEndpoint, goodDescriptor}
+use Rattle.descriptors.specs.Interfaces.{grouped, goodInterfaces}
 use Rattle.descriptors.specs.declared.survey.Asked.{Asked}
 use Rattle.descriptors.specs.declared.survey.Survey.{Survey}
 use Rattle.descriptors.specs.Survey.{Surveys}
-use Rattle.descriptors.specs.Configuration.{configurationOf}
+use Rattle.descriptors.specs.Configuration.{bNumInterfaces, bConfigurationValue, behind, goodHead, goodDescriptors, goodConfiguration, configurationOf}
 use Rattle.descriptors.specs.Endpoints.{DescriptorAt, currentDescriptors}
 use Rattle.descriptors.specs.Seek.{foundAt}
-use Rattle.descriptors.proofs.CurrentEndpoints.{lies}
+use Rattle.descriptors.proofs.CurrentEndpoints.{from-member, lies}
 use Rattle.sets.specs.declared.Entry.{Entry}
 use Rattle.sets.specs.declared.EntryFound.{EntryFound}
 use Rattle.sets.specs.declared.EntryFound.the-variants.{At, Nothing}
-use Rattle.sets.specs.Contents.{total, count, bodiesAt, bodies, entriesOf, goodFrame}
-use Rattle.sets.specs.Opening.{Board}
+use Rattle.sets.specs.Contents.{total, count, bodiesAt, bodyOf, isKind, bodies, entries, entriesOf, goodFrame}
+use Rattle.sets.specs.Opening.{Board, numberedFrom, goodConfigurations}
 use Rattle.sets.specs.Found.{found, valued, canWake, isFound}
 use Rattle.sets.specs.View.{View, viewOf, hasValue, wakes, openingOf, accepted}
-use Rattle.sets.proofs.Groups.{groups}
+use Rattle.sets.proofs.Groups.{Groups, groups, inside}
+use Rattle.sets.proofs.Bodies.{mapped}
 use Rattle.sets.proofs.Lookups.{value-there, wakes-found}
 use Rattle.records.specs.declared.Device.{Device}
 use Rattle.records.specs.Device.{inConfigured}
 use Rattle.records.specs.Current.{selected}
 use Rattle.records.specs.Fits.{fits}
 use Rattle.events.specs.declared.Answer.the-variants.{Refused}
+use Rattle.events.specs.Answer.{ofSet, partOf}
+use Rattle.events.specs.Places.{Inside}
 use Rattle.steps.specs.Gathering.{bodyFound, selectedBody, standing, beginning}
 use Rattle.steps.proofs.Steps.{is-selected}
 use Rattle.steps.specs.Endpoint.{selectedEntry, inSet, endpointsIn, endpointDescriptors, endpointPart, endpoint}
@@ -45,13 +52,13 @@ part-in e (p ∷ l) zero = refl
 part-in e (p ∷ l) (suc k) = part-in e l k
 
 module _ (set : List ℕ) (d : Device) (k : ℕ) where
-  stands : (o : Option Entry) → endpointPart (getElem? (endpointsIn set d o) k) ≡ standing (found o) (foundAt (getElem? (currentDescriptors (d .alternates) (bodyFound set (found o))) k))
-  stands none = nowhere (getElem? (currentDescriptors (d .alternates) []) k)
+  stands-in : (o : Option Entry) → endpointPart (getElem? (endpointsIn set d o) k) ≡ standing (found o) (foundAt (getElem? (currentDescriptors (d .alternates) (bodyFound set (found o))) k))
+  stands-in none = nowhere (getElem? (currentDescriptors (d .alternates) []) k)
     where
       nowhere : (o : Option DescriptorAt) → Refused 16 ≡ standing (found none) (foundAt o)
       nowhere none = refl
       nowhere (some p) = refl
-  stands (some e) = part-in e (currentDescriptors (d .alternates) (bodyFound set (At e))) k
+  stands-in (some e) = part-in e (currentDescriptors (d .alternates) (bodyFound set (At e))) k
 
 -- ---- the answer, by its order of refusals
 module _ (b : Board) (d : Device) (k : ℕ) where
@@ -71,7 +78,7 @@ module _ (b : Board) (d : Device) (k : ℕ) where
     pub answers : fits (viewOf b) d ≡ true → d .state ≡ inConfigured
         → endpoint b d k ≡ standing (found (selectedEntry (b .set) d)) (foundAt (getElem? (currentDescriptors (d .alternates) (selectedBody (b .set) (d .configuration))) k))
     unfolding endpoint endpointDescriptors
-    answers q n = rw (p, q, eq-eqb (d .state) inConfigured n) (stands (b .set) d k (selectedEntry (b .set) d))
+    answers q n = rw (p, q, eq-eqb (d .state) inConfigured n) (stands-in (b .set) d k (selectedEntry (b .set) d))
 
 -- ---- a body of an accepted set is short
 pub element : {A : Type 0} (l : List A) (k : ℕ) {x : A} → getElem? l k ≡ some x → List·Memᴰ x l
@@ -117,3 +124,94 @@ module _ (b : Board) (d : Device) {entry : EntryFound} {body : List ℕ} (e : en
   unfolding viewOf
   fitting {asked = asked} s t w told =
       told (viewOf b) asked (rw (is-selected b d selected-body) at s) (rw (t, e, value-there (b .set) (d .configuration))) (w ∙ sym (wakes-found (b .set)))
+
+-- ---- each of them is an endpoint descriptor that obeys the rules, and lies in the set where it is said to lie
+pub record Stands (set : List ℕ) (p : DescriptorAt) : Type 0 where
+  pub inside : p .offset + length (p .bytes) ≤ length set
+  pub shown : part set (p .offset) (length (p .bytes)) ≡ p .bytes
+  pub long : byte (p .bytes) 0 ≡ length (p .bytes)
+  pub kind : isEndpoint (p .bytes) ≡ true
+  pub good : goodEndpoint fullSpeed (p .bytes) ≡ true
+
+-- a part of a part
+within : (n at size : ℕ) (l : List ℕ) → at + size ≤ n → part (take n l) at size ≡ part l at size
+within n zero size l h = take-take size n l (omega arith)
+within zero (suc at) size l h = absurd (omega arith)
+within (suc n) (suc at) size [] h = refl
+within (suc n) (suc at) size (x ∷ l) h = within n at size l (omega arith)
+
+part-part : (set : List ℕ) (offset n at size : ℕ) → at + size ≤ n → part (part set offset n) at size ≡ part set (offset + at) size
+part-part set offset n at size h = within n at size (drop offset set) h ∙ rw drop-drop
+
+each-good : (limits : Limits) (size : ℕ) (ds : List (List ℕ)) → goodDescriptors limits size ds ≡ true → every (goodDescriptor limits) (behind ds) ≡ true
+unfolding goodDescriptors
+each-good limits size [] p = absurd (false≢true p)
+each-good limits size (d ∷ ds) p = conjunct 1 (goodHead size d ∷ every (goodDescriptor limits) ds ∷ goodInterfaces (bNumInterfaces d) (grouped ds) ∷ []) p
+
+module _ (b : Board) (opens : openingOf b ≡ 0) (d : Device) where
+  g : Groups fullSpeed b
+  g = groups fullSpeed b opens
+
+  -- the body of a configuration's entry obeys the rules
+  entry-good : (e : Entry) → List·Memᴰ e (entriesOf 2 (b .set)) → goodConfiguration fullSpeed (bodyOf (b .set) e) ≡ true
+  unfolding goodConfigurations
+  entry-good e m =
+      let set = b .set in
+      let rules = numberedFrom 0 (entriesOf 2 set) ∷ every (goodConfiguration fullSpeed) (bodies 2 set) ∷ every (λ x. leb 1 (bConfigurationValue x)) (bodies 2 set)
+      ∷ pairs (λ x y. not (eqb (bConfigurationValue x) (bConfigurationValue y))) (bodies 2 set) ∷ [] in
+      every-member (λ e. goodConfiguration fullSpeed (bodyOf set e)) (sym (every-map (goodConfiguration fullSpeed) (bodyOf set) (entriesOf 2 set)) ∙ conjunct 1 rules (g .configurations)) m
+
+  in-entry : (e : Entry) → List·Memᴰ e (entriesOf 2 (b .set)) → (q : DescriptorAt) → List·Memᴰ q (currentDescriptors (d .alternates) (bodyOf (b .set) e)) → Stands (b .set) (inSet e q)
+  unfolding goodConfiguration
+  in-entry e m q n =
+      let set = b .set in
+      let body = bodyOf set e in
+      let (well, rules) = both (wellCut (cut body)) (goodDescriptors fullSpeed (length body) (descriptorsOf (cut body))) (entry-good e m) in
+      let lie = lies (d .alternates) body well q n in
+      let fit = inside fullSpeed b g e (only-member (isKind 2) (entries set) m .0) in
+      let size : length body ≤ e .length = rw (length-take, length-drop) (omega arith) in
+      let l = q .bytes in
+      let (k, t) = from-member (d .alternates) false (byte body 0) (behind (descriptorsOf (cut body))) q n in
+      let each = every-member (goodDescriptor fullSpeed) (each-good fullSpeed (length body) (descriptorsOf (cut body)) rules) k in
+      record {
+        inside = omega (arith, lie .inside, fit, size);
+        shown = sym (part-part set (e .offset) (e .length) (q .offset) (length l) (omega (arith, lie .inside, size))) ∙ lie .shown;
+        long = lie .long;
+        kind = t;
+        good = if-then (isEndpoint l) (goodEndpoint fullSpeed l) (conjunct 2 (not (named (fullSpeed .refused) (bDescriptorType l)) ∷ (isInterface l ⇒ leb 9 (length l)) ∷ (isEndpoint l ⇒ goodEndpoint fullSpeed l) ∷ []) each) t;
+      }
+
+  pub stands : (p : DescriptorAt) → List·Memᴰ p (endpointDescriptors (b .set) d) → Stands (b .set) p
+  unfolding endpointDescriptors
+  stands p m = go (eqb (d .state) inConfigured) (selectedEntry (b .set) d) refl m
+    where
+      go : (t : Bool) (o : Option Entry) → selectedEntry (b .set) d ≡ o → List·Memᴰ p (pick t (endpointsIn (b .set) d o) []) → Stands (b .set) p
+      go false o e n = absurd (List·Memᴰ·not-nil n)
+      go true none e n = absurd (List·Memᴰ·not-nil n)
+      go true (some x) e n =
+          let (q, k, i) = mapped (inSet x) (currentDescriptors (d .alternates) (bodyOf (b .set) x)) n in
+          rw i (in-entry x (first-some (λ x. eqb (bConfigurationValue (bodyOf (b .set) x)) (d .configuration)) (entriesOf 2 (b .set)) e .0) q k)
+
+-- ---- so an answer's part lies in the set
+module _ (b : Board) where
+  in-set : (o : Option DescriptorAt) → ((p : DescriptorAt) → o ≡ some p → Stands (b .set) p) → Inside (b .set) (b .serial) (partOf (endpointPart o))
+  in-set none h = omega arith
+  in-set (some p) h = h p refl .inside
+
+  pub endpoint-inside : (d : Device) (k : ℕ) → Inside (b .set) (b .serial) (partOf (endpoint b d k))
+  unfolding endpoint
+  endpoint-inside d k = cases (accepted b)
+      (λ p. cases (fits (viewOf b) d)
+      (λ q. rw (p, q) (in-set (getElem? (endpointDescriptors (b .set) d) k) (λ x e. stands b (eqb-true (openingOf b) 0 p) d x (element (endpointDescriptors (b .set) d) k e))))
+      (λ q. rw (p, q) (omega arith)))
+      (λ p. rw p (omega arith))
+
+  pub endpoint-of-set : (d : Device) (k : ℕ) → partOf (endpoint b d k) .block ≡ ofSet
+  unfolding endpoint
+  endpoint-of-set d k = cases (accepted b)
+      (λ p. cases (fits (viewOf b) d) (λ q. rw (p, q) (go (getElem? (endpointDescriptors (b .set) d) k))) (λ q. rw (p, q)))
+      (λ p. rw p)
+    where
+      go : (o : Option DescriptorAt) → partOf (endpointPart o) .block ≡ ofSet
+      go none = refl
+      go (some p) = refl
