@@ -1,4 +1,7 @@
 #include "device.h"
+
+#include <string.h>
+
 #include "hardware.h"
 
 /* What every event is lent. */
@@ -7,6 +10,11 @@
         (device)->record, sizeof(device)->record
 
 #define RECORD_ADDRESS 1
+
+/* Of a setup: bit 7 of byte 0, and the two requests after which other endpoints are there. */
+#define DIRECTION_IN 0x80
+#define REQUEST_SET_CONFIGURATION 0x09
+#define REQUEST_SET_INTERFACE 0x0B
 
 /* An accepted set's contents start with the device descriptor's entry, which has the offset at byte 8 of the set. */
 static uint32_t max_packet_size_0(const struct device_flash *flash) {
@@ -18,6 +26,14 @@ static uint32_t max_packet_size_0(const struct device_flash *flash) {
 static void follow_record(const struct device *device) {
     hardware_set_address(device->record[RECORD_ADDRESS]);
     hardware_set_endpoints(device->record);
+}
+
+/* The endpoints of the current settings: the library tells them one by one, so that no firmware walks descriptors. */
+static void open_endpoints(struct device *device) {
+    hk_part descriptor = HK_NO_PART;
+    hardware_close_endpoints();
+    for (uint8_t number = 0; hk_endpoint(LENT(device), number, &descriptor) == HK_DONE; number++)
+        hardware_open_endpoint(descriptor.start);
 }
 
 static void conclude(const struct device *device, uint8_t number) {
@@ -56,15 +72,61 @@ static void send_answer(struct device *device, uint16_t asked) {
     }
 }
 
+static void refuse(struct device *device, uint8_t number) {
+    device->transfer.stage = STAGE_NONE;
+    hardware_stall_endpoint_zero();
+    application_hear(number);
+}
+
+/* The host's bytes come in packets of at most bMaxPacketSize0, so many of them are still to come. */
+static void receive_next_packet(struct device *device) {
+    struct device_transfer *transfer = &device->transfer;
+    size_t left = (size_t)transfer->asked - transfer->received, most = max_packet_size_0(device->flash);
+    transfer->stage = STAGE_DATA_OUT;
+    hardware_receive_packet(transfer->room + transfer->received, left < most ? left : most);
+}
+
+/* A request of the application's own: an answer, bytes of the host's, or neither. */
+static void serve_application(struct device *device, const uint8_t *setup, const struct application_data *data) {
+    struct device_transfer *transfer = &device->transfer;
+    uint16_t asked = (uint16_t)(setup[6] | setup[7] << 8);
+    transfer->reply = data->reply;
+    if (transfer->reply.length > asked)
+        transfer->reply.length = asked;
+    if (asked == 0 || setup[0] & DIRECTION_IN) {
+        send_answer(device, asked);
+        return;
+    }
+    if (asked > data->room_length) {
+        refuse(device, HK_REQUEST_UNKNOWN);
+        return;
+    }
+    memcpy(transfer->setup, setup, sizeof transfer->setup);
+    transfer->asked = asked;
+    transfer->received = 0;
+    transfer->room = data->room;
+    receive_next_packet(device);
+}
+
+static int changes_settings(const uint8_t *setup) {
+    return (setup[0] == 0x00 && setup[1] == REQUEST_SET_CONFIGURATION) ||
+           (setup[0] == 0x01 && setup[1] == REQUEST_SET_INTERFACE);
+}
+
 static void handle_setup(struct device *device, const uint8_t *setup, size_t setup_length) {
     struct device_transfer *transfer = &device->transfer;
+    struct application_data data = {HK_NO_PART, NULL, 0};
     hk_part part = HK_NO_PART;
     uint8_t count = 0;
     uint8_t number = hk_setup(LENT(device), setup, setup_length, transfer->bytes, &count, &part);
     transfer->stage = STAGE_NONE;
+    if (number == HK_REQUEST_UNKNOWN && application_setup(setup, &data)) {
+        follow_record(device);
+        serve_application(device, setup, &data);
+        return;
+    }
     if (number != HK_DONE) {
-        hardware_stall_endpoint_zero();
-        application_hear(number);
+        refuse(device, number);
         return;
     }
     if (count > 0) {
@@ -72,6 +134,8 @@ static void handle_setup(struct device *device, const uint8_t *setup, size_t set
         part.length = count;
     }
     transfer->reply = part;
+    if (changes_settings(setup))
+        open_endpoints(device);
     follow_record(device); /* before the status stage, which tells the host that it is done */
     send_answer(device, (uint16_t)(setup[6] | setup[7] << 8));
 }
@@ -93,6 +157,25 @@ static void handle_status_received(struct device *device) {
         end_transfer(device);
 }
 
+/* All bytes are there, or the next packet is due. One that is short before the end, or too long, is a host's error. */
+static void handle_packet_received(struct device *device, size_t received) {
+    struct device_transfer *transfer = &device->transfer;
+    size_t left = (size_t)transfer->asked - transfer->received, most = max_packet_size_0(device->flash);
+    if (transfer->stage != STAGE_DATA_OUT)
+        return;
+    if (received != (left < most ? left : most)) {
+        refuse(device, HK_REQUEST_UNKNOWN);
+        return;
+    }
+    transfer->received = (uint16_t)(transfer->received + received);
+    if (transfer->received < transfer->asked)
+        receive_next_packet(device);
+    else if (application_take(transfer->setup, transfer->room, transfer->asked))
+        send_answer(device, 0);
+    else
+        refuse(device, HK_REQUEST_UNKNOWN);
+}
+
 /* Only opening mends a record that does not fit, and a bus reset is the time for it: all starts afresh anyhow. */
 static void handle_bus_reset(struct device *device) {
     uint8_t number = hk_bus_reset(LENT(device));
@@ -101,6 +184,7 @@ static void handle_bus_reset(struct device *device) {
         number = hk_open(LENT(device));
     }
     device->transfer.stage = STAGE_NONE;
+    open_endpoints(device);
     conclude(device, number);
 }
 
@@ -118,6 +202,9 @@ static void handle(struct device *device, const struct hardware_event *event) {
     case HARDWARE_STATUS_RECEIVED:
         handle_status_received(device);
         break;
+    case HARDWARE_PACKET_RECEIVED:
+        handle_packet_received(device, event->received);
+        break;
     case HARDWARE_ENDPOINT_PACKET:
         conclude(device, hk_packet_passed(LENT(device), event->endpoint));
         break;
@@ -128,6 +215,7 @@ uint8_t device_start(struct device *device, const struct device_flash *flash) {
     device->flash = flash;
     device->transfer.stage = STAGE_NONE;
     uint8_t number = hk_open(LENT(device));
+    open_endpoints(device);
     conclude(device, number);
     return number;
 }

@@ -24,6 +24,7 @@ struct device_flash {
 enum device_stage {
     STAGE_NONE,       /* no control transfer is under way, or it was answered with STALL */
     STAGE_DATA_IN,    /* the answer goes out in packets */
+    STAGE_DATA_OUT,   /* the application's room fills with the host's packets */
     STAGE_STATUS_OUT, /* the whole answer is out: the host's empty packet ends the transfer */
     STAGE_STATUS_IN   /* there was no data: our empty packet ends the transfer */
 };
@@ -34,7 +35,10 @@ struct device_transfer {
     uint16_t asked;   /* wLength */
     uint32_t packet;  /* the packet to send next, from 0 */
     uint8_t bytes[2]; /* an answer of 1 or 2 bytes stands here until it is out */
-    hk_part reply;    /* the answer: in the set, the serial block or bytes */
+    hk_part reply;    /* the answer: in the set, the serial block, bytes or the application's memory */
+    uint8_t setup[HK_SETUP_LENGTH]; /* a request of the application's own, whose bytes come: */
+    uint8_t *room;
+    uint16_t received;
 };
 
 struct device {

@@ -1,4 +1,4 @@
-/* What the device loop asks of a board: a handful of functions over its USB peripheral, and one of the application.
+/* What the device loop asks of a board: a handful of functions over its USB peripheral, and three of the application.
  * Only the loop calls them. */
 #ifndef HARDWARE_H
 #define HARDWARE_H
@@ -17,6 +17,7 @@ enum hardware_event_kind {
     HARDWARE_SETUP,           /* a SETUP packet stands in setup, setup_length bytes of it */
     HARDWARE_PACKET_TAKEN,    /* endpoint zero: the host has acknowledged the packet that was sent */
     HARDWARE_STATUS_RECEIVED, /* endpoint zero: the host's empty packet has arrived */
+    HARDWARE_PACKET_RECEIVED, /* endpoint zero: the host's data packet stands where it was to go, received bytes of it */
     HARDWARE_ENDPOINT_PACKET  /* a data packet was acknowledged on the bulk or interrupt endpoint `endpoint` */
 };
 
@@ -25,6 +26,7 @@ struct hardware_event {
     uint8_t endpoint;
     uint8_t setup_length;
     uint8_t setup[HK_SETUP_LENGTH];
+    uint8_t received;
 };
 
 /* The next event, in the order in which the bus had them. A board sleeps here until there is one and gives back 1;
@@ -39,20 +41,45 @@ void hardware_send_packet(const uint8_t *bytes, size_t length);
 /* Endpoint zero, OUT: makes it ready for the host's empty packet. */
 void hardware_receive_status(void);
 
+/* Endpoint zero, OUT: makes it ready for one data packet of at most so many bytes, which go to `room`. A longer one is not
+ * stored and is reported with its length. */
+void hardware_receive_packet(uint8_t *room, size_t length);
+
 /* Endpoint zero: STALL to all but the next SETUP, which ends the STALL. */
 void hardware_stall_endpoint_zero(void);
 
 /* The address to answer to from now on. */
 void hardware_set_address(uint8_t address);
 
-/* The other endpoints, as the record has them: open those of the configuration (byte 3) and its alternate settings
- * (bytes 8 to 23), STALL those with a bit in the halts (bytes 24 to 27) and send or expect DATA1 at those with a bit in
- * the toggles (bytes 28 to 31). Bit e is OUT number e, bit 16 + e is IN. */
+/* The other endpoints. After a bus reset, a SET_CONFIGURATION and a SET_INTERFACE the loop closes all of them and opens
+ * those of the current settings, in the set's order, each by its descriptor: address (byte 2), attributes with the transfer
+ * type (byte 3), wMaxPacketSize (bytes 4 and 5, the low one first) and bInterval (byte 6). One that is opened again by the
+ * descriptor that it had goes on as it was. No token is answered at an endpoint that is not open. */
+void hardware_close_endpoints(void);
+void hardware_open_endpoint(const uint8_t *descriptor);
+
+/* What the record has of them: STALL at those with a bit in the halts (bytes 24 to 27), and DATA1 to send or expect at
+ * those with a bit in the toggles (bytes 28 to 31). Bit e is OUT number e, bit 16 + e is IN. */
 void hardware_set_endpoints(const uint8_t *record);
 
 /* The application hears every number but HK_DONE. HK_REQUEST_UNKNOWN to HK_NO_SUCH_FEATURE are the host's doing, and it
  * was told by STALL. All others are a fault on the board: its flash, its memory, its peripheral or its application. */
 void application_hear(uint8_t number);
+
+/* What the application puts into a control transfer of its own. */
+struct application_data {
+    hk_part reply;      /* IN: the answer, of which no more than wLength bytes go out; it stays as it is until they are out */
+    uint8_t *room;      /* OUT: where the host's wLength bytes are to go, lent until application_take */
+    size_t room_length; /* fewer than wLength is a STALL */
+};
+
+/* A setup that the library refused with HK_REQUEST_UNKNOWN: a class or vendor request, maybe the application's own. By then
+ * an address that waited is dropped. 1: it is answered, with `data` filled in for its direction (bit 7 of byte 0; neither is
+ * asked for where wLength is 0). 0: STALL. */
+int application_setup(const uint8_t *setup, struct application_data *data);
+
+/* The host's bytes stand in the room, all wLength of them. 1: the transfer ends well. 0: STALL. */
+int application_take(const uint8_t *setup, const uint8_t *bytes, size_t length);
 
 #ifdef __cplusplus
 }

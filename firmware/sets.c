@@ -27,23 +27,23 @@ const struct device_flash bench_flash = {bench_set, sizeof bench_set, NULL, 0};
 #define ENGLISH 0x0409
 
 static const uint8_t titrator_set[] = {
-    TWO(403), 7, 0, /* total length, entries */
+    TWO(469), 7, 0, /* total length, entries */
 
     /* contents: type, index, language, offset, length; ascending by type, then language, then index */
     1, 0, TWO(0), TWO(60), TWO(18), /* device */
-    2, 0, TWO(0), TWO(78), TWO(99), /* configuration 2 */
-    3, 0, TWO(0), TWO(177), TWO(6), /* languages */
-    3, 1, TWO(GERMAN), TWO(183), TWO(44), /* manufacturer */
-    3, 2, TWO(GERMAN), TWO(227), TWO(64), /* product */
-    3, 1, TWO(ENGLISH), TWO(291), TWO(46), /* manufacturer */
-    3, 2, TWO(ENGLISH), TWO(337), TWO(66), /* product */
+    2, 0, TWO(0), TWO(78), TWO(165), /* configuration 2 */
+    3, 0, TWO(0), TWO(243), TWO(6), /* languages */
+    3, 1, TWO(GERMAN), TWO(249), TWO(44), /* manufacturer */
+    3, 2, TWO(GERMAN), TWO(293), TWO(64), /* product */
+    3, 1, TWO(ENGLISH), TWO(357), TWO(46), /* manufacturer */
+    3, 2, TWO(ENGLISH), TWO(403), TWO(66), /* product */
 
-    /* device: USB 2.00, class by interface, bMaxPacketSize0 64, 1209:0001, release 1.00; string 1 manufacturer,
-     * 2 product, 3 serial number; one configuration */
-    18, 1, TWO(0x0200), 0, 0, 0, 64, TWO(0x1209), TWO(0x0001), TWO(0x0100), 1, 2, 3, 1,
+    /* device: USB 2.00, class EF 02 01 (interfaces may belong together), bMaxPacketSize0 64, 1209:0001, release 1.00;
+     * string 1 manufacturer, 2 product, 3 serial number; one configuration */
+    18, 1, TWO(0x0200), 0xEF, 2, 1, 64, TWO(0x1209), TWO(0x0001), TWO(0x0100), 1, 2, 3, 1,
 
-    /* configuration 2 (its value; its index is 0): 99 bytes, two interfaces, self-powered, remote wakeup, 100 mA */
-    9, 2, TWO(99), 2, 2, 0, 0xE0, 50,
+    /* configuration 2 (its value; its index is 0): 165 bytes, four interfaces, self-powered, remote wakeup, 100 mA */
+    9, 2, TWO(165), 4, 2, 0, 0xE0, 50,
 
     /* interface 0, alternate 0: the burette takes commands and answers */
     9, 4, 0, 0, 2, 0xFF, 0, 0, 0,
@@ -64,6 +64,22 @@ static const uint8_t titrator_set[] = {
     9, 4, 1, 1, 2, 0xFF, 1, 0, 0,
     7, 5, 0x83, 5, TWO(192), 1, /* isochronous IN, asynchronous, every frame */
     7, 5, 0x84, 3, TWO(16), 100, /* interrupt IN: out of range */
+
+    /* interfaces 2 and 3 are one serial port (CDC ACM), for the readings as text; the library steps over what the class adds */
+    8, 0x0B, 2, 2, 2, 2, 0, 0, /* interface association: two interfaces from 2 on, class 02 02 00 */
+
+    /* interface 2, alternate 0: communication */
+    9, 4, 2, 0, 1, 2, 2, 0, 0,
+    5, 0x24, 0, TWO(0x0110), /* header: CDC 1.10 */
+    5, 0x24, 1, 0, 3, /* call management: none; data on interface 3 */
+    4, 0x24, 2, 2, /* abstract control: line coding and line state */
+    5, 0x24, 6, 2, 3, /* union: 2 controls 3 */
+    7, 5, 0x85, 3, TWO(16), 32, /* interrupt IN: notifications */
+
+    /* interface 3, alternate 0: data */
+    9, 4, 3, 0, 2, 0x0A, 0, 0, 0,
+    7, 5, 0x86, 2, TWO(64), 0, /* bulk IN */
+    7, 5, 0x02, 2, TWO(64), 0, /* bulk OUT */
 
     /* string 0: the languages */
     6, 3, TWO(GERMAN), TWO(ENGLISH),

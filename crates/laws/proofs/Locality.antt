@@ -52,7 +52,7 @@ nobody-concerned theDevice = refl
 
 module _ (set : List ℕ) (v : View) (S : Sound set v) where
   -- outside Configured a record that fits selects nothing, so no event concerns anybody
-  zero-selects : (value : ℕ) → value ≡ 0 → byValue (record { 0 = value }) (v .configurations) ≡ unconfigured
+  pub zero-selects : (value : ℕ) → value ≡ 0 → byValue (record { 0 = value }) (v .configurations) ≡ unconfigured
   zero-selects value z = ap orNone (none-first (λ c. eqb (c .value) value) (v .configurations)
       (λ c m. ne-eqb (c .value) value (λ p. let l : 1 ≤ c .value = S .values c m .0 in omega arith)))
 

@@ -1,0 +1,55 @@
+#include "serial.h"
+
+#include <string.h>
+
+/* The request type and code, the one above the other. */
+#define SET_LINE_CODING 0x2120
+#define GET_LINE_CODING 0xA121
+#define SET_CONTROL_LINE_STATE 0x2122
+
+static unsigned request_of(const uint8_t *setup) {
+    return (unsigned)setup[0] << 8 | setup[1];
+}
+
+static int has_fields(const uint8_t *setup, unsigned value, unsigned index, unsigned length) {
+    return setup[2] == value && setup[3] == 0 && setup[4] == index && setup[5] == 0 && setup[6] == length && setup[7] == 0;
+}
+
+void serial_start(struct serial_port *port, uint8_t interface) {
+    static const uint8_t at_start[SERIAL_LINE_CODING_LENGTH] = {0x00, 0xC2, 0x01, 0x00, 0, 0, 8};
+    port->interface = interface;
+    port->lines = 0;
+    memcpy(port->line_coding, at_start, sizeof port->line_coding);
+}
+
+int serial_setup(struct serial_port *port, const uint8_t *setup, struct application_data *data) {
+    switch (request_of(setup)) {
+    case SET_LINE_CODING:
+        data->room = port->room;
+        data->room_length = sizeof port->room;
+        return has_fields(setup, 0, port->interface, SERIAL_LINE_CODING_LENGTH);
+    case GET_LINE_CODING:
+        data->reply.start = port->line_coding;
+        data->reply.length = sizeof port->line_coding;
+        return setup[2] == 0 && setup[3] == 0 && setup[4] == port->interface && setup[5] == 0;
+    case SET_CONTROL_LINE_STATE:
+        if (!has_fields(setup, setup[2] & 3, port->interface, 0))
+            return 0;
+        port->lines = setup[2];
+        return 1;
+    default:
+        return 0;
+    }
+}
+
+/* Stop bits 0 to 2 and parity 0 to 4 have a meaning, and so have data bits 5 to 8 and 16. */
+static int is_line_coding(const uint8_t *bytes) {
+    return bytes[4] <= 2 && bytes[5] <= 4 && ((bytes[6] >= 5 && bytes[6] <= 8) || bytes[6] == 16);
+}
+
+int serial_take(struct serial_port *port, const uint8_t *setup, const uint8_t *bytes, size_t length) {
+    if (request_of(setup) != SET_LINE_CODING || length != sizeof port->line_coding || !is_line_coding(bytes))
+        return 0;
+    memcpy(port->line_coding, bytes, length);
+    return 1;
+}
