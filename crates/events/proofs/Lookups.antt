@@ -51,7 +51,7 @@ described v d s =
 
     go : (string serial listed configuration device : Bool) (o p q : Option Entry)
         → pick string (pick serial (pick listed (gives (SerialPart (min (v .block) (s .length))) d) (refused 13 d)) (setPart d (s .length) o))
-        (pick configuration (setPart d (s .length) p) (pick device (setPart d (s .length) q) (refused 13 d)))
+            (pick configuration (setPart d (s .length) p) (pick device (setPart d (s .length) q) (refused 13 d)))
         ≡ describe d (s .length) (pick string (pick serial (pick listed (Serial (v .block)) Nowhere) (bodyAt o)) (pick configuration (bodyAt p) (pick device (bodyAt q) Nowhere)))
     go true true true c e o p q = refl
     go true true false c e o p q = refl
