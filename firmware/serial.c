@@ -3,9 +3,9 @@
 #include <string.h>
 
 /* The request type and code, the one above the other. */
-#define SET_LINE_CODING 0x2120
-#define GET_LINE_CODING 0xA121
-#define SET_CONTROL_LINE_STATE 0x2122
+#define REQUEST_SET_LINE_CODING 0x2120
+#define REQUEST_GET_LINE_CODING 0xA121
+#define REQUEST_SET_CONTROL_LINE_STATE 0x2122
 
 static unsigned request_of(const uint8_t *setup) {
     return (unsigned)setup[0] << 8 | setup[1];
@@ -24,15 +24,15 @@ void serial_start(struct serial_port *port, uint8_t interface) {
 
 int serial_setup(struct serial_port *port, const uint8_t *setup, struct application_data *data) {
     switch (request_of(setup)) {
-    case SET_LINE_CODING:
+    case REQUEST_SET_LINE_CODING:
         data->room = port->room;
         data->room_length = sizeof port->room;
         return has_fields(setup, 0, port->interface, SERIAL_LINE_CODING_LENGTH);
-    case GET_LINE_CODING:
+    case REQUEST_GET_LINE_CODING:
         data->reply.start = port->line_coding;
         data->reply.length = sizeof port->line_coding;
         return setup[2] == 0 && setup[3] == 0 && setup[4] == port->interface && setup[5] == 0;
-    case SET_CONTROL_LINE_STATE:
+    case REQUEST_SET_CONTROL_LINE_STATE:
         if (!has_fields(setup, setup[2] & 3, port->interface, 0))
             return 0;
         port->lines = setup[2];
@@ -48,7 +48,7 @@ static int is_line_coding(const uint8_t *bytes) {
 }
 
 int serial_take(struct serial_port *port, const uint8_t *setup, const uint8_t *bytes, size_t length) {
-    if (request_of(setup) != SET_LINE_CODING || length != sizeof port->line_coding || !is_line_coding(bytes))
+    if (request_of(setup) != REQUEST_SET_LINE_CODING || length != sizeof port->line_coding || !is_line_coding(bytes))
         return 0;
     memcpy(port->line_coding, bytes, length);
     return 1;

@@ -12,8 +12,8 @@
  *
  * What the caller owes, for every call:
  *   - A pointer and its length name memory that stays readable for the whole call (writable for image, bytes, count,
- *     part and packet).
- *   - What is written (image, bytes, count, part, packet) overlaps nothing else that is passed. Set, serial and setup,
+ *     part, packet and descriptor).
+ *   - What is written (image, bytes, count, part, packet, descriptor) overlaps nothing else that is passed. Set, serial and setup,
  *     which are only read, may overlap each other.
  *   - A pointer whose length is 0 may be NULL. A set (or reply) of NULL and 0 leaves a part whose start is NULL and whose
  *     length is 0, and that is a valid part. This is tested and not proved.
@@ -51,7 +51,7 @@ extern "C" {
 #define HK_DOES_NOT_EXIST 13          /* STALL: no such descriptor, configuration, interface, setting or endpoint */
 #define HK_NO_SUCH_FEATURE 14         /* STALL: feature not there for this recipient */
 #define HK_NO_SUCH_PACKET 15          /* packet: size, lengths or packet number */
-#define HK_ENDPOINT_UNFIT 16          /* function event on an unfit endpoint */
+#define HK_ENDPOINT_UNFIT 16          /* function event on an unfit endpoint; no such endpoint */
 
 /* Bytes in memory that the caller lent. Test length, not start: the start of an empty part is NULL only where NULL was
  * lent. */
@@ -118,6 +118,17 @@ uint8_t hk_halt(const uint8_t *set, size_t set_length, const uint8_t *serial, si
  * change nothing. */
 uint8_t hk_packet_passed(const uint8_t *set, size_t set_length, const uint8_t *serial, size_t serial_length,
                          uint8_t *image, size_t image_length, uint8_t endpoint);
+
+/* Endpoint descriptor `number` (from 0) of the current settings, in the set's order: what a board opens after a
+ * SET_CONFIGURATION or a SET_INTERFACE. It holds address, attributes, wMaxPacketSize and bInterval (bytes 2, 3, 4 and 5, 6)
+ * and has at least 7 bytes.
+ *
+ * HK_DONE: *descriptor is the part of the set. HK_ENDPOINT_UNFIT: there is no such endpoint, or the device is not
+ * Configured; so the endpoints come by counting number up until then, and there are never more than 30.
+ * HK_SET_NOT_ACCEPTABLE or HK_RECORD_DOES_NOT_FIT. *descriptor is always written: all but HK_DONE leave the set's first 0
+ * bytes there. The image is only read: nothing changes, and a waiting address goes on waiting. */
+uint8_t hk_endpoint(const uint8_t *set, size_t set_length, const uint8_t *serial, size_t serial_length,
+                    uint8_t *image, size_t image_length, uint8_t number, hk_part *descriptor);
 
 /* The device record as a struct, in the order of its image. On a little-endian machine its 32 bytes are the image, so
  * hk_open opens a record too: hk_open(set, set_length, serial, serial_length, (uint8_t *)&record, sizeof record). */

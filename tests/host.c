@@ -206,6 +206,41 @@ static void configure(struct host *host, const struct learnt *learnt, const stru
     ask(host, 0x80, GET_STATUS, 0, 0, 2, HK_DONE);
 }
 
+/* The communication interface of a serial port, by its class and subclass; 0 if there is none. */
+static const uint8_t *serial_interface(const struct body *body) {
+    for (size_t at = 0; at < body->length; at = next_descriptor(body->bytes, body->length, at))
+        if (body->bytes[at + 1] == TYPE_INTERFACE && body->bytes[at + 5] == 2 && body->bytes[at + 6] == 2)
+            return body->bytes + at;
+    return NULL;
+}
+
+/* A SETUP amid the host's bytes ends that transfer, and what was given so far is forgotten. */
+static void leave_bytes_open(struct host *host, const uint8_t *setup) {
+    print_setup(setup);
+    printf(", no bytes\n");
+    if (begin_giving(host, setup, NULL, 0) != HK_DONE)
+        fail(host, "it was refused");
+}
+
+static void use_serial_port(struct host *host, uint8_t interface) {
+    static const uint8_t slow[] = {0x80, 0x25, 0, 0, 2, 2, 7}, wrong[] = {0x80, 0x25, 0, 0, 9, 2, 7};
+    uint8_t setup[HK_SETUP_LENGTH];
+    heading("The serial port's own requests: the application answers what the library does not know");
+    ask(host, 0xA1, GET_LINE_CODING, 0, interface, 7, HK_DONE);
+    fill_setup(setup, 0x21, SET_LINE_CODING, 0, interface, 7);
+    give(host, setup, slow, HK_DONE);
+    ask(host, 0xA1, GET_LINE_CODING, 0, interface, 64, HK_DONE);
+    give(host, setup, wrong, HK_REQUEST_UNKNOWN);
+    leave_bytes_open(host, setup);
+    send_stray_out(host, "before the bytes");
+    ask(host, 0xA1, GET_LINE_CODING, 0, interface, 4, HK_DONE);
+    ask(host, 0x21, SET_CONTROL_LINE_STATE, 3, interface, 0, HK_DONE);
+    ask(host, 0xA1, GET_LINE_CODING, 0, interface + 1u, 7, HK_REQUEST_UNKNOWN);
+    fill_setup(setup, 0x21, SET_LINE_CODING, 0, interface, 8);
+    begin_giving(host, setup, NULL, 0);
+    ask(host, 0xA1, SET_CONTROL_LINE_STATE, 0, interface, 2, HK_REQUEST_UNKNOWN);
+}
+
 static void halt_from_inside(struct host *host, uint8_t endpoint) {
     printf("the application halts endpoint %02X\n", endpoint);
     if (device_halt(&host->device, endpoint) != HK_DONE)
@@ -277,7 +312,10 @@ static void take_same_settings(struct host *host, const struct body *body) {
 }
 
 static void use_configuration(struct host *host, const struct learnt *learnt, const struct body *body) {
+    const uint8_t *serial = serial_interface(body);
     configure(host, learnt, body);
+    if (serial != NULL)
+        use_serial_port(host, serial[2]);
     take_settings(host, body);
     take_same_settings(host, body);
     if (body->bytes[4] < 2)
@@ -318,16 +356,32 @@ static void disturb_board(struct host *host) {
     get_descriptor(host, TYPE_DEVICE, 0, 0, 18, HK_SETUP_LENGTH_WRONG);
     wire_hand_over(HK_SETUP_LENGTH);
     pass_packet(host, 0x81); /* in Default there is no such endpoint */
+    printf("the application halts endpoint 81\n");
+    if (device_halt(&host->device, 0x81) != HK_ENDPOINT_UNFIT)
+        fail(host, "it was not refused");
+    show_fault(wire_heard());
     lose_last_byte_of_set(host);
     disturb_record(host);
     get_descriptor(host, TYPE_DEVICE, 0, 0, 18, HK_DONE);
 }
 
+/* The bench's application has a serial port where the set has one: the communication interface's first bytes tell. */
+static int find_port(const struct device_flash *flash, struct serial_port *port) {
+    static const uint8_t head[] = {9, 4}, serial_class[] = {2, 2};
+    for (size_t at = 0; at + 9 <= flash->set_length; at++)
+        if (memcmp(flash->set + at, head, 2) == 0 && memcmp(flash->set + at + 5, serial_class, 2) == 0) {
+            serial_start(port, flash->set[at + 2]);
+            return 1;
+        }
+    return 0;
+}
+
 static int enumerate(const struct device_flash *flash) {
     static struct host host;
     static struct learnt learnt;
+    static struct serial_port port;
     memset(&host.device, UNWRITTEN, sizeof host.device); /* memory at power-on */
-    wire_attach(&host.device);
+    wire_attach(&host.device, find_port(flash, &port) ? &port : NULL);
     uint8_t number = device_start(&host.device, flash);
     if (number != HK_DONE) {
         print_refusal(number);

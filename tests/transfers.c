@@ -12,7 +12,22 @@ void fail(struct host *host, const char *what) {
     host->failures++;
 }
 
+/* As 81 (type 3, 8 bytes): what the board took from the descriptor. */
+static void show_endpoints(struct host *host) {
+    const uint8_t *open[WIRE_MOST_ENDPOINTS];
+    size_t count = wire_open_endpoints(open);
+    if (count == host->open_count && memcmp(open, host->open, count * sizeof *open) == 0)
+        return;
+    memcpy(host->open, open, sizeof open);
+    host->open_count = count;
+    printf("  open:%s", count == 0 ? " none" : "");
+    for (size_t at = 0; at < count; at++)
+        printf("%s %02X (type %u, %u bytes)", at == 0 ? "" : ",", open[at][2], open[at][3] & 3, two_bytes(open[at] + 4));
+    putchar('\n');
+}
+
 void show_record(struct host *host, const char *when) {
+    show_endpoints(host);
     if (memcmp(host->shown, host->device.record, HK_IMAGE_LENGTH) == 0)
         return;
     memcpy(host->shown, host->device.record, HK_IMAGE_LENGTH);
@@ -21,8 +36,7 @@ void show_record(struct host *host, const char *when) {
     putchar('\n');
 }
 
-/* What the board's application heard, if it is not what the host was told by STALL. */
-static void show_fault(uint8_t number) {
+void show_fault(uint8_t number) {
     if (number != HK_DONE && (number < HK_REQUEST_UNKNOWN || number > HK_NO_SUCH_FEATURE))
         printf("  the board's application hears %u: %s\n", number, number_in_words(number));
 }
@@ -103,6 +117,25 @@ void end_transfer_with_status(struct host *host, const uint8_t *setup, uint8_t n
     check_transfer_ended(host);
 }
 
+/* The last packet of wLength bytes may be short; one that the device did not wait for counts as refused. */
+uint8_t begin_giving(struct host *host, const uint8_t *setup, const uint8_t *bytes, size_t length) {
+    host->length = host->packets = host->last_packet = 0;
+    wire_heard();
+    if (wire_send_setup(host->address, setup) != WIRE_DONE)
+        fail(host, "nobody answers at this address");
+    uint8_t number = wire_heard();
+    while (number == HK_DONE && host->length < length) {
+        size_t left = length - host->length, size = left < host->packet_size ? left : host->packet_size;
+        if (wire_send_packet(host->address, bytes + host->length, size) != WIRE_DONE)
+            fail(host, "no packet was taken");
+        host->length += size;
+        host->packets++;
+        host->last_packet = size;
+        number = wire_heard();
+    }
+    return number;
+}
+
 static void print_packets(const struct host *host) {
     printf("%u byte%s in ", (unsigned)host->length, host->length == 1 ? "" : "s");
     if (host->packets == 1) {
@@ -149,6 +182,32 @@ uint8_t request(struct host *host, const uint8_t *setup) {
     return number;
 }
 
+/* The status stage of bytes that were given is the device's, as it is without a data stage. */
+static void take_status(struct host *host, uint8_t number) {
+    hk_part packet = HK_NO_PART;
+    enum wire_answer answer = wire_take_packet(host->address, &packet);
+    if (answer != (number == HK_DONE ? WIRE_DONE : WIRE_STALL) || packet.length > 0)
+        fail(host, "the status stage went wrong");
+    check_transfer_ended(host);
+}
+
+void give(struct host *host, const uint8_t *setup, const uint8_t *bytes, uint8_t expected) {
+    print_setup(setup);
+    printf("\n  <- ");
+    print_bytes(bytes, ASKED(setup));
+    putchar('\n');
+    uint8_t number = begin_giving(host, setup, bytes, ASKED(setup));
+    if (number == HK_DONE)
+        printf("  -> taken in %u packet%s\n", (unsigned)host->packets, host->packets == 1 ? "" : "s");
+    else
+        printf("  -> STALL, %u: %s\n", number, number_in_words(number));
+    show_record(host, "");
+    take_status(host, number);
+    show_record(host, " after the status stage");
+    if (number != expected)
+        fail(host, "not the answer that a host expects");
+}
+
 void ask(struct host *host, uint8_t type, uint8_t code, unsigned value, unsigned index, unsigned length,
          uint8_t expected) {
     uint8_t setup[HK_SETUP_LENGTH];
@@ -159,10 +218,12 @@ void ask(struct host *host, uint8_t type, uint8_t code, unsigned value, unsigned
 
 int pass_packet(struct host *host, uint8_t endpoint) {
     printf("packet on endpoint %02X\n", endpoint);
-    int passed = wire_pass_packet(endpoint) == WIRE_DONE;
-    if (!passed)
+    enum wire_answer answer = wire_pass_packet(endpoint);
+    if (answer == WIRE_STALL)
         printf("  -> STALL, the endpoint is halted\n");
+    if (answer == WIRE_SILENT)
+        printf("  -> no answer, the endpoint is not open\n");
     show_fault(wire_heard());
     show_record(host, "");
-    return passed;
+    return answer == WIRE_DONE;
 }

@@ -9,6 +9,8 @@ struct host {
     uint8_t address;                /* the one that the host uses */
     uint8_t packet_size;            /* bMaxPacketSize0, once it is learnt */
     uint8_t shown[HK_IMAGE_LENGTH]; /* the record as it was printed last */
+    const uint8_t *open[WIRE_MOST_ENDPOINTS]; /* the open endpoints as they were printed last */
+    size_t open_count;
     int failures;
 
     /* the last answer */
@@ -19,8 +21,11 @@ struct host {
 /* Counts and prints what should not be. */
 void fail(struct host *host, const char *what);
 
-/* Prints the record if it is another than the one printed last. */
+/* Prints the record, and the endpoints that are open, if they are others than those printed last. */
 void show_record(struct host *host, const char *when);
+
+/* What the board's application heard, if it is not what the host was told by STALL. */
+void show_fault(uint8_t number);
 
 /* Fails if a control transfer is under way. */
 void check_transfer_ended(struct host *host);
@@ -34,6 +39,13 @@ void fill_setup(uint8_t *setup, uint8_t type, uint8_t code, unsigned value, unsi
 
 /* The setup and data stages: the answer is kept. The number is the library's; the host only sees a STALL. */
 uint8_t begin_transfer(struct host *host, const uint8_t *setup);
+
+/* A whole control transfer with so many bytes of the host's own, wLength of them; another number than the expected one
+ * fails. */
+void give(struct host *host, const uint8_t *setup, const uint8_t *bytes, uint8_t expected);
+
+/* The setup and data stages of it: the library's number, or HK_REQUEST_UNKNOWN where the application refuses the bytes. */
+uint8_t begin_giving(struct host *host, const uint8_t *setup, const uint8_t *bytes, size_t length);
 
 /* The status stage. */
 void end_transfer_with_status(struct host *host, const uint8_t *setup, uint8_t number);

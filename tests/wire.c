@@ -9,10 +9,15 @@
 /* What the hardware holds, and one event that the loop has not seen yet. */
 static struct {
     struct device *device;
+    struct serial_port *port;
     uint8_t address, heard;
     uint8_t record[HK_IMAGE_LENGTH]; /* as the endpoints have it */
-    int stalled, status_expected, packet_ready, event_waits;
+    const uint8_t *open[WIRE_MOST_ENDPOINTS];
+    size_t open_count;
+    int stalled, status_expected, packet_ready, room_ready, event_waits;
     hk_part packet;
+    uint8_t *room;
+    size_t room_length;
     struct hardware_event event;
 } wire;
 
@@ -33,6 +38,12 @@ void hardware_receive_status(void) {
     wire.status_expected = 1;
 }
 
+void hardware_receive_packet(uint8_t *room, size_t length) {
+    wire.room = room;
+    wire.room_length = length;
+    wire.room_ready = 1;
+}
+
 void hardware_stall_endpoint_zero(void) {
     wire.stalled = 1;
 }
@@ -45,8 +56,30 @@ void hardware_set_endpoints(const uint8_t *record) {
     memcpy(wire.record, record, sizeof wire.record);
 }
 
+void hardware_close_endpoints(void) {
+    wire.open_count = 0;
+}
+
+void hardware_open_endpoint(const uint8_t *descriptor) {
+    if (wire.open_count < WIRE_MOST_ENDPOINTS)
+        wire.open[wire.open_count++] = descriptor;
+}
+
 void application_hear(uint8_t number) {
     wire.heard = number;
+}
+
+int application_setup(const uint8_t *setup, struct application_data *data) {
+    return wire.port != NULL && serial_setup(wire.port, setup, data);
+}
+
+int application_take(const uint8_t *setup, const uint8_t *bytes, size_t length) {
+    return serial_take(wire.port, setup, bytes, length);
+}
+
+size_t wire_open_endpoints(const uint8_t *descriptors[WIRE_MOST_ENDPOINTS]) {
+    memcpy(descriptors, wire.open, sizeof wire.open);
+    return wire.open_count;
 }
 
 int wire_follows_record(void) {
@@ -60,11 +93,12 @@ uint8_t wire_heard(void) {
 }
 
 static void clear_endpoint_zero(void) {
-    wire.stalled = wire.status_expected = wire.packet_ready = 0;
+    wire.stalled = wire.status_expected = wire.packet_ready = wire.room_ready = 0;
 }
 
-void wire_attach(struct device *device) {
+void wire_attach(struct device *device, struct serial_port *port) {
     wire.device = device;
+    wire.port = port;
     wire_hand_over(HK_SETUP_LENGTH);
     clear_endpoint_zero();
 }
@@ -119,6 +153,14 @@ enum wire_answer wire_send_status(uint8_t address) {
     return send_token(address, &wire.status_expected, HARDWARE_STATUS_RECEIVED);
 }
 
+/* What is too long is not stored; the report has its length all the same. */
+enum wire_answer wire_send_packet(uint8_t address, const uint8_t *bytes, size_t length) {
+    if (wire.room_ready && length <= wire.room_length)
+        memcpy(wire.room, bytes, length);
+    wire.event.received = (uint8_t)length;
+    return send_token(address, &wire.room_ready, HARDWARE_PACKET_RECEIVED);
+}
+
 void wire_send_stray_out(void) {
     happen(HARDWARE_STATUS_RECEIVED);
 }
@@ -128,7 +170,16 @@ static int is_halted(uint8_t endpoint) {
     return wire.record[RECORD_HALTS + bit / 8] >> bit % 8 & 1;
 }
 
+static int is_open(uint8_t endpoint) {
+    for (size_t at = 0; at < wire.open_count; at++)
+        if (wire.open[at][2] == endpoint)
+            return 1;
+    return 0;
+}
+
 enum wire_answer wire_pass_packet(uint8_t endpoint) {
+    if (!is_open(endpoint))
+        return WIRE_SILENT;
     if (is_halted(endpoint))
         return WIRE_STALL;
     wire.event.endpoint = endpoint;

@@ -4,20 +4,23 @@
 #define WIRE_H
 
 #include "../firmware/device.h"
+#include "../firmware/serial.h"
 
 enum wire_answer {
     WIRE_DONE,  /* acknowledged, or a packet came */
     WIRE_STALL,
-    WIRE_SILENT /* nobody has this address, or the device is not ready */
+    WIRE_SILENT /* nobody has this address, the device is not ready, or the endpoint is not open */
 };
 
-void wire_attach(struct device *device);
+/* The board: its device loop, and its application's serial port, NULL where there is none. */
+void wire_attach(struct device *device, struct serial_port *port);
 void wire_reset_bus(void);
 
 /* Endpoint zero of the device that has this address. A SETUP is always acknowledged. */
 enum wire_answer wire_send_setup(uint8_t address, const uint8_t *setup);
 enum wire_answer wire_take_packet(uint8_t address, hk_part *packet);
 enum wire_answer wire_send_status(uint8_t address);
+enum wire_answer wire_send_packet(uint8_t address, const uint8_t *bytes, size_t length);
 
 /* An OUT packet that nobody waits for, and a peripheral that reports it all the same. */
 void wire_send_stray_out(void);
@@ -27,6 +30,10 @@ void wire_hand_over(uint8_t setup_length);
 
 /* A data packet on another endpoint, at the device's own address. */
 enum wire_answer wire_pass_packet(uint8_t endpoint);
+
+/* The endpoints that are open, by their descriptors, in the order in which they were opened. */
+#define WIRE_MOST_ENDPOINTS 30
+size_t wire_open_endpoints(const uint8_t *descriptors[WIRE_MOST_ENDPOINTS]);
 
 /* Whether the hardware was told of the record's endpoints as they are now. */
 int wire_follows_record(void);

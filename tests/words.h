@@ -19,6 +19,11 @@ enum request {
     SYNCH_FRAME
 };
 
+/* requests of a serial port (CDC), request type 21 or A1 */
+#define SET_LINE_CODING 0x20
+#define GET_LINE_CODING 0x21
+#define SET_CONTROL_LINE_STATE 0x22
+
 /* feature selectors */
 #define ENDPOINT_HALT 0
 #define DEVICE_REMOTE_WAKEUP 1

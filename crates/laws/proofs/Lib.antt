@@ -10,3 +10,4 @@ pub mod Alike
 pub mod Touches
 pub mod Locality
 pub mod Picking
+pub mod Counting
