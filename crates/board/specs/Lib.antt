@@ -3,6 +3,7 @@ pub mod Decided
 pub mod Opening
 pub mod Runs
 pub mod Transfers
+pub mod Endpoints
 pub mod Order
 pub mod Places
 pub mod Unnoticed

@@ -1,0 +1,335 @@
+-- hk_endpoint: which number it gives, what a refusal shows, and that after an opening it never gives 8; every part is an endpoint descriptor inside
+-- the set; and counting up from 0 to the first 16 gives exactly the endpoints of the current settings, each once, in the set's order. No axiom.
+use Prim.Native.Nat.{ℕ, _+_, _*_, _/_, _%_, _-_, _≤_, _<_}
+use native.Mathlib.Nat.{add-zero}
+use native.Mathlib.Omega.{arith}
+use mathlib.Core.Path.{_≡_, refl, sym, ap, _∙_}
+use mathlib.Core.Logic.{_⊎_, inl, inr}
+use mathlib.Core.List.{List, [], _∷_, map, List·Memᴰ, List·Memᴰ·head, List·Memᴰ·tail}
+use mathlib.Core.Bool.{Bool, true, false, _&&_, _||_, not}
+use mathlib.Core.Option.{Option, some, none}
+use lib.ListN.{length, getD, getElem?, length-map}
+use lib.Dec.{eqb, leb}
+use borrow.Author.Tests.{not-true, eq-eqb, ne-eqb, eqb-true, eqb-false, leb-true, le-leb}
+use Rattle.octets.specs.Octets.{Bytes, byte, part}
+use Rattle.octets.specs.Sentences.{pick, _⇒_, every, only, pairs, upTo}
+use Rattle.octets.proofs.Sentences.{cases, both, joined, never, if-then, every-member, member-every, only-member, pairs-split}
+use Rattle.descriptors.specs.declared.Endpoint.{Endpoint}
+use Rattle.descriptors.specs.Limits.{fullSpeed}
+use Rattle.descriptors.specs.Cut.{cut, cutAfter, descriptorsOf, wellCut}
+use Rattle.descriptors.specs.Descriptor.{isEndpoint, bEndpointAddress, bmAttributes, goodAddress, goodEndpoint}
+use Rattle.descriptors.specs.Interfaces.{apart, grouped, endpointsOf}
+use Rattle.descriptors.specs.Configuration.{configurationOf, groupsOf, isCurrent, currentOf}
+use Rattle.descriptors.specs.Endpoints.{DescriptorAt, currentDescriptors}
+use Rattle.descriptors.proofs.CurrentEndpoints.{before-it, named, ordered}
+use Rattle.sets.proofs.Bodies.{mapped}
+use Rattle.sets.specs.declared.Entry.{Entry}
+use Rattle.sets.specs.Contents.{bodyOf}
+use Rattle.sets.specs.Opening.{Board}
+use Rattle.sets.specs.View.{View, viewOf, openingOf, accepted, unconfigured}
+use Rattle.sets.specs.Found.{found}
+use Rattle.sets.specs.Sound.{Sound}
+use Rattle.records.specs.declared.Device.{Device}
+use Rattle.records.specs.Device.{inConfigured}
+use Rattle.records.specs.Image.{deviceOf}
+use Rattle.records.specs.Current.{selected, currentEndpoints}
+use Rattle.records.specs.Fits.{fits, fitsOn}
+use Rattle.events.specs.declared.Answer.{Answer}
+use Rattle.events.specs.declared.Answer.the-variants.{SetPart, Refused}
+use Rattle.events.specs.Answer.{numberOf, partOf}
+use Rattle.steps.specs.Endpoint.{selectedEntry, inSet, endpointsIn, endpointDescriptors, endpointPart, endpoint, endpointOn}
+use Rattle.steps.specs.Gathering.{selectedBody}
+use Rattle.steps.proofs.Configurations.{usable}
+use Rattle.steps.proofs.Steps.{is-selected}
+use Rattle.steps.proofs.EndpointParts.{Stands, stands}
+use Rattle.laws.proofs.Fitting.{unselected}
+use Rattle.laws.proofs.Keeping.{soundSelected}
+use Rattle.laws.proofs.Locality.{zero-selects}
+use Rattle.laws.proofs.Counting.{at-member, at-inside, at-beyond, told, pairs-at, pairs-map, differ, apart as unequal, differs, no-more}
+use Rattle.promises.specs.Sound.{sound}
+use Rattle.promises.specs.Keeps.{FitImage, Reached, reachedFits}
+use Rattle.board.specs.Exports.{Spot, GivesEndpoint}
+
+-- ---- what the statements say
+-- demand 1's numbers: 7 where the board is not accepted, 8 where the image does not fit, else 0 or 16
+abbrev pub allowsEndpoint : Board → List ℕ → ℕ → Bool
+allowsEndpoint b image n = pick (accepted b) (pick (eqb (length image) 32 && fitsOn b (deviceOf image)) (eqb n 0 || eqb n 16) (eqb n 8)) (eqb n 7)
+
+-- a part that is an endpoint descriptor inside the set: of type 5, as long as its bLength, and good by document 01's rules
+pub record EndpointIn (b : Board) (setSpot : Spot) (shown : List ℕ) (spot : Spot) : Type 0 where
+  pub offset : ℕ
+  pub inside : offset + length shown ≤ length (b .set)
+  pub lies : spot ≡ record { block = setSpot .block; offset = setSpot .offset + offset }
+  pub shows : shown ≡ part (b .set) offset (length shown)
+  pub kind : isEndpoint shown ≡ true
+  pub long : byte shown 0 ≡ length shown
+  pub good : goodEndpoint fullSpeed shown ≡ true
+
+-- address and attributes, as an endpoint descriptor has them and as the configuration lists them
+abbrev pair : ℕ → ℕ → ℕ × ℕ
+pair address attributes = (address, attributes)
+
+abbrev pub described : List ℕ → ℕ × ℕ
+described d = pair (bEndpointAddress d) (bmAttributes d)
+
+abbrev pub listed : Endpoint → ℕ × ℕ
+listed e = pair (e .address) (e .attributes)
+
+-- each two, by what is known of each
+pairs-then : {A : Type 0} (r s : A → A → Bool) (l : List A) → ((x y : A) → List·Memᴰ x l → List·Memᴰ y l → r x y ≡ true → s x y ≡ true) → pairs r l ≡ true → pairs s l ≡ true
+unfolding pairs
+pairs-then r s [] h p = refl
+pairs-then r s (x ∷ l) h p =
+    let (q, t) = pairs-split r x l p in
+    joined (member-every (s x) l (λ y m. h x y (List·Memᴰ·head refl) (List·Memᴰ·tail m) (every-member (r x) q m))) (pairs-then r s l (λ y z m k. h y z (List·Memᴰ·tail m) (List·Memᴰ·tail k)) t)
+
+-- ---- an answer is a refusal, or the part of a descriptor of the list
+module _ (b : Board) (image : List ℕ) (k : ℕ) where
+  abbrev ds : List DescriptorAt
+  ds = endpointDescriptors (b .set) (deviceOf image)
+
+  record There : Type 0 where
+    at : DescriptorAt
+    member : List·Memᴰ at ds
+    opens : openingOf b ≡ 0
+    answer : endpointOn b image k ≡ SetPart (at .offset) (length (at .bytes))
+    allowed : allowsEndpoint b image 0 ≡ true
+
+  record Refusal : Type 0 where
+    number : ℕ
+    nonzero : number ≡ 0 → ⊥
+    answer : endpointOn b image k ≡ Refused number
+    allowed : allowsEndpoint b image number ≡ true
+
+  past : accepted b ≡ true → length image ≡ 32 → fitsOn b (deviceOf image) ≡ true → endpointOn b image k ≡ endpointPart (getElem? ds k)
+  unfolding endpointOn endpoint
+  past p l f = rw (eq-eqb (length image) 32 l, p, f)
+
+  either-way : Refusal ⊎ There
+  unfolding endpointOn endpoint
+  either-way = cases (accepted b)
+      (λ p. cases (eqb (length image) 32)
+      (λ l. cases (fitsOn b (deviceOf image))
+      (λ f. go p l f (getElem? ds k) refl)
+      (λ f. inl (record { number = 8; nonzero = λ z. omega arith; answer = rw (p, l, f); allowed = rw (p, l, f) })))
+      (λ l. inl (record { number = 8; nonzero = λ z. omega arith; answer = rw (p, l); allowed = rw (p, l) })))
+      (λ p. cases (eqb (length image) 32)
+      (λ l. inl (record { number = 7; nonzero = λ z. omega arith; answer = rw (p, l); allowed = rw p }))
+      (λ l. inl (record { number = 7; nonzero = λ z. omega arith; answer = rw (p, l); allowed = rw p })))
+    where
+      go : accepted b ≡ true → eqb (length image) 32 ≡ true → fitsOn b (deviceOf image) ≡ true → (o : Option DescriptorAt) → getElem? ds k ≡ o → Refusal ⊎ There
+      go p l f none e = inl (record { number = 16; nonzero = λ z. omega arith; answer = rw (p, l, f, e); allowed = rw (p, l, f) })
+      go p l f (some x) e = inr (record { at = x; member = at-member ds k e; opens = eqb-true (openingOf b) 0 p; answer = rw (p, l, f, e); allowed = rw (p, l, f) })
+
+-- ---- one call
+module _ {b : Board} {setSpot : Spot} {image : List ℕ} {k n : ℕ} {shown : List ℕ} {spot : Spot} (g : GivesEndpoint b setSpot image k n shown spot) where
+  -- demand 1: the number; a refusal shows the set's first 0 bytes
+  pub endpointNumber : allowsEndpoint b image n ≡ true
+  endpointNumber = go (either-way b image k)
+    where
+      go : Refusal b image k ⊎ There b image k → allowsEndpoint b image n ≡ true
+      go (inl r) = let e : n ≡ r .number = g .number ∙ rw (r .answer) in rw e (r .allowed)
+      go (inr t) = let e : n ≡ 0 = g .number ∙ rw (t .answer) in rw e (t .allowed)
+
+  pub endpointRefused : (n ≡ 0 → ⊥) → (shown ≡ []) × (spot ≡ setSpot)
+  endpointRefused nonzero = go (either-way b image k)
+    where
+      go : Refusal b image k ⊎ There b image k → (shown ≡ []) × (spot ≡ setSpot)
+      go (inl r) = (g .shows ∙ rw (r .answer), g .lies ∙ rw (r .answer) (ap (λ (o : ℕ). record { block = setSpot .block; offset = o }) (add-zero (setSpot .offset))))
+      go (inr t) = absurd (nonzero (g .number ∙ rw (t .answer)))
+
+  -- every part is an endpoint descriptor inside the set
+  pub endpointGiven : n ≡ 0 → EndpointIn b setSpot shown spot
+  endpointGiven z = go (either-way b image k)
+    where
+      go : Refusal b image k ⊎ There b image k → EndpointIn b setSpot shown spot
+      go (inl r) = absurd (r .nonzero (sym (g .number ∙ rw (r .answer)) ∙ z))
+      go (inr t) =
+          let p = t .at in
+          let s = stands b (t .opens) (deviceOf image) p (t .member) in
+          let e : shown ≡ p .bytes = g .shows ∙ rw (t .answer) (s .shown) in
+          rw e (record {
+            offset = p .offset;
+            inside = s .inside;
+            lies = g .lies ∙ rw (t .answer);
+            shows = sym (s .shown);
+            kind = s .kind;
+            long = s .long;
+            good = s .good;
+          })
+
+-- after an opening, of whatever 32 bytes, and whatever events: never 8
+pub endpointNeverEight : (b : Board) → Bytes (b .set) → {image : List ℕ} → Reached b image → {setSpot : Spot} {k n : ℕ} {shown : List ℕ} {spot : Spot}
+    → GivesEndpoint b setSpot image k n shown spot → n ≡ 8 → ⊥
+endpointNeverEight b bytes {image} r g e = cases (accepted b)
+    (λ p. let f = reachedFits b bytes p r in never {a = true} refl (sym (rw (e, p, eq-eqb (length image) 32 (f .long), f .fit) at (endpointNumber g))))
+    (λ p. never {a = true} refl (sym (rw (e, p) at (endpointNumber g))))
+
+-- ---- the list of descriptors is the list of the current endpoints, one for one
+module _ (b : Board) (bytes : Bytes (b .set)) (ok : accepted b ≡ true) (d : Device) where
+  opens : openingOf b ≡ 0
+  opens = eqb-true (openingOf b) 0 ok
+
+  module _ {A : Type 0} (f : ℕ → ℕ → A) where
+    abbrev said : DescriptorAt → A
+    said p = f (bEndpointAddress (p .bytes)) (bmAttributes (p .bytes))
+
+    abbrev has : Endpoint → A
+    has e = f (e .address) (e .attributes)
+
+    moved : (e : Entry) (l : List DescriptorAt) → map said (map (inSet e) l) ≡ map said l
+    moved e [] = refl
+    moved e (p ∷ l) = ap (_∷_ (said p)) (moved e l)
+
+    in-entry : (o : Option Entry) → selectedEntry (b .set) d ≡ o → map said (endpointsIn (b .set) d o) ≡ map has (currentEndpoints (viewOf b) d)
+    unfolding configurationOf groupsOf grouped endpointsOf cutAfter descriptorsOf only
+    in-entry none e =
+        let s : [] ≡ selectedBody (b .set) (d .configuration) = rw e in
+        rw (← is-selected b d s)
+    in-entry (some x) e =
+        let body = bodyOf (b .set) x in
+        let s : body ≡ selectedBody (b .set) (d .configuration) = rw e in
+        let well : wellCut (cut body) ≡ true = rw s (usable b bytes opens (d .configuration) .whole) in
+        moved x (currentDescriptors (d .alternates) body) ∙ named (d .alternates) body well f ∙ ap (λ c. map has (currentOf (d .alternates) c)) (is-selected b d s)
+
+    -- outside Configured a record that fits selects nothing
+    pub sameEndpoints : fitsOn b d ≡ true → map said (endpointDescriptors (b .set) d) ≡ map has (currentEndpoints (viewOf b) d)
+    unfolding endpointDescriptors only
+    sameEndpoints fit = go (eqb (d .state) inConfigured) refl
+      where
+        nothing-there : (d .state ≡ inConfigured → ⊥) → currentEndpoints (viewOf b) d ≡ []
+        nothing-there n = rw (zero-selects (b .set) (viewOf b) (sound b bytes ok) (d .configuration) (unselected (viewOf b) d fit n))
+
+        go : (t : Bool) → eqb (d .state) inConfigured ≡ t → map said (pick t (endpointsIn (b .set) d (selectedEntry (b .set) d)) []) ≡ map has (currentEndpoints (viewOf b) d)
+        go true p = in-entry (selectedEntry (b .set) d) refl
+        go false p = rw (nothing-there (eqb-false (d .state) inConfigured p))
+
+  -- one lies before the other in the set
+  shifted : (e : Entry) (l : List DescriptorAt) → pairs before-it l ≡ true → pairs before-it (map (inSet e) l) ≡ true
+  shifted e l p = sym (pairs-map before-it (inSet e) l) ∙ pairs-then before-it (λ x y. before-it (inSet e x) (inSet e y)) l
+      (λ x y m k q. let h : x .offset + length (x .bytes) ≤ y .offset = leb-true _ _ q in le-leb (e .offset + x .offset + length (x .bytes)) (e .offset + y .offset) (omega arith)) p
+
+  pub inOrder : pairs before-it (endpointDescriptors (b .set) d) ≡ true
+  unfolding endpointDescriptors pairs
+  inOrder = go (eqb (d .state) inConfigured) (selectedEntry (b .set) d) refl
+    where
+      go : (t : Bool) (o : Option Entry) → selectedEntry (b .set) d ≡ o → pairs before-it (pick t (endpointsIn (b .set) d o) []) ≡ true
+      go false o e = refl
+      go true none e = refl
+      go true (some x) e =
+          let body = bodyOf (b .set) x in
+          let s : body ≡ selectedBody (b .set) (d .configuration) = rw e in
+          let well : wellCut (cut body) ≡ true = rw s (usable b bytes opens (d .configuration) .whole) in
+          shifted x (currentDescriptors (d .alternates) body) (ordered (d .alternates) body well)
+
+  -- no two current endpoints have one address
+  apart-current : (l : List Endpoint) → pairs apart l ≡ true → pairs (λ e f. differ (e .address) (f .address)) (only (isCurrent (d .alternates)) l) ≡ true
+  unfolding pairs only
+  apart-current [] p = refl
+  apart-current (x ∷ l) p = let (q, r) = pairs-split apart x l p in go (isCurrent (d .alternates) x) refl q (apart-current l r)
+    where
+      other : (y : Endpoint) → isCurrent (d .alternates) x ≡ true → isCurrent (d .alternates) y ≡ true → apart x y ≡ true → x .address ≡ y .address → ⊥
+      other y c e t i =
+          let (j, k) = both (eqb (x .interface) (y .interface)) (not (eqb (x .alternate) (y .alternate))) (if-then (eqb (x .address) (y .address)) _ t (eq-eqb (x .address) (y .address) i)) in
+          let same : x .interface ≡ y .interface = eqb-true (x .interface) (y .interface) j in
+          let mine : x .alternate ≡ getD (d .alternates) (x .interface) 0 = eqb-true (x .alternate) _ c in
+          let its : y .alternate ≡ getD (d .alternates) (y .interface) 0 = eqb-true (y .alternate) _ e in
+          let one : x .alternate ≡ y .alternate = mine ∙ ap (λ (n : ℕ). getD (d .alternates) n 0) same ∙ sym its in
+          eqb-false (x .alternate) (y .alternate) (not-true _ k) one
+
+      go : (t : Bool) → isCurrent (d .alternates) x ≡ t → every (apart x) l ≡ true → pairs (λ e f. differ (e .address) (f .address)) (only (isCurrent (d .alternates)) l) ≡ true
+          → pairs (λ e f. differ (e .address) (f .address)) (pick t (x ∷ only (isCurrent (d .alternates)) l) (only (isCurrent (d .alternates)) l)) ≡ true
+      go true c q r = joined (member-every (λ f. differ (x .address) (f .address)) (only (isCurrent (d .alternates)) l)
+          (λ y m. let (k, e) = only-member (isCurrent (d .alternates)) l m in differs (x .address) (y .address) (other y c e (every-member (apart x) q k)))) r
+      go false c q r = r
+
+  pub addressesDiffer : pairs (λ e f. differ (e .address) (f .address)) (currentEndpoints (viewOf b) d) ≡ true
+  addressesDiffer = apart-current (selected (viewOf b) d .endpoints) (soundSelected (b .set) (viewOf b) (sound b bytes ok) d .distinct)
+
+  -- and there are 30 addresses: numbers 1 to 15, OUT and IN
+  abbrev slot : ℕ → ℕ
+  slot a = a % 16 - 1 + 15 * (a / 128)
+
+  pub atMostThirty : length (currentEndpoints (viewOf b) d) ≤ 30
+  atMostThirty =
+      let es = currentEndpoints (viewOf b) d in
+      let sound = soundSelected (b .set) (viewOf b) (sound b bytes ok) d in
+      let in-it : (e : Endpoint) → List·Memᴰ e es → List·Memᴰ e (selected (viewOf b) d .endpoints) = λ e m. only-member (isCurrent (d .alternates)) (selected (viewOf b) d .endpoints) m .0 in
+      let one : pairs (λ e f. differ (slot (e .address)) (slot (f .address))) es ≡ true = pairs-then (λ e f. differ (e .address) (f .address)) (λ e f. differ (slot (e .address)) (slot (f .address))) es
+          (λ e f m k q. differs (slot (e .address)) (slot (f .address)) (λ i. unequal (e .address) (f .address) q
+          (slots (e .address) (f .address) (sound .addresses e (in-it e m)) (sound .addresses f (in-it f k)) (sound .octets e (in-it e m)) (sound .octets f (in-it f k)) i))) addressesDiffer in
+      let few : (x : ℕ) → List·Memᴰ x (map (λ e. slot (e .address)) es) → x < 30 = λ x m.
+          let (e, k, i) = mapped (λ e. slot (e .address)) es m in
+          rw i (slot-small (e .address) (sound .octets e (in-it e k))) in
+      rw (← length-map es (λ e. slot (e .address))) (no-more 30 (map (λ e. slot (e .address)) es) few (sym (pairs-map differ (λ e. slot (e .address)) es) ∙ one))
+    where
+      slot-small : (a : ℕ) → a < 256 → slot a < 30
+      slot-small a h = omega (arith, h)
+
+      -- an address is its number and its direction
+      composed : (a : ℕ) → goodAddress a ≡ true → a < 256 → (a ≡ 128 * (a / 128) + a % 16) × (1 ≤ a % 16)
+      composed a p h =
+          let (q, r) = both (eqb (a / 16 % 8) 0) (leb 1 (a % 16)) p in
+          let z = eqb-true (a / 16 % 8) 0 q in
+          (omega (arith, z, h), leb-true 1 (a % 16) r)
+
+      parted : (m n u v : ℕ) → 1 ≤ m → m < 16 → 1 ≤ n → n < 16 → m - 1 + 15 * u ≡ n - 1 + 15 * v → (u ≡ v) × (m ≡ n)
+      parted m n u v a h c k i = let e : u ≡ v = omega arith in (e, omega (arith, e))
+
+      slots : (a c : ℕ) → goodAddress a ≡ true → goodAddress c ≡ true → a < 256 → c < 256 → slot a ≡ slot c → a ≡ c
+      slots a c p q g h i =
+          let (ea, la) = composed a p g in
+          let (ec, lc) = composed c q h in
+          let (u, m) = parted (a % 16) (c % 16) (a / 128) (c / 128) la (omega arith) lc (omega arith) i in
+          ea ∙ rw (u, m) (sym ec)
+
+-- ---- counting up from 0 on an image that fits
+module _ (b : Board) (bytes : Bytes (b .set)) (ok : accepted b ≡ true) {image : List ℕ} (f : FitImage b image) (setSpot : Spot)
+    (number : ℕ → ℕ) (shown : ℕ → List ℕ) (spot : ℕ → Spot) (gives : (k : ℕ) → GivesEndpoint b setSpot image k (number k) (shown k) (spot k)) where
+  abbrev endpoints : List Endpoint
+  endpoints = currentEndpoints (viewOf b) (deviceOf image)
+
+  abbrev all : List DescriptorAt
+  all = endpointDescriptors (b .set) (deviceOf image)
+
+  same-count : length all ≡ length endpoints
+  same-count = sym (length-map all _) ∙ ap length (sameEndpoints b bytes ok (deviceOf image) (λ address attributes. address) (f .fit)) ∙ length-map endpoints _
+
+  gave : (k : ℕ) → endpointOn b image k ≡ endpointPart (getElem? all k)
+  gave k = past b image k ok (f .long) (f .fit)
+
+  -- there are at most 30, so a number of one byte counts them all
+  pub endpointsFew : length endpoints ≤ 30
+  endpointsFew = atMostThirty b bytes ok (deviceOf image)
+
+  pub endpointsThere : (k : ℕ) → k < length endpoints → number k ≡ 0
+  endpointsThere k h = let (x, e) = at-inside all k (omega (arith, same-count, h)) in gives k .number ∙ rw (gave k, e)
+
+  pub endpointsEnd : (k : ℕ) → length endpoints ≤ k → number k ≡ 16
+  endpointsEnd k h = gives k .number ∙ rw (gave k, at-beyond all k (omega (arith, same-count, h)))
+
+  shows-at : (k : ℕ) (x : DescriptorAt) → getElem? all k ≡ some x → shown k ≡ x .bytes
+  shows-at k x e = gives k .shows ∙ rw (gave k, e) (stands b (opens b bytes ok (deviceOf image)) (deviceOf image) x (at-member all k e) .shown)
+
+  -- the parts tell the address and the attributes of each current endpoint, one for one, in the set's order
+  pub endpointsAll : map (λ k. described (shown k)) (upTo (length endpoints)) ≡ map listed endpoints
+  endpointsAll = rw (← same-count)
+      (told (λ k. described (shown k)) (λ p. described (p .bytes)) all (λ k x e. ap described (shows-at k x e)) ∙ sameEndpoints b bytes ok (deviceOf image) pair (f .fit))
+
+  -- each once: the parts lie one after the other, and no two have one address
+  module _ (j k : ℕ) (before : j < k) (there : k < length endpoints) where
+    pub endpointsAfter : spot j .offset + length (shown j) ≤ spot k .offset
+    endpointsAfter =
+        let (x, p) = at-inside all j (omega (arith, same-count, before, there)) in
+        let (y, q) = at-inside all k (omega (arith, same-count, there)) in
+        let l : x .offset + length (x .bytes) ≤ y .offset = leb-true _ _ (pairs-at before-it all (inOrder b bytes ok (deviceOf image)) j k p q before) in
+        rw (gives j .lies, gives k .lies, gave j, gave k, p, q, shows-at j x p) (omega arith)
+
+    pub endpointsApart : bEndpointAddress (shown j) ≡ bEndpointAddress (shown k) → ⊥
+    endpointsApart i =
+        let (x, p) = at-inside all j (omega (arith, same-count, before, there)) in
+        let (y, q) = at-inside all k (omega (arith, same-count, there)) in
+        let address : map (λ p. bEndpointAddress (p .bytes)) all ≡ map (λ e. e .address) endpoints = sameEndpoints b bytes ok (deviceOf image) (λ address attributes. address) (f .fit) in
+        let one : pairs differ (map (λ p. bEndpointAddress (p .bytes)) all) ≡ true = rw address (sym (pairs-map differ (λ e. e .address) endpoints) ∙ addressesDiffer b bytes ok (deviceOf image)) in
+        unequal _ _ (pairs-at (λ p q. differ (bEndpointAddress (p .bytes)) (bEndpointAddress (q .bytes))) all (pairs-map differ (λ p. bEndpointAddress (p .bytes)) all ∙ one) j k p q before)
+        (ap bEndpointAddress (sym (shows-at j x p)) ∙ i ∙ ap bEndpointAddress (shows-at k y q))
