@@ -39,20 +39,20 @@ describe d asked (Body offset size) = gives (SetPart offset (min size asked)) d
 describe d asked (Serial size) = gives (SerialPart (min size asked)) d
 describe d asked Nowhere = refused 13 d
 
-pub described : (v : View) (d : Device) (s : Setup) → getDescriptor v d s ≡ describe d (s .length) (locate v s)
+pub described : (v : View) (d : Device) (s : Setup) → getDescriptor v d s ≡ describe d (s .wLength) (locate v s)
 unfolding getDescriptor
 described v d s =
-    go (eqb (s .value / 256) 3) (leb 1 (s .value % 256) && eqb (s .value % 256) (v .serial)) (member (s .index) (v .languages)) (eqb (s .value / 256) 2) (eqb (s .value / 256) 1)
-    (first (isEntry 3 (s .value % 256) (languageFor (s .value % 256) (s .index))) (v .entries)) (entryByIndex (record { 0 = s .value % 256 }) (v .entries)) (first (isEntry 1 (s .value % 256) 0) (v .entries))
+    go (eqb (s .wValue / 256) 3) (leb 1 (s .wValue % 256) && eqb (s .wValue % 256) (v .serialIndex)) (member (s .wIndex) (v .languages)) (eqb (s .wValue / 256) 2) (eqb (s .wValue / 256) 1)
+    (first (isEntry 3 (s .wValue % 256) (languageFor (s .wValue % 256) (s .wIndex))) (v .entries)) (entryByIndex (record { 0 = s .wValue % 256 }) (v .entries)) (first (isEntry 1 (s .wValue % 256) 0) (v .entries))
   where
-    part : (o : Option Entry) → setPart d (s .length) o ≡ describe d (s .length) (bodyAt o)
+    part : (o : Option Entry) → setPart d (s .wLength) o ≡ describe d (s .wLength) (bodyAt o)
     part none = refl
     part (some e) = refl
 
     go : (string serial listed configuration device : Bool) (o p q : Option Entry)
-        → pick string (pick serial (pick listed (gives (SerialPart (min (v .block) (s .length))) d) (refused 13 d)) (setPart d (s .length) o))
-            (pick configuration (setPart d (s .length) p) (pick device (setPart d (s .length) q) (refused 13 d)))
-        ≡ describe d (s .length) (pick string (pick serial (pick listed (Serial (v .block)) Nowhere) (bodyAt o)) (pick configuration (bodyAt p) (pick device (bodyAt q) Nowhere)))
+        → pick string (pick serial (pick listed (gives (SerialPart (min (v .serialLength) (s .wLength))) d) (refused 13 d)) (setPart d (s .wLength) o))
+        (pick configuration (setPart d (s .wLength) p) (pick device (setPart d (s .wLength) q) (refused 13 d)))
+        ≡ describe d (s .wLength) (pick string (pick serial (pick listed (Serial (v .serialLength)) Nowhere) (bodyAt o)) (pick configuration (bodyAt p) (pick device (bodyAt q) Nowhere)))
     go true true true c e o p q = refl
     go true true false c e o p q = refl
     go true false l c e o p q = part o

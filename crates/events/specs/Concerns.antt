@@ -20,8 +20,8 @@ listedBy c address = Option·map (λ e. e .interface) (addressed address (c .end
 
 abbrev pub setupConcerns : Configuration → Setup → Option ℕ
 setupConcerns c s =
-    pick (eqb (recipient s) 1) (pick (hasInterface c (s .index)) (some (s .index)) none)
-    (pick (eqb (recipient s) 2) (listedBy c (s .index)) none)
+    pick (eqb (recipient s) 1) (pick (hasInterface c (s .wIndex)) (some (s .wIndex)) none)
+    (pick (eqb (recipient s) 2) (listedBy c (s .wIndex)) none)
 
 abbrev pub eventConcerns : Configuration → Event → Option ℕ
 eventConcerns c (Request s) = setupConcerns c s

@@ -56,8 +56,8 @@ abbrev sent : Event → Answer → List ℕ
 sent (Request s) Done = []
 sent (Request s) (OneByte a) = []
 sent (Request s) (TwoBytes a b) = []
-sent (Request s) (SetPart offset size) = packetLengths size (s .length) 8
-sent (Request s) (SerialPart size) = packetLengths size (s .length) 8
+sent (Request s) (SetPart offset size) = packetLengths size (s .wLength) 8
+sent (Request s) (SerialPart size) = packetLengths size (s .wLength) 8
 sent (Request s) (Refused n) = []
 sent Malformed a = []
 sent StatusEnd a = []

@@ -39,7 +39,7 @@ pub data Answered (v : View) (d : Device) : Outcome → Type 0 where
   reads : (a : Answer) → numberOf a ≡ 0 → partOf a ≡ emptyPart → Answered v d (gives a d)
   refusedWith : (n : ℕ) → 10 ≤ n → n ≤ 14 → Answered v d (refused n d)
   fromSet : (e : Entry) (asked : ℕ) → List·Memᴰ e (v .entries) → Answered v d (gives (SetPart (e .offset) (min (e .length) asked)) d)
-  fromSerial : (asked : ℕ) → Answered v d (gives (SerialPart (min (v .block) asked)) d)
+  fromSerial : (asked : ℕ) → Answered v d (gives (SerialPart (min (v .serialLength) asked)) d)
   wakeup : (on : ℕ) → on ≤ 1 → wakes v ≡ true → Answered v d (done (withWakeup on d))
   haltSet : (e : Endpoint) → List·Memᴰ e (currentEndpoints v d) → canHalt e ≡ true → Answered v d (done (setHalt d (bitOf (e .address))))
   haltCleared : (e : Endpoint) → List·Memᴰ e (currentEndpoints v d) → canHalt e ≡ true → Answered v d (done (clearHalt d (bitOf (e .address))))
@@ -69,7 +69,7 @@ chosen P false p q = q refl
 -- ---- the table: what holds of a setup that it lets through
 -- a rule of the table's rows, of the row that let a setup through
 ruled : (f : Row → Bool) → every f table ≡ true → (state : ℕ) (s : Setup) → refusal state s ≡ 0
-    → (r : Row) × (f r ≡ true) × (r .code ≡ s .code) × (inState r state ≡ true) × (fieldsFit r s ≡ true)
+    → (r : Row) × (f r ≡ true) × (r .code ≡ s .bRequest) × (inState r state ≡ true) × (fieldsFit r s ≡ true)
 unfolding refusal
 ruled f p state s q = go (rowOf s) refl q
   where
@@ -82,26 +82,26 @@ ruled f p state s q = go (rowOf s) refl q
         within false b e = absurd (omega arith)
 
     go : (o : Option Row) → rowOf s ≡ o → refusalAt o state s ≡ 0
-        → (r : Row) × (f r ≡ true) × (r .code ≡ s .code) × (inState r state ≡ true) × (fieldsFit r s ≡ true)
+        → (r : Row) × (f r ≡ true) × (r .code ≡ s .bRequest) × (inState r state ≡ true) × (fieldsFit r s ≡ true)
     go none e z = absurd (omega arith)
     go (some r) e z =
-        let (m, t) = first-some (λ r. eqb (r .kind) (s .kind) && eqb (r .code) (s .code)) table e in
-        let (k, c) = both (eqb (r .kind) (s .kind)) (eqb (r .code) (s .code)) t in
+        let (m, t) = first-some (λ r. eqb (r .kind) (s .bmRequestType) && eqb (r .code) (s .bRequest)) table e in
+        let (k, c) = both (eqb (r .kind) (s .bmRequestType)) (eqb (r .code) (s .bRequest)) t in
         let (i, h) = passed r z in
-        (r, every-member f p m, eqb-true (r .code) (s .code) c, i, h)
+        (r, every-member f p m, eqb-true (r .code) (s .bRequest) c, i, h)
 
 -- 05 is for Default and Address alone, with an address up to 127; 09 is not for Default
-addressAllowed : (state : ℕ) (s : Setup) → refusal state s ≡ 0 → s .code ≡ 5 → (s .value ≤ 127) × (state ≤ 1)
+addressAllowed : (state : ℕ) (s : Setup) → refusal state s ≡ 0 → s .bRequest ≡ 5 → (s .wValue ≤ 127) × (state ≤ 1)
 unfolding every
 addressAllowed state s p c =
     let (r, f, k, i, h) = ruled (λ r. eqb (r .code) 5 ⇒ leb (r .value) 127 && leb (r .highest) 1) refl state s p in
     let f′ = if-then (eqb (r .code) 5) (leb (r .value) 127 && leb (r .highest) 1) f (eq-eqb (r .code) 5 (k ∙ c)) in
     let (a, b) = both (leb (r .value) 127) (leb (r .highest) 1) f′ in
-    let t = leb-true (s .value) (r .value) (conjunct 0 (leb (s .value) (r .value) ∷ _ ∷ _ ∷ _ ∷ []) h) in
+    let t = leb-true (s .wValue) (r .value) (conjunct 0 (leb (s .wValue) (r .value) ∷ _ ∷ _ ∷ _ ∷ []) h) in
     let u = leb-true state (r .highest) (both (leb (r .lowest) state) (leb state (r .highest)) i .1) in
     (omega (arith, leb-true (r .value) 127 a), omega (arith, leb-true (r .highest) 1 b))
 
-configurationAllowed : (state : ℕ) (s : Setup) → refusal state s ≡ 0 → s .code ≡ 9 → 1 ≤ state
+configurationAllowed : (state : ℕ) (s : Setup) → refusal state s ≡ 0 → s .bRequest ≡ 9 → 1 ≤ state
 unfolding every
 configurationAllowed state s p c =
     let (r, f, k, i, h) = ruled (λ r. eqb (r .code) 9 ⇒ leb 1 (r .lowest)) refl state s p in
@@ -137,8 +137,8 @@ module _ (v : View) (d : Device) (s : Setup) where
   status : Answered v d (getStatus v d s)
   unfolding getStatus
   status = recipients (reads _ refl refl)
-      (chosen (Answered v d) (hasInterface (selected v d) (s .index)) (λ e. reads _ refl refl) (λ e. missing))
-      (chosen (Answered v d) (isEndpointZero (s .index)) (λ e. reads _ refl refl) (λ e. at (endpointAt v d (s .index))))
+      (chosen (Answered v d) (hasInterface (selected v d) (s .wIndex)) (λ e. reads _ refl refl) (λ e. missing))
+      (chosen (Answered v d) (isEndpointZero (s .wIndex)) (λ e. reads _ refl refl) (λ e. at (endpointAt v d (s .wIndex))))
     where
       at : (o : Option Endpoint) → Answered v d (endpointStatus d o)
       at none = missing
@@ -148,50 +148,50 @@ module _ (v : View) (d : Device) (s : Setup) where
       → ((e : Endpoint) → List·Memᴰ e (currentEndpoints v d) → canHalt e ≡ true → Answered v d (done (change d (bitOf (e .address)))))
       → Answered v d (byRecipient s (deviceFeature on v d s) (interfaceFeature v d s) (endpointFeature change v d s))
   features change on l changed = recipients
-      (chosen (Answered v d) (eqb (s .value) 1 && wakes v) (λ e. wakeup on l (both (eqb (s .value) 1) (wakes v) e .1)) (λ e. noFeature))
-      (chosen (Answered v d) (hasInterface (selected v d) (s .index)) (λ e. noFeature) (λ e. missing))
-      (chosen (Answered v d) (isEndpointZero (s .index)) (λ e. noFeature) (λ e. at (endpointAt v d (s .index)) refl))
+      (chosen (Answered v d) (eqb (s .wValue) 1 && wakes v) (λ e. wakeup on l (both (eqb (s .wValue) 1) (wakes v) e .1)) (λ e. noFeature))
+      (chosen (Answered v d) (hasInterface (selected v d) (s .wIndex)) (λ e. noFeature) (λ e. missing))
+      (chosen (Answered v d) (isEndpointZero (s .wIndex)) (λ e. noFeature) (λ e. at (endpointAt v d (s .wIndex)) refl))
     where
-      at : (o : Option Endpoint) → endpointAt v d (s .index) ≡ o → Answered v d (haltFeature change d s o)
+      at : (o : Option Endpoint) → endpointAt v d (s .wIndex) ≡ o → Answered v d (haltFeature change d s o)
       at none e = missing
-      at (some x) e = chosen (Answered v d) (eqb (s .value) 0 && canHalt x)
-          (λ t. changed x (first-some (λ x. eqb (x .address) (s .index)) (currentEndpoints v d) e .0) (both (eqb (s .value) 0) (canHalt x) t .1)) (λ t. noFeature)
+      at (some x) e = chosen (Answered v d) (eqb (s .wValue) 0 && canHalt x)
+          (λ t. changed x (first-some (λ x. eqb (x .address) (s .wIndex)) (currentEndpoints v d) e .0) (both (eqb (s .wValue) 0) (canHalt x) t .1)) (λ t. noFeature)
 
   descriptors : Answered v d (getDescriptor v d s)
   unfolding getDescriptor
-  descriptors = chosen (Answered v d) (eqb (s .value / 256) 3)
-      (λ e. chosen (Answered v d) (leb 1 (s .value % 256) && eqb (s .value % 256) (v .serial))
-      (λ e. chosen (Answered v d) (member (s .index) (v .languages)) (λ e. fromSerial (s .length)) (λ e. missing))
-      (λ e. at 3 (s .value % 256) (languageFor (s .value % 256) (s .index)) _ refl))
-      (λ e. chosen (Answered v d) (eqb (s .value / 256) 2) (λ e. numbered (record { 0 = s .value % 256 }) _ refl)
-      (λ e. chosen (Answered v d) (eqb (s .value / 256) 1) (λ e. at 1 (s .value % 256) 0 _ refl)
+  descriptors = chosen (Answered v d) (eqb (s .wValue / 256) 3)
+      (λ e. chosen (Answered v d) (leb 1 (s .wValue % 256) && eqb (s .wValue % 256) (v .serialIndex))
+      (λ e. chosen (Answered v d) (member (s .wIndex) (v .languages)) (λ e. fromSerial (s .wLength)) (λ e. missing))
+      (λ e. at 3 (s .wValue % 256) (languageFor (s .wValue % 256) (s .wIndex)) _ refl))
+      (λ e. chosen (Answered v d) (eqb (s .wValue / 256) 2) (λ e. numbered (record { 0 = s .wValue % 256 }) _ refl)
+      (λ e. chosen (Answered v d) (eqb (s .wValue / 256) 1) (λ e. at 1 (s .wValue % 256) 0 _ refl)
       (λ e. missing)))
     where
-      numbered : (i : ConfigurationIndex) (o : Option Entry) → entryByIndex i (v .entries) ≡ o → Answered v d (setPart d (s .length) o)
+      numbered : (i : ConfigurationIndex) (o : Option Entry) → entryByIndex i (v .entries) ≡ o → Answered v d (setPart d (s .wLength) o)
       numbered i none e = missing
-      numbered i (some x) e = fromSet x (s .length) (by-index-member i (v .entries) e)
+      numbered i (some x) e = fromSet x (s .wLength) (by-index-member i (v .entries) e)
 
-      at : (kind index language : ℕ) (o : Option Entry) → first (isEntry kind index language) (v .entries) ≡ o → Answered v d (setPart d (s .length) o)
+      at : (kind index language : ℕ) (o : Option Entry) → first (isEntry kind index language) (v .entries) ≡ o → Answered v d (setPart d (s .wLength) o)
       at kind index language none e = missing
-      at kind index language (some x) e = fromSet x (s .length) (first-some (isEntry kind index language) (v .entries) e .0)
+      at kind index language (some x) e = fromSet x (s .wLength) (first-some (isEntry kind index language) (v .entries) e .0)
 
   configurations : 1 ≤ d .state → Answered v d (setConfiguration v d s)
   unfolding setConfiguration
-  configurations l = chosen (Answered v d) (eqb (s .value) 0) (λ e. unconfigures l)
-      (λ e. chosen (Answered v d) (any (λ c. eqb (c .value) (s .value)) (v .configurations)) (λ e. configures (s .value) l e) (λ e. missing))
+  configurations l = chosen (Answered v d) (eqb (s .wValue) 0) (λ e. unconfigures l)
+      (λ e. chosen (Answered v d) (any (λ c. eqb (c .value) (s .wValue)) (v .configurations)) (λ e. configures (s .wValue) l e) (λ e. missing))
 
   answered : refusal (d .state) s ≡ 0 → Answered v d (request v d s)
   unfolding request clearFeature setFeature setAddress getConfiguration getInterface setInterface
   answered p =
-      chosen (Answered v d) (eqb (s .code) 0x00) (λ e. status)
-      (λ e. chosen (Answered v d) (eqb (s .code) 0x01) (λ e. features clearHalt 0 (lit≤ tt) haltCleared)
-      (λ e. chosen (Answered v d) (eqb (s .code) 0x03) (λ e. features setHalt 1 (lit≤ tt) haltSet)
-      (λ e. chosen (Answered v d) (eqb (s .code) 0x05) (λ e. let (a, b) = addressAllowed (d .state) s p (eqb-true (s .code) 5 e) in waits (s .value) a b)
-      (λ e. chosen (Answered v d) (eqb (s .code) 0x06) (λ e. descriptors)
-      (λ e. chosen (Answered v d) (eqb (s .code) 0x08) (λ e. reads _ refl refl)
-      (λ e. chosen (Answered v d) (eqb (s .code) 0x09) (λ e. configurations (configurationAllowed (d .state) s p (eqb-true (s .code) 9 e)))
-      (λ e. chosen (Answered v d) (eqb (s .code) 0x0A) (λ e. chosen (Answered v d) (hasInterface (selected v d) (s .index)) (λ e. reads _ refl refl) (λ e. missing))
-      (λ e. chosen (Answered v d) (hasSetting (selected v d) (s .index) (s .value)) (λ e. sets (s .index) (s .value) e) (λ e. missing)))))))))
+      chosen (Answered v d) (eqb (s .bRequest) 0x00) (λ e. status)
+      (λ e. chosen (Answered v d) (eqb (s .bRequest) 0x01) (λ e. features clearHalt 0 (lit≤ tt) haltCleared)
+      (λ e. chosen (Answered v d) (eqb (s .bRequest) 0x03) (λ e. features setHalt 1 (lit≤ tt) haltSet)
+      (λ e. chosen (Answered v d) (eqb (s .bRequest) 0x05) (λ e. let (a, b) = addressAllowed (d .state) s p (eqb-true (s .bRequest) 5 e) in waits (s .wValue) a b)
+      (λ e. chosen (Answered v d) (eqb (s .bRequest) 0x06) (λ e. descriptors)
+      (λ e. chosen (Answered v d) (eqb (s .bRequest) 0x08) (λ e. reads _ refl refl)
+      (λ e. chosen (Answered v d) (eqb (s .bRequest) 0x09) (λ e. configurations (configurationAllowed (d .state) s p (eqb-true (s .bRequest) 9 e)))
+      (λ e. chosen (Answered v d) (eqb (s .bRequest) 0x0A) (λ e. chosen (Answered v d) (hasInterface (selected v d) (s .wIndex)) (λ e. reads _ refl refl) (λ e. missing))
+      (λ e. chosen (Answered v d) (hasSetting (selected v d) (s .wIndex) (s .wValue)) (λ e. sets (s .wIndex) (s .wValue) e) (λ e. missing)))))))))
 
 -- ---- the events
 module _ (v : View) (d : Device) where

@@ -15,16 +15,16 @@ use Rattle.requests.specs.Table.{table, rowOf, refusalAt, refusal}
 
 -- what holds of every row's type and code holds of a setup that the table does not refuse
 tabled : (P : ℕ → ℕ → Bool) → every (λ r. P (r .kind) (r .code)) table ≡ true
-    → (state : ℕ) (s : Setup) → refusal state s ≡ 0 → P (s .kind) (s .code) ≡ true
+    → (state : ℕ) (s : Setup) → refusal state s ≡ 0 → P (s .bmRequestType) (s .bRequest) ≡ true
 unfolding refusal
 tabled P all state s p = go (rowOf s) refl p
   where
-    go : (o : Option Row) → rowOf s ≡ o → refusalAt o state s ≡ 0 → P (s .kind) (s .code) ≡ true
+    go : (o : Option Row) → rowOf s ≡ o → refusalAt o state s ≡ 0 → P (s .bmRequestType) (s .bRequest) ≡ true
     go none q n = absurd (omega arith)
     go (some r) q n =
-        let (m, e) = first-some (λ x. eqb (x .kind) (s .kind) && eqb (x .code) (s .code)) table q in
-        let (k, c) = both (eqb (r .kind) (s .kind)) (eqb (r .code) (s .code)) e in
-        rw (← (eqb-true (r .kind) (s .kind) k), ← (eqb-true (r .code) (s .code) c)) (every-member (λ x. P (x .kind) (x .code)) all m)
+        let (m, e) = first-some (λ x. eqb (x .kind) (s .bmRequestType) && eqb (x .code) (s .bRequest)) table q in
+        let (k, c) = both (eqb (r .kind) (s .bmRequestType)) (eqb (r .code) (s .bRequest)) e in
+        rw (← (eqb-true (r .kind) (s .bmRequestType) k), ← (eqb-true (r .code) (s .bRequest) c)) (every-member (λ x. P (x .kind) (x .code)) all m)
 
 -- the requests of a device alone; those of a device, an interface or an endpoint; the others are an interface's
 abbrev pub ofDevice : ℕ → Bool
@@ -38,17 +38,17 @@ inTable kind code = leb (kind % 32) 2 && (ofDevice code ⇒ eqb (kind % 32) 0) &
 
 pub record Tabled (s : Setup) : Type 0 where
   pub known : recipient s ≤ 2
-  pub alone : ofDevice (s .code) ≡ true → recipient s ≡ 0
-  pub other : ofDevice (s .code) ≡ false → ofAny (s .code) ≡ false → recipient s ≡ 1
+  pub alone : ofDevice (s .bRequest) ≡ true → recipient s ≡ 0
+  pub other : ofDevice (s .bRequest) ≡ false → ofAny (s .bRequest) ≡ false → recipient s ≡ 1
 
 pub table-fits : (state : ℕ) (s : Setup) → refusal state s ≡ 0 → Tabled s
 unfolding every
 table-fits state s p =
     let f = tabled inTable refl state s p in
-    let (g, c) = both (leb (recipient s) 2 && (ofDevice (s .code) ⇒ eqb (recipient s) 0)) _ f in
-    let (a, b) = both (leb (recipient s) 2) (ofDevice (s .code) ⇒ eqb (recipient s) 0) g in
+    let (g, c) = both (leb (recipient s) 2 && (ofDevice (s .bRequest) ⇒ eqb (recipient s) 0)) _ f in
+    let (a, b) = both (leb (recipient s) 2) (ofDevice (s .bRequest) ⇒ eqb (recipient s) 0) g in
     record {
       known = leb-true _ _ a;
-      alone = λ q. eqb-true _ _ (if-then (ofDevice (s .code)) (eqb (recipient s) 0) b q);
+      alone = λ q. eqb-true _ _ (if-then (ofDevice (s .bRequest)) (eqb (recipient s) 0) b q);
       other = λ q r. eqb-true _ _ (rw (q, r) at c);
     }
