@@ -96,10 +96,7 @@ fn powered(set: &[u8], body: &[u8], device: Device) -> bool
         → r ≡ bit (powering v device .attributes) 6) ⌝ }
 {
     if device.state == 1 {
-        return is_powered(body_found(
-            set,
-            configuration::by_index(set, ConfigurationIndex(0)),
-        ));
+        return is_powered(body_found(set, configuration::by_index(set, ConfigurationIndex(0))));
     }
     is_powered(body)
 }
