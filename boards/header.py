@@ -3,7 +3,7 @@
 The header says size_t, which is 32 bits wide there; the module takes lengths of 64 bits, and a part as a pointer and a 64-bit length in 16 bytes. The shim widens
 the one and narrows the other, for each prototype alike. It is compiled with the header, so that C's own rules hold it to the prototypes.
 """
-import re
+import re, sys
 
 from module import Unexpected
 
@@ -82,3 +82,7 @@ def whole_registers(text):
         text = re.sub(rf"^(?:{MAKERS}\s+)?{prototype.result}(\s+{prototype.name}\b)", r"unsigned long\1", text, flags=re.M)
     macros = "".join(f"#define {prototype.name}(...) a_byte({prototype.name}(__VA_ARGS__))\n" for prototype in found)
     return f"{text}\nuint8_t a_byte(unsigned long whole_register);\n{macros}"
+
+
+if __name__ == "__main__":
+    sys.stdout.write(whole_registers(sys.stdin.read()))

@@ -6,6 +6,7 @@ enum operation { OPEN = 1, CLOSE = 2, WRITE = 5, READ = 6, GET_COMMAND_LINE = 0x
 #define STOPPED_BY_EXIT 0x20026
 #define MODE_READ 1
 #define MODE_WRITE 5
+#define MODE_APPEND 9
 
 static uintptr_t semihosting(enum operation operation, const void *words) {
 #if defined(__thumb__)
@@ -31,7 +32,7 @@ static int open_file(const char *name, uint32_t mode) {
 
 static int handle_of(int file) {
     if (handles[file] < 0)
-        handles[file] = open_file(file == 0 ? "/dev/stdin" : "/dev/stdout", file == 0 ? MODE_READ : MODE_WRITE);
+        handles[file] = open_file(file == 0 ? "/dev/stdin" : "/dev/stdout", file == 0 ? MODE_READ : MODE_APPEND);
     return handles[file];
 }
 
@@ -142,9 +143,7 @@ static void put_argument(char kind, va_list *arguments, int width, char fill) {
     }
 }
 
-int printf(const char *format, ...) {
-    va_list arguments;
-    va_start(arguments, format);
+static void put_formatted(const char *format, va_list *arguments) {
     for (; *format != 0; format++) {
         if (*format != '%') {
             putchar(*format);
@@ -156,8 +155,24 @@ int printf(const char *format, ...) {
             width = 10 * width + *format - '0';
         while (*format == 'l' || *format == 'z')
             format++;
-        put_argument(*format, &arguments, width, fill);
+        put_argument(*format, arguments, width, fill);
     }
+}
+
+int printf(const char *format, ...) {
+    va_list arguments;
+    va_start(arguments, format);
+    put_formatted(format, &arguments);
+    va_end(arguments);
+    return 0;
+}
+
+/* There is one place to print to. */
+int fprintf(FILE *file, const char *format, ...) {
+    va_list arguments;
+    (void)file;
+    va_start(arguments, format);
+    put_formatted(format, &arguments);
     va_end(arguments);
     return 0;
 }

@@ -20,7 +20,9 @@ size_t strlen(const char *text);
 typedef struct bare_file {
     int handle;
 } FILE;
+#define stderr ((FILE *)NULL)
 int printf(const char *format, ...) __attribute__((format(printf, 1, 2)));
+int fprintf(FILE *file, const char *format, ...) __attribute__((format(printf, 2, 3)));
 int putchar(int character);
 int puts(const char *text);
 FILE *fopen(const char *name, const char *mode);
