@@ -19,6 +19,11 @@ typedef struct { const uint8_t *start; uint64_t length; } wide_part;
 _Static_assert(sizeof(size_t) == 4 && sizeof(void *) == 4, "a 32-bit processor");
 _Static_assert(sizeof(wide_part) == 16 && __builtin_offsetof(wide_part, length) == 8 && _Alignof(wide_part) == 8, "a slice as the module has it");
 _Static_assert(sizeof(hk_record) == 32 && _Alignof(hk_record) == 4, "a record as the module has it");
+
+#if defined(__arm__)
+/* Tag_ABI_VFP_args: nothing here is a floating-point number, so it links with firmware of either convention. */
+__asm__(".eabi_attribute 28, 3");
+#endif
 """
 
 

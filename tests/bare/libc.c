@@ -70,7 +70,7 @@ int fclose(FILE *file) {
     return (int)semihosting(CLOSE, words);
 }
 
-/* ---- printing: %c %d %s %u %x %X with a width and leading zeros */
+/* ---- printing: %c %d %s %u %x %X with a width and leading zeros; %.0f, which only a clock needs, is 0 */
 static char printed[1024];
 static size_t printed_length;
 
@@ -91,6 +91,10 @@ int putchar(int character) {
 static void put_text(const char *text) {
     while (*text != 0)
         putchar(*text++);
+}
+
+void perror(const char *text) {
+    puts(text);
 }
 
 int puts(const char *text) {
@@ -138,6 +142,10 @@ static void put_argument(char kind, va_list *arguments, int width, char fill) {
     case 'X':
         put_number(va_arg(*arguments, unsigned long), 16, width, fill, "0123456789ABCDEF");
         break;
+    case 'f':
+        (void)va_arg(*arguments, double);
+        putchar('0');
+        break;
     default:
         putchar(kind);
     }
@@ -153,7 +161,7 @@ static void put_formatted(const char *format, va_list *arguments) {
         int width = 0;
         for (; *format >= '0' && *format <= '9'; format++)
             width = 10 * width + *format - '0';
-        while (*format == 'l' || *format == 'z')
+        while (*format == 'l' || *format == 'z' || *format == '.' || *format == '0')
             format++;
         put_argument(*format, arguments, width, fill);
     }
@@ -247,13 +255,30 @@ size_t strlen(const char *text) {
     return length;
 }
 
+static int digit_of(char character) {
+    if (character >= '0' && character <= '9')
+        return character - '0';
+    character |= 0x20;
+    return character >= 'a' && character <= 'z' ? character - 'a' + 10 : 36;
+}
+
 unsigned long strtoul(const char *text, char **end, int base) {
     unsigned long number = 0;
-    for (; *text >= '0' && *text <= '9'; text++)
-        number = number * (unsigned)base + (unsigned long)(*text - '0');
+    for (; digit_of(*text) < base; text++)
+        number = number * (unsigned)base + (unsigned)digit_of(*text);
     if (end != NULL)
         *end = (char *)(uintptr_t)text;
     return number;
+}
+
+long strtol(const char *text, char **end, int base) {
+    return (long)strtoul(text, end, base);
+}
+
+int clock_gettime(int clock, struct timespec *now) {
+    (void)clock;
+    now->tv_sec = now->tv_nsec = 0;
+    return 0;
 }
 
 /* The words of the emulator's command line, the program's name first. */

@@ -29,11 +29,20 @@ FILE *fopen(const char *name, const char *mode);
 size_t fread(void *to, size_t each, size_t count, FILE *file);
 size_t fwrite(const void *from, size_t each, size_t count, FILE *file);
 int fclose(FILE *file);
+void perror(const char *text);
 
 /* stdlib.h */
 void *malloc(size_t length);
+long strtol(const char *text, char **end, int base);
 unsigned long strtoul(const char *text, char **end, int base);
 _Noreturn void exit(int status);
+
+/* time.h: there is no clock here, so it stands still */
+#define CLOCK_MONOTONIC 1
+struct timespec {
+    long tv_sec, tv_nsec;
+};
+int clock_gettime(int clock, struct timespec *now);
 
 /* unistd.h */
 ssize_t read(int file, void *to, size_t length);

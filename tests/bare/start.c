@@ -18,8 +18,15 @@ extern uint32_t stack_top;
 #define CONFIGURATION_AND_CONTROL ((volatile uint32_t *)0xE000ED14)
 #define TRAP_UNALIGNED (1u << 3)
 
+/* CPACR, coprocessors 10 and 11: the floating-point unit is on. */
+#define COPROCESSOR_ACCESS ((volatile uint32_t *)0xE000ED88)
+#define FLOATING_POINT (0xFu << 20)
+
 _Noreturn void start(void) {
     *CONFIGURATION_AND_CONTROL |= TRAP_UNALIGNED;
+#if defined(__ARM_FP)
+    *COPROCESSOR_ACCESS |= FLOATING_POINT;
+#endif
     begin();
 }
 
@@ -35,7 +42,7 @@ __attribute__((aligned(4), used)) static void trap(void) {
 }
 
 __attribute__((used)) static _Noreturn void begin_with_stack(void) {
-    __asm__ volatile("csrw mtvec, %0" : : "r"(trap));
+    __asm__ volatile(".option push\n.option arch, +zicsr\ncsrw mtvec, %0\n.option pop" : : "r"(trap));
     begin();
 }
 
