@@ -62,7 +62,10 @@ def retargeted(text):
     """The same without what ties it to x86-64. Results narrower than a register fill it with zeros, as C callers on other processors rely on."""
     for tie in TIES:
         text = re.sub(tie, "", text, flags=re.M)
-    return re.sub(r"^define noundef (i1|i8|i16) (@[a-z])", r"define noundef zeroext \1 \2", text, flags=re.M)
+    text = re.sub(r"^define noundef (i1|i8|i16) (@[a-z])", r"define noundef zeroext \1 \2", text, flags=re.M)
+    if re.search(r"^define (?!.*zeroext)[a-z ]*(i1|i8|i16) @[a-z]", text, re.M):
+        raise Unexpected("an export whose result is not filled up with zeros")
+    return text
 
 
 class Memory:
