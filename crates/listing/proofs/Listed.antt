@@ -15,7 +15,8 @@ use Rattle.sets.specs.Contents.{bodies}
 use Rattle.sets.specs.Opening.{Board, opening}
 use Rattle.sets.proofs.Groups.{groups}
 use Rattle.listing.specs.Listing.{line, refusedWord, acceptedLines, listing}
-use Rattle.listing.specs.Written.{Room, room, Wrote, Listed}
+use Rattle.writing.specs.Written.{Room, Wrote}
+use Rattle.listing.specs.Written.{room, Listed}
 use Rattle.listing.proofs.Bound.{good-bodies, listing-length}
 
 -- n is what opening answered
