@@ -1,0 +1,88 @@
+-- What the writer answers, case by case, in the terms of its contract. Assumes nothing.
+use Prim.Native.Nat.{ℕ, _+_, _-_, _*_, _≤_, _<_}
+use native.Mathlib.Nat.{sub-zero}
+use native.Mathlib.Omega.{arith}
+use mathlib.Core.Path.{_≡_, refl, sym, _∙_}
+use mathlib.Core.Bool.{Bool, true, false, _||_}
+use mathlib.Core.List.{List, _++_}
+use lib.ListN.{length, take, drop, length-take}
+use lib.Seq.{sets-eq, take-at, take-length}
+use lib.Dec.{ltb}
+use borrow.Author.Tests.{ne-eqb, eq-eqb, lt-ltb, le-ltb}
+use Rattle.octets.specs.Sentences.{pick}
+use Rattle.octets.proofs.Sentences.{or-left, or-right}
+use Rattle.descriptors.specs.declared.Limits.{Limits}
+use Rattle.sets.specs.Opening.{opening}
+use Rattle.pieces.specs.declared.Counted.the-variants.{Broken, Pieces}
+use Rattle.pieces.specs.Pieces.{ends, pieces}
+use Rattle.pieces.specs.Sorted.{sorted}
+use Rattle.pieces.specs.Laid.{total, laid}
+use Rattle.pieces.proofs.Laid.{laid-length}
+use Rattle.pieces.proofs.Sizes.{set-size}
+use Rattle.pieces.specs.Places.{countOf, piecesAt}
+use Rattle.writing.specs.Written as written
+use Rattle.set_writer.specs.Writer.{setOf, handing, writing, Filled}
+
+-- ---- handing over
+module _ (limits : Limits) (set serial out : List ℕ) (n : ℕ) (e : n ≡ opening limits (record { set = set; serial = serial })) where
+  pub refused : (n ≡ 0 → ⊥) → Filled set out out (handing limits set serial (length out)) 21
+  refused h = record { number = sym (rw (← e, ne-eqb n 0 h)); bytes = refl }
+
+  pub short : (n ≡ 0) → length out < length set → Filled set out out (handing limits set serial (length out)) 22
+  short h l = record { number = sym (rw (← e, eq-eqb n 0 h, lt-ltb (length out) (length set) l)); bytes = refl }
+
+  pub given : (n ≡ 0) → length set ≤ length out → {after : List ℕ} → after ≡ take (length set) set ++ drop (length set) out → Filled set out after (handing limits set serial (length out)) 0
+  given h l p = record { number = sym (rw (← e, eq-eqb n 0 h, le-ltb (length out) (length set) l)); bytes = p ∙ rw take-length }
+
+-- ---- building
+module _ (stream : List ℕ) (n : ℕ) (e : n ≡ length (pieces stream)) (order : List ℕ) (p : piecesAt stream (take (length (pieces stream)) order) ≡ sorted (pieces stream)) where
+  pub in-order : piecesAt stream (take (n - 0) order) ≡ sorted (pieces stream)
+  in-order = rw (sub-zero, e) p
+
+  pub few : n ≤ 64 → length (take (n - 0) order) < 256
+  few h = rw length-take (omega arith)
+
+  pub aside : (size : ℕ) → size ≡ total (sorted (pieces stream)) → (zeros scratch : List ℕ) (end : ℕ) → size ≤ length zeros
+      → written.Wrote zeros 0 (laid (piecesAt stream (take (n - 0) order))) scratch end → take (size - 0) scratch ≡ setOf stream
+  aside size q zeros scratch end h w =
+      let set = setOf stream in
+      let l : length set ≡ size = laid-length (sorted (pieces stream)) ∙ sym q in
+      let room : 0 + length set ≤ length zeros = omega arith in
+      rw (sub-zero, (rw in-order at (w .bytes)), sets-eq set zeros 0 room) (take-at set (drop (0 + length set) zeros) size l)
+
+-- ---- the whole
+module _ (stream : List ℕ) where
+  pub broken : countOf stream ≡ Broken → ends stream ≡ false
+  broken p = go (ends stream) p
+    where
+      go : (b : Bool) → pick b (Pieces (length (pieces stream))) Broken ≡ Broken → b ≡ false
+      go true q = let z : _≡_ {A = ℕ} 0 1 = cc in absurd (omega arith)
+      go false q = refl
+
+  pub whole : (n : ℕ) → countOf stream ≡ Pieces n → (ends stream ≡ true) × (n ≡ length (pieces stream))
+  whole n p = go (ends stream) p
+    where
+      go : (b : Bool) → pick b (Pieces (length (pieces stream))) Broken ≡ Pieces n → (b ≡ true) × (n ≡ length (pieces stream))
+      go true q = (refl, cc)
+      go false q = let z : _≡_ {A = ℕ} 0 1 = cc in absurd (omega arith)
+
+  pub set-length : ends stream ≡ true → length (setOf stream) ≡ 4 + 2 * length (pieces stream) + length stream
+  set-length p = laid-length (sorted (pieces stream)) ∙ set-size stream p
+
+  module _ (limits : Limits) (serial out : List ℕ) where
+    pub not-whole : ends stream ≡ false → Filled (setOf stream) out out (writing limits stream serial (length out)) 20
+    not-whole p = record { number = sym (rw p); bytes = refl }
+
+    module _ (p : ends stream ≡ true) where
+      over : (ltb 64 (length (pieces stream)) || ltb 16384 (length (setOf stream))) ≡ true → Filled (setOf stream) out out (writing limits stream serial (length out)) 21
+      over q = record { number = sym (rw (p, q)); bytes = refl }
+
+      pub many : 64 < length (pieces stream) → Filled (setOf stream) out out (writing limits stream serial (length out)) 21
+      many h = over (or-left (ltb 16384 (length (setOf stream))) (lt-ltb 64 (length (pieces stream)) h))
+
+      pub large : 16384 < length (setOf stream) → Filled (setOf stream) out out (writing limits stream serial (length out)) 21
+      large h = over (or-right (ltb 64 (length (pieces stream))) (lt-ltb 16384 (length (setOf stream)) h))
+
+      pub fitting : length (pieces stream) ≤ 64 → length (setOf stream) ≤ 16384 → {after : List ℕ} {r : ℕ}
+          → Filled (setOf stream) out after (handing limits (setOf stream) serial (length out)) r → Filled (setOf stream) out after (writing limits stream serial (length out)) r
+      fitting h k w = rw (p, le-ltb 64 (length (pieces stream)) h, le-ltb 16384 (length (setOf stream)) k) w
