@@ -5,7 +5,7 @@ use mathlib.Core.Path.{_≡_, refl, sym, ap, _∙_}
 use mathlib.Core.Bool.{true}
 use mathlib.Core.List.{List, [], _∷_, _++_, map}
 use lib.ListN.{length, take, drop, length-drop, length-map, take-append-drop, drop-of-length-le}
-use lib.Seq.{drop-drop, take-add, length-take-le, getD-drop}
+use lib.Seq.{drop-drop, take-add, length-take-le}
 use lib.Dec.{eqb, leb}
 use borrow.Author.Tests.{eqb-true, leb-true}
 use Rattle.octets.specs.Octets.{byte}
@@ -19,6 +19,7 @@ use Rattle.sets.proofs.Sound.{Bytes}
 use Rattle.pieces.specs.Laid as pieces
 use Rattle.pieces.specs.Laid.{entryBytes, contents, bodies, front, header, laid}
 use Rattle.pieces.proofs.Laid.{laid-parts}
+use Rattle.pieces.proofs.Bytewise.{drop-bytes}
 use Rattle.pieces.specs.Held.{pieceFor, piecesIn}
 
 low : (a b : ℕ) → a < 256 → (a + 256 * b) % 256 ≡ a
@@ -73,9 +74,6 @@ entry-again set bytes start small h o l =
       high (byte bytes 6) (byte bytes 7) (small 6),
     ) (first-eight bytes h)
 
-small-drop : (n : ℕ) (bytes : List ℕ) → Bytes bytes → Bytes (drop n bytes)
-small-drop n bytes small i = rw (getD-drop n bytes i 0) (small (n + i))
-
 contents-again : (set : List ℕ) (n start : ℕ) (bytes : List ℕ) → Bytes bytes → 8 * n ≤ length bytes → endToEnd start (length set) (entriesFrom n bytes) ≡ true
     → contents start (map (pieceFor set) (entriesFrom n bytes)) ≡ take (8 * n) bytes
 unfolding endToEnd entriesFrom contents
@@ -85,7 +83,7 @@ contents-again set (suc n) start bytes small h p =
     let es = entriesFrom n (drop 8 bytes) in
     let (o, q) = both (eqb (e .offset) start) (endToEnd (start + e .length) (length set) es) p in
     let l = body-size set e start (eqb-true (e .offset) start o) (up (start + e .length) (length set) es q) in
-    let later = contents-again set n (start + e .length) (drop 8 bytes) (small-drop 8 bytes small) (rw length-drop (omega arith)) q in
+    let later = contents-again set n (start + e .length) (drop 8 bytes) (drop-bytes 8 bytes small) (rw length-drop (omega arith)) q in
     let here = entry-again set bytes start small (omega arith) (eqb-true (e .offset) start o) l in
     let k : 8 * suc n ≡ 8 + 8 * n = omega arith in
     rw (k, take-add 8 (8 * n) bytes, ← here, ← later, l)
@@ -112,7 +110,7 @@ canonical limits set small f g =
     let n : length (piecesIn set) ≡ count set = length-map (entries set) (pieceFor set) ∙ entries-length (count set) (drop 4 set) in
     let b = bodies-again set (bodiesAt set) (entries set) laidOut in
     let inside : 8 * count set ≤ length (drop 4 set) = rw length-drop (omega arith) in
-    let c = contents-again set (count set) (bodiesAt set) (drop 4 set) (small-drop 4 set small) inside laidOut in
+    let c = contents-again set (count set) (bodiesAt set) (drop 4 set) (drop-bytes 4 set small) inside laidOut in
     let t : pieces.total (piecesIn set) ≡ total set = omega (arith, n, ap length b, length-drop (bodiesAt set) set) in
     let h : header (piecesIn set) ≡ take 4 set = rw (t, n, low (byte set 0) (byte set 1) (small 0), high (byte set 0) (byte set 1) (small 0)) (rw three at (first-four set four)) in
     let d : drop (bodiesAt set) set ≡ drop (8 * count set) (drop 4 set) = sym (drop-drop (8 * count set) 4 set) in

@@ -8,3 +8,4 @@ pub mod Precedes
 pub mod Order
 pub mod ReadBack
 pub mod Canonical
+pub mod Bytewise
