@@ -5,3 +5,4 @@ pub mod Runs
 pub mod Order
 pub mod InhabitedRuns
 pub mod Idle
+pub mod Makers

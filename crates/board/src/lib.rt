@@ -10,6 +10,7 @@ ghost use Rattle.events.specs.declared.Event.the-variants.{StatusEnd, BusReset,
 ghost use Rattle.board.specs.Lent.{numbered, Answers};
 ghost use Rattle.board.specs.Statements.{lent, Opens, Happens, Replies, Cuts, spotOf};
 
+mod makers;
 mod numbers;
 
 // Opens a set with its serial block: the image becomes the fresh record, whether they are accepted or not.

@@ -7,21 +7,23 @@ use mathlib.Core.Bool.{Bool, true, false, _||_}
 use mathlib.Core.List.{List, _++_}
 use lib.ListN.{length, take, drop, length-take}
 use lib.Seq.{sets-eq, take-at, take-length}
-use lib.Dec.{ltb}
+use lib.Dec.{eqb, ltb}
 use borrow.Author.Tests.{ne-eqb, eq-eqb, lt-ltb, le-ltb}
+use Rattle.octets.specs.Octets.{word}
 use Rattle.octets.specs.Sentences.{pick}
 use Rattle.octets.proofs.Sentences.{or-left, or-right}
 use Rattle.descriptors.specs.declared.Limits.{Limits}
 use Rattle.sets.specs.Opening.{opening}
 use Rattle.pieces.specs.declared.Counted.the-variants.{Broken, Pieces}
-use Rattle.pieces.specs.Pieces.{ends, pieces}
+use Rattle.pieces.specs.Pieces.{Piece, ends, pieces}
 use Rattle.pieces.specs.Sorted.{sorted}
 use Rattle.pieces.specs.Laid.{total, laid}
-use Rattle.pieces.proofs.Laid.{laid-length}
+use Rattle.pieces.proofs.Laid.{laid-parts, laid-length}
+use Rattle.pieces.proofs.Stream.{two-bytes}
 use Rattle.pieces.proofs.Sizes.{set-size}
 use Rattle.pieces.specs.Places.{countOf, piecesAt}
 use Rattle.writing.specs.Written as written
-use Rattle.set_writer.specs.Writer.{setOf, handing, writing, Filled}
+use Rattle.set_writer.specs.Writer.{setOf, handing, writing, Filled, lengthWritten}
 
 -- ---- handing over
 module _ (limits : Limits) (set serial out : List ℕ) (n : ℕ) (e : n ≡ opening limits (record { set = set; serial = serial })) where
@@ -86,3 +88,14 @@ module _ (stream : List ℕ) where
       pub fitting : length (pieces stream) ≤ 64 → length (setOf stream) ≤ 16384 → {after : List ℕ} {r : ℕ}
           → Filled (setOf stream) out after (handing limits (setOf stream) serial (length out)) r → Filled (setOf stream) out after (writing limits stream serial (length out)) r
       fitting h k w = rw (p, le-ltb 64 (length (pieces stream)) h, le-ltb 16384 (length (setOf stream)) k) w
+
+-- ---- the length of what was written
+laid-word : (ps : List Piece) (rest : List ℕ) → word (laid ps ++ rest) 0 ≡ length (laid ps)
+laid-word ps rest = rw (laid-parts ps) (two-bytes (total ps)) ∙ sym (laid-length ps)
+
+pub counted : {buffer after : List ℕ} {asked n : ℕ} (ps : List Piece) → Filled (laid ps) buffer after asked n → lengthWritten n after ≡ pick (eqb n 0) (length (laid ps)) 0
+counted {buffer} {after} {n = n} ps w = rw (w .bytes) (go (eqb n 0))
+  where
+    go : (b : Bool) → pick b (word (pick b (laid ps ++ drop (length (laid ps)) buffer) buffer) 0) 0 ≡ pick b (length (laid ps)) 0
+    go true = laid-word ps (drop (length (laid ps)) buffer)
+    go false = refl

@@ -5,6 +5,7 @@ use mathlib.Core.Bool.{Bool, _||_, not}
 use mathlib.Core.List.{List, _++_}
 use lib.ListN.{length, drop}
 use lib.Dec.{eqb, ltb}
+use Rattle.octets.specs.Octets.{word}
 use Rattle.octets.specs.Sentences.{pick}
 use Rattle.descriptors.specs.declared.Limits.{Limits}
 use Rattle.sets.specs.Opening.{opening}
@@ -35,3 +36,7 @@ writing limits stream serial room =
 pub record Filled (text buffer after : List ℕ) (asked answer : ℕ) : Type 0 where
   pub number : answer ≡ asked
   pub bytes : after ≡ pick (eqb answer 0) (text ++ drop (length text) buffer) buffer
+
+-- a working definition: the length of a set that was written, as its first two bytes say it
+abbrev pub lengthWritten : ℕ → List ℕ → ℕ
+lengthWritten answer after = pick (eqb answer 0) (word after 0) 0

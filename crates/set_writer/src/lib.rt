@@ -8,7 +8,7 @@ ghost use lib.ListN.{length};
 ghost use Rattle.pieces.specs.Pieces.{ends, pieces};
 ghost use Rattle.pieces.specs.Laid.{total};
 ghost use Rattle.pieces.specs.Sorted.{sorted};
-ghost use Rattle.set_writer.specs.Writer.{setOf, handing, writing, Filled};
+ghost use Rattle.set_writer.specs.Writer.{setOf, handing, writing, Filled, lengthWritten};
 
 // A set that is laid out goes into the buffer, if it would open and has room there.
 fn hand_over(set: &[u8], serial: &[u8], limits: Limits, out: &mut [u8]) -> u8
@@ -67,4 +67,14 @@ pub fn write(stream: &[u8], serial: &[u8], limits: Limits, out: &mut [u8]) -> u8
             assemble(stream, n, size, serial, limits, out)
         }
     }
+}
+
+// The length of what a call wrote at the buffer's start, which is a set's first two bytes; 0 after a refusal.
+pub fn length_written(number: u8, out: &[u8]) -> u16
+    ensures { λ r. ⌜ r ≡ lengthWritten number (now (out .entry)) ⌝ }
+{
+    if number == 0 {
+        return octets::word(out, 0);
+    }
+    0
 }
