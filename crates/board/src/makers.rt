@@ -7,7 +7,7 @@ ghost use Rattle.board.specs.Makers.{Writes};
 pub extern "C" fn hk_write(pieces: &[u8], serial: &[u8], buffer: &mut [u8], written: &mut u16) -> u8
     ensures { λ r. ⌜ Writes fullSpeed (now (pieces .entry)) (now (serial .entry)) (now (buffer .entry)) r (now (buffer .exit)) (now (written .exit)) ⌝ }
 {
-    let number = set_writer::write(pieces, serial, descriptors::full_speed(), buffer);
-    *written = set_writer::length_written(number, buffer);
-    number
+    let report = set_writer::write(pieces, serial, descriptors::full_speed(), buffer);
+    *written = set_writer::length_written(report.number, buffer);
+    report.number
 }

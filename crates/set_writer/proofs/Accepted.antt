@@ -3,7 +3,7 @@ use Prim.Native.Nat.{ℕ}
 use native.Mathlib.Omega.{arith}
 use mathlib.Core.Path.{_≡_, refl, sym, ap, _∙_}
 use mathlib.Core.Logic.{_⊎_, inl, inr, ⊎-elim}
-use mathlib.Core.Bool.{Bool, true, false, _&&_, _||_, not}
+use mathlib.Core.Bool.{Bool, true, false, _&&_, not}
 use mathlib.Core.Option.{some}
 use mathlib.Core.List.{List, [], _∷_, map, List·Memᴰ, List·Memᴰ·head, List·Memᴰ·tail, List·Memᴰ·cases-cons, List·Memᴰ·not-nil}
 use lib.ListN.{length}
@@ -29,7 +29,7 @@ use Rattle.pieces.proofs.Precedes.{transitive, unlike}
 use Rattle.pieces.proofs.ReadBack.{read-back}
 use Rattle.pieces.proofs.Shuffled.{back}
 use Rattle.pieces.proofs.Sizes.{sorted-length}
-use Rattle.set_writer.specs.Writer.{setOf, opensAs, handing, writing}
+use Rattle.set_writer.specs.Writer.{setOf, tooLarge, opensAs, handing, writing}
 
 -- ---- members of a list of images
 pub mapped : {A B : Type 0} (f : A → B) (xs : List A) {b : B} → List·Memᴰ b (map f xs) → (a : A) × List·Memᴰ a xs × (b ≡ f a)
@@ -48,7 +48,7 @@ picked false a b h p = (refl, p)
 pub zero-opens : (limits : Limits) (stream serial : List ℕ) (room : ℕ) → writing limits stream serial room ≡ 0 → opensAs limits (setOf stream) serial ≡ true
 zero-opens limits stream serial room p =
     let (a, q) = picked (not (ends stream)) 20 _ (omega arith) p in
-    let (b, r) = picked (ltb 64 (length (pieces stream)) || ltb 16384 (length (setOf stream))) 21 (handing limits (setOf stream) serial room) (omega arith) q in
+    let (b, r) = picked (tooLarge stream) 21 (handing limits (setOf stream) serial room) (omega arith) q in
     let (c, s) = picked (not (opensAs limits (setOf stream) serial)) 21 (pick (ltb room (length (setOf stream))) 22 0) (omega arith) r in
     not-false (opensAs limits (setOf stream) serial) c
 
@@ -100,7 +100,7 @@ module _ (limits : Limits) (s t : List ℕ) (r : Shuffled (pieces s) (pieces t))
       rw (e, l, same-sorted)
 
 pub answer-refused : (limits : Limits) (stream serial : List ℕ) (room : ℕ) → opensAs limits (setOf stream) serial ≡ false → writing limits stream serial room ≡ pick (not (ends stream)) 20 21
-answer-refused limits stream serial room p = rw p (ap (pick (not (ends stream)) 20) (go (ltb 64 (length (pieces stream)) || ltb 16384 (length (setOf stream)))))
+answer-refused limits stream serial room p = rw p (ap (pick (not (ends stream)) 20) (go (tooLarge stream)))
   where
     go : (b : Bool) → _≡_ {A = ℕ} (pick b 21 21) 21
     go true = refl

@@ -23,18 +23,23 @@ use Rattle.pieces.proofs.Stream.{two-bytes}
 use Rattle.pieces.proofs.Sizes.{set-size}
 use Rattle.pieces.specs.Places.{countOf, piecesAt}
 use Rattle.writing.specs.Written as written
-use Rattle.set_writer.specs.Writer.{setOf, handing, writing, Filled, lengthWritten}
+use Rattle.set_writer.specs.declared.Report.{Report}
+use Rattle.set_writer.specs.Writer.{setOf, tooLarge, Filled, lengthWritten}
+use Rattle.set_writer.specs.Reported.{Handed, Reported}
+
+abbrev pub answer : ℕ → ℕ → Report
+answer number opening = record { number = number; opening = opening }
 
 -- ---- handing over
 module _ (limits : Limits) (set serial out : List ℕ) (n : ℕ) (e : n ≡ opening limits (record { set = set; serial = serial })) where
-  pub refused : (n ≡ 0 → ⊥) → Filled set out out (handing limits set serial (length out)) 21
-  refused h = record { number = sym (rw (← e, ne-eqb n 0 h)); bytes = refl }
+  pub refused : (n ≡ 0 → ⊥) → Handed limits set serial out out (answer 21 n)
+  refused h = record { fills = record { number = sym (rw (← e, ne-eqb n 0 h)); bytes = refl }; why = e }
 
-  pub short : (n ≡ 0) → length out < length set → Filled set out out (handing limits set serial (length out)) 22
-  short h l = record { number = sym (rw (← e, eq-eqb n 0 h, lt-ltb (length out) (length set) l)); bytes = refl }
+  pub short : (n ≡ 0) → length out < length set → Handed limits set serial out out (answer 22 n)
+  short h l = record { fills = record { number = sym (rw (← e, eq-eqb n 0 h, lt-ltb (length out) (length set) l)); bytes = refl }; why = e }
 
-  pub given : (n ≡ 0) → length set ≤ length out → {after : List ℕ} → after ≡ take (length set) set ++ drop (length set) out → Filled set out after (handing limits set serial (length out)) 0
-  given h l p = record { number = sym (rw (← e, eq-eqb n 0 h, le-ltb (length out) (length set) l)); bytes = p ∙ rw take-length }
+  pub given : (n ≡ 0) → length set ≤ length out → {after : List ℕ} → after ≡ take (length set) set ++ drop (length set) out → Handed limits set serial out after (answer 0 n)
+  given h l p = record { fills = record { number = sym (rw (← e, eq-eqb n 0 h, le-ltb (length out) (length set) l)); bytes = p ∙ rw take-length }; why = e }
 
 -- ---- building
 module _ (stream : List ℕ) (n : ℕ) (e : n ≡ length (pieces stream)) (order : List ℕ) (p : piecesAt stream (take (length (pieces stream)) order) ≡ sorted (pieces stream)) where
@@ -72,22 +77,24 @@ module _ (stream : List ℕ) where
   set-length p = laid-length (sorted (pieces stream)) ∙ set-size stream p
 
   module _ (limits : Limits) (serial out : List ℕ) where
-    pub not-whole : ends stream ≡ false → Filled (setOf stream) out out (writing limits stream serial (length out)) 20
-    not-whole p = record { number = sym (rw p); bytes = refl }
+    pub not-whole : ends stream ≡ false → Reported limits stream serial out out (answer 20 0)
+    not-whole p = record { fills = record { number = sym (rw p); bytes = refl }; why = sym (rw p) }
 
     module _ (p : ends stream ≡ true) where
-      over : (ltb 64 (length (pieces stream)) || ltb 16384 (length (setOf stream))) ≡ true → Filled (setOf stream) out out (writing limits stream serial (length out)) 21
-      over q = record { number = sym (rw (p, q)); bytes = refl }
+      over : tooLarge stream ≡ true → Reported limits stream serial out out (answer 21 0)
+      over q = record { fills = record { number = sym (rw (p, q)); bytes = refl }; why = sym (rw (p, q)) }
 
-      pub many : 64 < length (pieces stream) → Filled (setOf stream) out out (writing limits stream serial (length out)) 21
+      pub many : 64 < length (pieces stream) → Reported limits stream serial out out (answer 21 0)
       many h = over (or-left (ltb 16384 (length (setOf stream))) (lt-ltb 64 (length (pieces stream)) h))
 
-      pub large : 16384 < length (setOf stream) → Filled (setOf stream) out out (writing limits stream serial (length out)) 21
+      pub large : 16384 < length (setOf stream) → Reported limits stream serial out out (answer 21 0)
       large h = over (or-right (ltb 64 (length (pieces stream))) (lt-ltb 16384 (length (setOf stream)) h))
 
-      pub fitting : length (pieces stream) ≤ 64 → length (setOf stream) ≤ 16384 → {after : List ℕ} {r : ℕ}
-          → Filled (setOf stream) out after (handing limits (setOf stream) serial (length out)) r → Filled (setOf stream) out after (writing limits stream serial (length out)) r
-      fitting h k w = rw (p, le-ltb 64 (length (pieces stream)) h, le-ltb 16384 (length (setOf stream)) k) w
+      pub fitting : length (pieces stream) ≤ 64 → length (setOf stream) ≤ 16384 → {after : List ℕ} {r : Report} → Handed limits (setOf stream) serial out after r → Reported limits stream serial out after r
+      fitting h k w =
+          let few = le-ltb 64 (length (pieces stream)) h in
+          let small = le-ltb 16384 (length (setOf stream)) k in
+          record { fills = rw (p, few, small) (w .fills); why = rw (p, few, small) (w .why) }
 
 -- ---- the length of what was written
 laid-word : (ps : List Piece) (rest : List ℕ) → word (laid ps ++ rest) 0 ≡ length (laid ps)

@@ -21,6 +21,10 @@ setOf stream = laid (sorted (pieces stream))
 abbrev pub opensAs : Limits → List ℕ → List ℕ → Bool
 opensAs limits set serial = eqb (opening limits (record { set = set; serial = serial })) 0
 
+-- "over 64 pieces or 16,384 bytes"
+abbrev pub tooLarge : List ℕ → Bool
+tooLarge stream = ltb 64 (length (pieces stream)) || ltb 16384 (length (setOf stream))
+
 -- "the opener would refuse the resulting set", then "buffer too short"
 abbrev pub handing : Limits → List ℕ → List ℕ → ℕ → ℕ
 handing limits set serial room = pick (not (opensAs limits set serial)) 21 (pick (ltb room (length set)) 22 0)
@@ -29,7 +33,7 @@ handing limits set serial room = pick (not (opensAs limits set serial)) 21 (pick
 abbrev pub writing : Limits → List ℕ → List ℕ → ℕ → ℕ
 writing limits stream serial room =
     pick (not (ends stream)) 20
-    (pick (ltb 64 (length (pieces stream)) || ltb 16384 (length (setOf stream))) 21
+    (pick (tooLarge stream) 21
     (handing limits (setOf stream) serial room))
 
 -- what a call leaves that fills a lent buffer: its number; "Bytes past the set stay as they were", and after a refusal "the buffer is then untouched"

@@ -8,20 +8,34 @@ ghost use lib.ListN.{length};
 ghost use Rattle.pieces.specs.Pieces.{ends, pieces};
 ghost use Rattle.pieces.specs.Laid.{total};
 ghost use Rattle.pieces.specs.Sorted.{sorted};
-ghost use Rattle.set_writer.specs.Writer.{setOf, handing, writing, Filled, lengthWritten};
+ghost use Rattle.set_writer.specs.Writer.{setOf, lengthWritten};
+ghost use Rattle.set_writer.specs.Reported.{Handed, Reported};
+
+// What the writer answers: its number, and the opening number of the set that the pieces make, which says why 21; 0 where no set was made.
+pub struct Report {
+    pub number: u8,
+    pub opening: u8,
+}
+
+fn answer(number: u8, opening: u8) -> Report
+    ensures { λ r. ⌜ r ≡ record { number = number; opening = opening } ⌝ }
+{
+    Report { number, opening }
+}
 
 // A set that is laid out goes into the buffer, if it would open and has room there.
-fn hand_over(set: &[u8], serial: &[u8], limits: Limits, out: &mut [u8]) -> u8
-    ensures { λ r. ⌜ Filled (now (set .entry)) (now (out .entry)) (now (out .exit)) (handing limits (now (set .entry)) (now (serial .entry)) (length (now (out .entry)))) r ⌝ }
+fn hand_over(set: &[u8], serial: &[u8], limits: Limits, out: &mut [u8]) -> Report
+    ensures { λ r. ⌜ Handed limits (now (set .entry)) (now (serial .entry)) (now (out .entry)) (now (out .exit)) r ⌝ }
 {
-    if sets::opening(set, serial, limits) != 0 {
-        return 21;
+    let opening = sets::opening(set, serial, limits);
+    if opening != 0 {
+        return answer(21, opening);
     }
     if out.len() < set.len() {
-        return 22;
+        return answer(22, opening);
     }
     bytes::copy(set, out);
-    0
+    answer(0, opening)
 }
 
 // The set of n pieces, of `size` bytes: sorted, laid out aside, and handed over.
@@ -32,13 +46,13 @@ fn assemble(
     serial: &[u8],
     limits: Limits,
     out: &mut [u8],
-) -> u8
+) -> Report
     requires { ⌜ ends (now stream) ≡ true ⌝ }
     requires { ⌜ n ≡ length (pieces (now stream)) ⌝ }
     requires { ⌜ n ≤ 64 ⌝ }
     requires { ⌜ size ≡ total (sorted (pieces (now stream))) ⌝ }
     requires { ⌜ size ≤ 16384 ⌝ }
-    ensures { λ r. ⌜ Filled (setOf (now (stream .entry))) (now (out .entry)) (now (out .exit)) (handing limits (setOf (now (stream .entry))) (now (serial .entry)) (length (now (out .entry)))) r ⌝ }
+    ensures { λ r. ⌜ Handed limits (setOf (now (stream .entry))) (now (serial .entry)) (now (out .entry)) (now (out .exit)) r ⌝ }
 {
     let mut order = [0usize; 64];
     pieces::sorting::sort(stream, &mut order);
@@ -48,21 +62,21 @@ fn assemble(
 }
 
 // The set of a stream of pieces, at the buffer's start: 0, or 20, 21 or 22 with the buffer untouched.
-pub fn write(stream: &[u8], serial: &[u8], limits: Limits, out: &mut [u8]) -> u8
-    ensures { λ r. ⌜ Filled (setOf (now (stream .entry))) (now (out .entry)) (now (out .exit)) (writing limits (now (stream .entry)) (now (serial .entry)) (length (now (out .entry)))) r ⌝ }
+pub fn write(stream: &[u8], serial: &[u8], limits: Limits, out: &mut [u8]) -> Report
+    ensures { λ r. ⌜ Reported limits (now (stream .entry)) (now (serial .entry)) (now (out .entry)) (now (out .exit)) r ⌝ }
 {
     match pieces::count(stream) {
-        Counted::Broken => 20,
+        Counted::Broken => answer(20, 0),
         Counted::Pieces(n) => {
             if 64 < n {
-                return 21;
+                return answer(21, 0);
             }
             if 16384 < stream.len() {
-                return 21;
+                return answer(21, 0);
             }
             let size = 4 + 2 * n + stream.len();
             if 16384 < size {
-                return 21;
+                return answer(21, 0);
             }
             assemble(stream, n, size, serial, limits, out)
         }

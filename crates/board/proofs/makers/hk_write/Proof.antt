@@ -22,7 +22,7 @@ same-length c = search needs
 returns : tie.Need-returns
 returns c =
     let s = c .before .before .before .before .before .before .before .before .before .before in
-    let w = rw (c .before .before .before .before .before .before .full-speed .ensures) at (c .before .before .before .before .write .ensures) in
+    let w = rw (c .before .before .before .before .before .before .full-speed .ensures) at (c .before .before .before .before .write .ensures .fills) in
     record { fills = w; counts = c .length-written .ensures ∙ counted (sorted (pieces (s .args .pieces .now))) w }
 
 pub hk-write-spec : {M : Type 1} → statement M
