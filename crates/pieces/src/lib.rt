@@ -25,7 +25,7 @@ pub fn tail(bytes: &[u8], at: usize) -> &[u8]
     &bytes[0..0]
 }
 
-fn head(bytes: &[u8], size: usize) -> &[u8]
+pub fn head(bytes: &[u8], size: usize) -> &[u8]
     ensures { λ r. ⌜ now r ≡ take size (now (bytes .entry)) ⌝ }
 {
     if size <= bytes.len() {
