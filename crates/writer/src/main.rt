@@ -1,7 +1,6 @@
 // The writer: reads pieces.bin and unit.bin where it is run and writes set.bin, or says which piece stands in the way.
 mod told;
 
-use libc::STDOUT_FILENO;
 use told::say;
 use told::say_number;
 ghost use Rattle.io.specs.Counts.{Counts};
