@@ -52,6 +52,9 @@ extern "C" {
 #define HK_NO_SUCH_FEATURE 14         /* STALL: feature not there for this recipient */
 #define HK_NO_SUCH_PACKET 15          /* packet: size, lengths or packet number */
 #define HK_ENDPOINT_UNFIT 16          /* function event on an unfit endpoint */
+#define HK_PIECES_BROKEN 20           /* makers: the pieces do not end where their lengths say */
+#define HK_SET_REFUSED 21             /* makers: over 64 pieces or 16,384 bytes, or hk_open would refuse the set */
+#define HK_BUFFER_TOO_SHORT 22        /* makers: the set is longer than the buffer */
 
 /* Bytes in memory that the caller lent. Test length, not start: the start of an empty part is NULL only where NULL was
  * lent. */
@@ -160,6 +163,21 @@ uint8_t hk_record_event(const uint8_t *set, size_t set_length, const uint8_t *se
  * out by counting number up until HK_NO_SUCH_PACKET. A reply of 0 bytes where 0 are asked has no packet. */
 uint8_t hk_packet(const uint8_t *reply, size_t reply_length, uint16_t asked, uint32_t size, uint32_t number,
                   hk_part *packet);
+
+/* ---- For makers, on a bench computer: these calls have an array of 16,384 bytes in their frame, and are no board's. */
+
+/* Writes a set from its pieces, so that nobody counts offsets: contents and bodies, sorted as hk_open asks.
+ *
+ * pieces holds them end to end, in any order. A piece is its type (1 device, 2 configuration, 3 string), its index, its
+ * language (2 bytes), the length of its body (2 bytes), and the body; a number of 2 bytes has its low byte first. serial
+ * is the serial block that the set is to open with.
+ *
+ * HK_DONE: the set stands at the buffer's start, *written bytes long, and opens with this serial block; the bytes behind
+ * it are as they were. HK_PIECES_BROKEN, HK_SET_REFUSED, HK_BUFFER_TOO_SHORT: the first of these that holds, in this
+ * order; the buffer is as it was, and *written is 0. A buffer of 16,384 bytes is never too short. To learn why a set is
+ * refused, use the program `writer`. The buffer and written overlap nothing else that is passed. */
+uint8_t hk_write(const uint8_t *pieces, size_t pieces_length, const uint8_t *serial, size_t serial_length,
+                 uint8_t *buffer, size_t buffer_length, uint16_t *written);
 
 #ifdef __cplusplus
 }

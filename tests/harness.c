@@ -37,7 +37,7 @@ typedef struct block {
     size_t start, length;
 } block;
 
-static block set, serial, image, setup, bytes, count, part, reply;
+static block set, serial, image, setup, bytes, count, part, reply, pieces, written;
 
 /* What a hk_part points to before the call, so that it shows whether the call wrote it. */
 static const uint8_t decoy[1];
@@ -278,8 +278,22 @@ static void call_packet(uint8_t flags) {
     put_number(0);
 }
 
+/* The buffer is lent as the image is: it is given back whole. */
+static void call_write(uint8_t flags) {
+    static const uint8_t no_answer[2];
+    take_block(&pieces, flags);
+    take_block(&image, flags);
+    place_unwritten(&written, sizeof(uint16_t), flags, sizeof(uint16_t));
+    uint16_t *length = (uint16_t *)(void *)(written.room + written.start);
+    uint8_t number = hk_write(lent(&pieces, flags), pieces.length, lent(&serial, flags), serial.length,
+                              lent(&image, flags), image.length, length);
+    int kept = lent_blocks_kept() && unchanged(&pieces) && guards_unchanged(&written);
+    respond(kept ? 0 : BYTES_CHANGED, number, no_answer, 0, 0, 0, *length);
+    respond_with_image();
+}
+
 int main(void) {
-    block *blocks[] = {&set, &serial, &image, &setup, &bytes, &count, &part, &reply};
+    block *blocks[] = {&set, &serial, &image, &setup, &bytes, &count, &part, &reply, &pieces, &written};
     int stopping[] = {SIGSEGV, SIGBUS, SIGILL, SIGTRAP, SIGFPE, SIGABRT};
     for (size_t at = 0; at < sizeof blocks / sizeof *blocks; at++)
         make_room(blocks[at]);
@@ -299,6 +313,9 @@ int main(void) {
             break;
         case 'k':
             call_packet(flags);
+            break;
+        case 'w':
+            call_write(flags);
             break;
         case 'o': case 'e': case 'r': case 'h': case 'p':
             call_event(operation, flags);

@@ -9,6 +9,7 @@ ghost use Rattle.events.specs.Step.{event};
 ghost use Rattle.events.specs.declared.Event.the-variants.{StatusEnd, BusReset, Halt, PacketPassed};
 ghost use Rattle.board.specs.Exports.{Opens, Happens, AnswersSetup, CutsPacket, spotOf, numbered, AnswersRecordEvent};
 
+mod makers;
 mod numbers;
 
 // Opens a set with its serial block: the image becomes the fresh record, whether they are accepted or not.

@@ -4,12 +4,14 @@ use crate::events::{Block, Event, Lent, Outcome, Part};
 use crate::fault::Fault;
 use crate::octets::hex;
 use crate::packets;
+use crate::writer;
 
 #[derive(Clone, PartialEq, Eq, Debug)]
 pub enum Call {
     Open { image: Vec<u8> },
     Event { image: Vec<u8>, event: Event },
     Packet { reply_length: usize, asked: u16, size: u32, packet: u32 },
+    Write { pieces: Vec<u8>, buffer: Vec<u8> },
 }
 
 impl Call {
@@ -20,6 +22,7 @@ impl Call {
             Call::Packet { reply_length, asked, size, packet } => {
                 cut(packets::packet(*reply_length, *asked, *size, *packet, lent.fault))
             }
+            Call::Write { pieces, buffer } => writer::write(pieces, &lent.serial, buffer, lent.fault),
         }
     }
 
@@ -31,14 +34,15 @@ impl Call {
             Call::Packet { reply_length, asked, size, packet } => {
                 format!("packet {reply_length} {asked} {size} {packet}")
             }
+            Call::Write { pieces, buffer } => format!("write {} {}", hex(pieces), hex(buffer)),
         }
     }
 
-    /// The image that is lent; packets need none.
+    /// The image that is lent; packets and pieces need none.
     pub fn image(&self) -> &[u8] {
         match self {
             Call::Open { image } | Call::Event { image, .. } => image,
-            Call::Packet { .. } => &[],
+            Call::Packet { .. } | Call::Write { .. } => &[],
         }
     }
 
@@ -52,6 +56,7 @@ impl Call {
                 let (offset, length) = part.map_or((0, 0), |part| (part.offset, part.length));
                 format!("{number} {offset} {length}")
             }
+            Call::Write { .. } => format!("{number} {} {}", part.map_or(0, |part| part.length), hex(image)),
         }
     }
 }

@@ -4,7 +4,7 @@ use crate::octets::kebab;
 
 macro_rules! faults {
     ($($part:ident { $($fault:ident)* })*) => {
-        /// A deviation from document 01, or none.
+        /// A deviation from document 01 or 02, or none.
         #[derive(Clone, Copy, PartialEq, Eq, Debug)]
         pub enum Fault { None, $($($fault,)*)* }
 
@@ -58,6 +58,11 @@ faults! {
         PacketSize24Passes ReplyLongerThanAskedPasses PacketNumberOneMore LastPacketWhole
         EmptyPacketStartsAtReply ReplyLengthSixteenBits PacketNumberSixteenBits
     }
+    WRITER {
+        LanguagesComparedAsBytes PieceTwicePasses ShortBufferBeforeRefusal BytePastSetWritten OffsetsFromTheBodies
+        SixtyFourthPieceRefused LongestWrittenOneLess SizeBeforeWholeStream LastPieceMayBeCut RoomForOneMore
+        WrittenWithoutSerial RefusalTouchesBuffer
+    }
     LISTER {
         AttributesInsteadOfTransferType PacketSizeByLowByte IndexInsteadOfValue FirstSettingsOnly
         SettingsInsteadOfInterfaces
@@ -67,7 +72,7 @@ faults! {
 impl Fault {
     /// All that show at the C boundary.
     pub fn at_boundary() -> impl Iterator<Item = Fault> {
-        [OPENING, EVENTS, PACKETS].into_iter().flatten().copied()
+        [OPENING, EVENTS, PACKETS, WRITER].into_iter().flatten().copied()
     }
 
     pub fn name(self) -> String {

@@ -1,4 +1,4 @@
-//! An implementation of document 01 that shares no line with the proved library, and the tests that it makes possible.
+//! An implementation of document 01, and of document 02 as far as it has landed, that shares no line with the proved library, and the tests that it makes possible.
 
 mod call;
 mod commands;
@@ -11,6 +11,7 @@ mod events;
 mod fault;
 mod files;
 mod lister;
+mod makers;
 mod octets;
 mod opening;
 mod packets;
@@ -23,6 +24,7 @@ mod rule;
 mod runs;
 mod serve;
 mod vectors;
+mod writer;
 
 use std::process::ExitCode;
 

@@ -55,9 +55,12 @@ pub fn run(text: &str, ask: &mut dyn FnMut(&Lent, &Call)) -> Tally {
 }
 
 impl Script {
-    /// A line that lends: set, serial or record.
+    /// A line that lends: set, serial or record. A remark lends nothing, and the rules in force are those that are built in.
     fn lend(&mut self, line: &str) -> Option<()> {
         let (what, bytes) = line.split_once(' ')?;
+        if what == "#" || what == "rules" {
+            return Some(());
+        }
         let bytes = from_hex(bytes)?;
         match what {
             "set" => self.lent = Lent::new(bytes, self.lent.serial.clone(), Fault::None),
@@ -81,6 +84,10 @@ impl Script {
                 let numbers = numbers(&words[1..])?;
                 Some(self.tell_call(packet_call(numbers.get(..3)?, *numbers.get(3)?)?))
             }
+            "write" => {
+                let (pieces, buffer) = (from_hex(words.get(1)?)?, from_hex(words.get(2)?)?);
+                Some(self.tell_call(Call::Write { pieces, buffer }))
+            }
             "count" => tell_count(&numbers(&words[1..])?),
             "list" => told(hex(list(&self.lent.set, &self.lent.serial, Fault::None).as_bytes())),
             "fits" => told(u8::from(self.fits()).to_string()),
@@ -93,7 +100,7 @@ impl Script {
     fn tell_call(&mut self, call: Call) -> Told {
         let outcome = call.answer(&self.lent);
         let text = call.answer_words(&outcome);
-        if !matches!(call, Call::Packet { .. }) {
+        if matches!(call, Call::Open { .. } | Call::Event { .. }) {
             self.record = outcome.image;
         }
         Told { text, calls: vec![call] }

@@ -1,0 +1,13 @@
+// The calls for makers, on a bench computer: these may use an array of a set's length in their frame.
+ghost use Rattle.descriptors.specs.Limits.{fullSpeed};
+ghost use Rattle.board.specs.Makers.{Writes};
+
+// Pieces end to end, in any order, become a set at the buffer's start.
+#[no_mangle]
+pub extern "C" fn hk_write(pieces: &[u8], serial: &[u8], buffer: &mut [u8], written: &mut u16) -> u8
+    ensures { λ r. ⌜ Writes fullSpeed (now (pieces .entry)) (now (serial .entry)) (now (buffer .entry)) r (now (buffer .exit)) (now (written .exit)) ⌝ }
+{
+    let report = set_writer::write(pieces, serial, descriptors::full_speed(), buffer);
+    *written = set_writer::length_written(report.number, buffer);
+    report.number
+}
