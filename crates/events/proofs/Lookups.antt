@@ -51,7 +51,7 @@ described v d s =
 
     go : (string serial listed configuration device : Bool) (o p q : Option Entry)
         → pick string (pick serial (pick listed (gives (SerialPart (min (v .serialLength) (s .wLength))) d) (refused 13 d)) (setPart d (s .wLength) o))
-            (pick configuration (setPart d (s .wLength) p) (pick device (setPart d (s .wLength) q) (refused 13 d)))
+        (pick configuration (setPart d (s .wLength) p) (pick device (setPart d (s .wLength) q) (refused 13 d)))
         ≡ describe d (s .wLength) (pick string (pick serial (pick listed (Serial (v .serialLength)) Nowhere) (bodyAt o)) (pick configuration (bodyAt p) (pick device (bodyAt q) Nowhere)))
     go true true true c e o p q = refl
     go true true false c e o p q = refl
