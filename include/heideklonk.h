@@ -66,6 +66,10 @@ typedef struct hk_part {
 /* Initialises a hk_part: hk_part part = HK_NO_PART; */
 #define HK_NO_PART { (const uint8_t *)"", 0 }
 
+/* Marks a maker's call: it runs on a maker's computer, may take more than 1,024 bytes of stack, and stands in an object of
+ * its own in a board's archive, which a board that does not call it does not link. */
+#define HK_MAKERS
+
 /* Power-on: checks the set and the serial block, and makes the image the fresh record (state Default, address 0).
  *
  * HK_DONE: acceptable. HK_FRAME_BROKEN to HK_SERIAL_BROKEN: the first group of rules that is broken. In all these cases
@@ -176,7 +180,7 @@ uint8_t hk_packet(const uint8_t *reply, size_t reply_length, uint16_t asked, uin
  * it are as they were. HK_PIECES_BROKEN, HK_SET_REFUSED, HK_BUFFER_TOO_SHORT: the first of these that holds, in this
  * order; the buffer is as it was, and *written is 0. A buffer of 16,384 bytes is never too short. To learn why a set is
  * refused, use the program `writer`. The buffer and written overlap nothing else that is passed. */
-uint8_t hk_write(const uint8_t *pieces, size_t pieces_length, const uint8_t *serial, size_t serial_length,
+HK_MAKERS uint8_t hk_write(const uint8_t *pieces, size_t pieces_length, const uint8_t *serial, size_t serial_length,
                  uint8_t *buffer, size_t buffer_length, uint16_t *written);
 
 #ifdef __cplusplus
