@@ -6,8 +6,7 @@ use mathlib.Core.Logic.{⊎-elim}
 use mathlib.Core.List.{List, [], _∷_, _++_, List·Memᴰ, List·Memᴰ·head, List·Memᴰ·tail, List·Memᴰ·cases-cons, List·Memᴰ·not-nil}
 use lib.ListN.{length, take, drop, length-append}
 use lib.Seq.{getD-drop}
-use Rattle.octets.specs.Octets.{word}
-use Rattle.sets.proofs.Sound.{Bytes}
+use Rattle.octets.specs.Octets.{word, Bytes}
 use Rattle.pieces.specs.Pieces.{Piece, pieceOf, piecesAfter, pieces}
 use Rattle.pieces.specs.Laid.{entryBytes, contents, bodies, front, header, total, laid}
 

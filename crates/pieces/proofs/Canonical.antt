@@ -8,14 +8,13 @@ use lib.ListN.{length, take, drop, length-drop, length-map, take-append-drop, dr
 use lib.Seq.{drop-drop, take-add, length-take-le}
 use lib.Dec.{eqb, leb}
 use borrow.Author.Tests.{eqb-true, leb-true}
-use Rattle.octets.specs.Octets.{byte}
+use Rattle.octets.specs.Octets.{byte, Bytes}
 use Rattle.octets.specs.Sentences.{every, neighbours}
 use Rattle.octets.proofs.Sentences.{both, conjunct}
 use Rattle.descriptors.specs.declared.Limits.{Limits}
 use Rattle.descriptors.specs.Limits.{named}
 use Rattle.sets.specs.declared.Entry.{Entry}
 use Rattle.sets.specs.Contents.{entryOf, entriesFrom, entries, bodyOf, before, total, count, bodiesAt, endToEnd, goodFrame, goodContents}
-use Rattle.sets.proofs.Sound.{Bytes}
 use Rattle.pieces.specs.Laid as pieces
 use Rattle.pieces.specs.Laid.{entryBytes, contents, bodies, front, header, laid}
 use Rattle.pieces.proofs.Laid.{laid-parts}

@@ -10,14 +10,13 @@ use lib.ListN.{length, take, drop, length-map}
 use lib.Seq.{take-append-seam, drop-append-seam}
 use lib.Dec.{eqb, leb, ltb}
 use borrow.Author.Tests.{eqb-true, leb-true, eq-eqb, ne-eqb, le-ltb}
-use Rattle.octets.specs.Octets.{byte}
+use Rattle.octets.specs.Octets.{byte, Bytes}
 use Rattle.octets.specs.Sentences.{pick, first}
 use Rattle.octets.proofs.Sentences.{cases, conjunct}
 use Rattle.descriptors.specs.declared.Limits.{Limits}
 use Rattle.sets.specs.declared.Entry.{Entry}
 use Rattle.sets.specs.Contents.{entries, bodyOf, total, count, bodiesAt, goodFrame}
 use Rattle.sets.specs.Found.{isAt}
-use Rattle.sets.proofs.Sound.{Bytes}
 use Rattle.pieces.specs.Pieces.{Piece, ends, pieces, streamOf}
 use Rattle.pieces.specs.Held.{pieceFor, piecesIn}
 use Rattle.pieces.specs.Sorted.{precedes, sorted}
