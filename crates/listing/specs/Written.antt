@@ -18,7 +18,6 @@ use Rattle.descriptors.specs.Interfaces.{begunBy}
 use Rattle.descriptors.specs.Walk.{settingAt}
 use Rattle.listing.specs.Listing.{line, endpointLine, configurationLines}
 
-
 -- a digit before the last: a number has it from this power of ten on
 abbrev pub lead : ℕ → ℕ → List ℕ
 lead power x = pick (leb power x) ((48 + x / power % 10) ∷ []) []
