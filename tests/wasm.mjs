@@ -160,6 +160,15 @@ function callPacket(flags) {
     respond(error || (found ? 0 : PART_ASTRAY), number, 0, [0, 0], ...(found ?? [2, 0, 0]), []);
 }
 
+// The buffer is lent as the image is: it is given back whole.
+function callWrite(flags) {
+    const pieces = takeBlock(), buffer = takeBlock(), lent = new Lent(flags);
+    const blocks = [lent.place(pieces), lent.place(serial)], bufferLent = lent.placeForWriting(buffer);
+    const written = lent.placeForWriting(new Uint8Array(2).fill(UNWRITTEN), 2);
+    const { number, error } = lent.call("hk_write", ...[...blocks, bufferLent].flatMap(pair), written.address);
+    respond(error, number, 0, [0, 0], 0, 0, words.getUint16(written.address, true), bufferLent.bytes());
+}
+
 for (;;) {
     const [code, flags] = take(2), operation = String.fromCharCode(code);
     if (operation === "S")
@@ -170,6 +179,8 @@ for (;;) {
         callSetup(flags);
     else if (operation === "k")
         callPacket(flags);
+    else if (operation === "w")
+        callWrite(flags);
     else if (operation in EVENTS)
         callEvent(operation, flags);
     else
