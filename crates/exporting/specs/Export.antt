@@ -1,14 +1,16 @@
 -- Export (document 02, L5: "export a set's device and configuration bodies in that form").
 use Prim.Native.Nat.{ℕ, _+_}
-use mathlib.Core.List.{List, [], _∷_, _++_}
+use mathlib.Core.List.{List, [], _∷_, _++_, map}
 use lib.ListN.{length}
 use lib.Dec.{eqb, leb, ltb}
 use Rattle.octets.specs.Sentences.{pick}
 use Rattle.descriptors.specs.Limits.{fullSpeed}
 use Rattle.sets.specs.declared.Entry.{Entry}
-use Rattle.sets.specs.Contents.{bodies}
+use Rattle.sets.specs.Contents.{entriesOf, bodies}
 use Rattle.sets.specs.Device.{deviceBody}
 use Rattle.sets.specs.Opening.{opening}
+use Rattle.pieces.specs.Pieces.{Piece}
+use Rattle.pieces.specs.Held.{pieceFor}
 use Rattle.set_writer.specs.Writer.{lent}
 use Rattle.dumps.specs.Dump.{flat}
 
@@ -20,6 +22,10 @@ exported set = deviceBody set ++ flat (bodies 2 set)
 abbrev pub exporting : List ℕ → List ℕ → ℕ → ℕ
 exporting set serial room =
     pick (eqb (opening fullSpeed (lent set serial)) 0) (pick (ltb room (length (exported set))) 22 0) (opening fullSpeed (lent set serial))
+
+-- the device and the configurations of a set, as pieces
+abbrev pub own : List ℕ → List Piece
+own set = map (pieceFor set) (entriesOf 1 set) ++ map (pieceFor set) (entriesOf 2 set)
 
 -- ---- working definitions: how many bytes the entries of types up to 2 have
 abbrev pub share : Entry → ℕ

@@ -1,7 +1,7 @@
 -- Import (document 02, L5: "Refusals: 23 dump does not split, then 21 and 22 as in L1").
-use Prim.Native.Nat.{ℕ}
+use Prim.Native.Nat.{ℕ, _≤_}
 use mathlib.Core.Path.{_≡_}
-use mathlib.Core.Bool.{Bool, _||_, not}
+use mathlib.Core.Bool.{Bool, true, _||_, not}
 use mathlib.Core.List.{List, []}
 use lib.ListN.{length}
 use lib.Dec.{ltb}
@@ -9,7 +9,7 @@ use Rattle.octets.specs.Sentences.{pick}
 use Rattle.descriptors.specs.Limits.{fullSpeed}
 use Rattle.sets.specs.Opening.{opening}
 use Rattle.set_writer.specs.declared.Report.{Report}
-use Rattle.set_writer.specs.Writer.{lent, handing, Filled}
+use Rattle.set_writer.specs.Writer.{lent, opensAs, handing, Filled}
 use Rattle.dumps.specs.Dump.{splits}
 use Rattle.dumps.specs.Imported.{piecesFor, imported}
 
@@ -24,6 +24,12 @@ importing dump room = pick (not (splits dump)) 23 (pick (tooLarge dump) 21 (hand
 -- a working definition: why 21, the opening number of the resulting set; 0 where no set is made
 abbrev pub openingImported : List ℕ → ℕ
 openingImported dump = pick (not (splits dump) || tooLarge dump) 0 (opening fullSpeed (lent (imported dump) []))
+
+-- "the dump splits, the resulting set opens with an empty serial block and the buffer holds it"
+pub record Accepted (dump : List ℕ) (room : ℕ) : Type 0 where
+  pub whole : splits dump ≡ true
+  pub opens : opensAs fullSpeed (imported dump) [] ≡ true
+  pub fits : length (imported dump) ≤ room
 
 -- what import answers, whole
 pub record Imports (dump buffer after : List ℕ) (r : Report) : Type 0 where
