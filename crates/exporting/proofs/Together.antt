@@ -9,7 +9,7 @@ use mathlib.Core.List.{List, [], _∷_, _++_, map, append-assoc, append-nil}
 use lib.ListN.{length, take, drop, length-drop}
 use lib.Seq.{drop-drop, take-add, length-take-le, take-length}
 use lib.Dec.{eqb, leb, ltb}
-use borrow.Author.Tests.{eqb-true, ltb-true, eqb-false, ne-eqb, eq-eqb, le-leb, lt-leb, lt-ltb, le-ltb}
+use borrow.Author.Tests.{eqb-true, ltb-true, eqb-false, ne-eqb, eq-eqb, le-leb, lt-leb, lt-ltb, le-ltb, leb-true}
 use Rattle.octets.specs.Octets.{byte, part}
 use Rattle.octets.specs.Sentences.{pick, every, only, neighbours}
 use Rattle.octets.proofs.Sentences.{cases, both, either, conjunct, never, neighbours-cons}
@@ -20,9 +20,10 @@ use Rattle.sets.specs.Device.{headBody, goodDeviceEntries}
 use Rattle.sets.specs.Opening.{goodDevices, opening}
 use Rattle.sets.proofs.Entries.{only-later, only-empty, every-cons}
 use Rattle.sets.proofs.Groups.{groups}
-use Rattle.set_writer.specs.Writer.{lent, Filled}
+use Rattle.set_writer.specs.Writer.{lent}
 use Rattle.dumps.specs.Dump.{flat}
-use Rattle.exporting.specs.Export.{exported, exporting, share, shares}
+use Rattle.exporting.specs.declared.Dumped.{Dumped}
+use Rattle.exporting.specs.Export.{exported, exporting, share, shares, Exports}
 
 -- ---- the types go up
 abbrev pub Up : ℕ → List Entry → Type 0
@@ -139,6 +140,7 @@ pub record Dump (set : List ℕ) : Type 0 where
   pub fits : bodiesAt set + shares (entries set) ≤ length set
   pub bytes : exported set ≡ part set (bodiesAt set) (shares (entries set))
   pub size : length (exported set) ≡ shares (entries set)
+  pub small : length set ≤ 16384
 
 pub dump : (set serial : List ℕ) → opening fullSpeed (lent set serial) ≡ 0 → Dump set
 unfolding goodFrame goodContents goodDevices
@@ -152,12 +154,20 @@ dump set serial p =
     let f : bodiesAt set + shares (entries set) ≤ length set = omega (arith, within (bodiesAt set) (total set) (entries set) laidOut) in
     let b : exported set ≡ part set (bodiesAt set) (shares (entries set)) =
     ap (λ (l : List ℕ). l ++ flat (bodies 2 set)) (sym (one-device set (entriesOf 1 set) (g .devices))) ∙ together set (bodiesAt set) (total set) (entries set) up laidOut in
-    record { fits = f; bytes = b; size = ap length b ∙ length-take-le (shares (entries set)) (drop (bodiesAt set) set) (rw length-drop (omega arith)) }
+    record {
+      fits = f;
+      bytes = b;
+      size = ap length b ∙ length-take-le (shares (entries set)) (drop (bodiesAt set) set) (rw length-drop (omega arith));
+      small = leb-true (length set) 16384 (conjunct 1 frame (g .frame));
+    }
 
 -- ---- what export answers, in the terms of its contract
+abbrev pub answer : ℕ → ℕ → Dumped
+answer number written = record { number = number; written = written }
+
 module _ (set serial out : List ℕ) (n : ℕ) (e : n ≡ opening fullSpeed (lent set serial)) where
-  pub refused : (n ≡ 0 → ⊥) → Filled (exported set) out out (exporting set serial (length out)) n
-  refused h = record { number = sym (rw (← e, ne-eqb n 0 h)); bytes = sym (rw (ne-eqb n 0 h)) }
+  pub refused : (n ≡ 0 → ⊥) → Exports set serial out out (answer n 0)
+  refused h = record { fills = record { number = sym (rw (← e, ne-eqb n 0 h)); bytes = sym (rw (ne-eqb n 0 h)) }; counts = sym (rw (ne-eqb n 0 h)) }
 
   module _ (h : n ≡ 0) (k : ℕ) (i : k ≡ count set) (size : ℕ) (q : size ≡ shares (entries set)) where
     d : Dump set
@@ -166,18 +176,25 @@ module _ (set serial out : List ℕ) (n : ℕ) (e : n ≡ opening fullSpeed (len
     pub fits : 4 + 8 * k + size ≤ length set
     fits = rw (i, q) (d .fits)
 
+    -- a set that opens is not longer than two bytes can say
+    pub small : size < 65536
+    small = omega (arith, q, d .fits, d .small)
+
     -- what the code lends to `copy`
-    abbrev given-part : List ℕ
-    given-part = take (4 + 8 * k + size - (4 + 8 * k)) (drop (4 + 8 * k) set)
+    abbrev copied : List ℕ
+    copied = take (4 + 8 * k + size - (4 + 8 * k)) (drop (4 + 8 * k) set)
 
-    given-part-is : given-part ≡ exported set
-    given-part-is = rw (add-sub-cancel-left, i, q) (sym (d .bytes))
+    copied-is : copied ≡ exported set
+    copied-is = rw (add-sub-cancel-left, i, q) (sym (d .bytes))
 
-    pub short : length out < size → Filled (exported set) out out (exporting set serial (length out)) 22
-    short l = record { number = sym (rw (← e, eq-eqb n 0 h, lt-ltb (length out) (length (exported set)) (omega (arith, d .size, q)))); bytes = refl }
+    pub short : length out < size → Exports set serial out out (answer 22 0)
+    short l = record { fills = record { number = sym (rw (← e, eq-eqb n 0 h, lt-ltb (length out) (length (exported set)) (omega (arith, d .size, q)))); bytes = refl }; counts = refl }
 
-    pub given : size ≤ length out → {after : List ℕ} → after ≡ take (length given-part) given-part ++ drop (length given-part) out → Filled (exported set) out after (exporting set serial (length out)) 0
+    pub given : size ≤ length out → {after : List ℕ} → after ≡ take (length copied) copied ++ drop (length copied) out → Exports set serial out after (answer 0 size)
     given l p = record {
-      number = sym (rw (← e, eq-eqb n 0 h, le-ltb (length out) (length (exported set)) (omega (arith, d .size, q))));
-      bytes = p ∙ rw (take-length, given-part-is);
+      fills = record {
+        number = sym (rw (← e, eq-eqb n 0 h, le-ltb (length out) (length (exported set)) (omega (arith, d .size, q))));
+        bytes = p ∙ rw (take-length, copied-is);
+      };
+      counts = q ∙ sym (d .size);
     }

@@ -1,5 +1,6 @@
 -- Export (document 02, L5: "export a set's device and configuration bodies in that form").
 use Prim.Native.Nat.{ℕ, _+_}
+use mathlib.Core.Path.{_≡_}
 use mathlib.Core.List.{List, [], _∷_, _++_, map}
 use lib.ListN.{length}
 use lib.Dec.{eqb, leb, ltb}
@@ -11,8 +12,9 @@ use Rattle.sets.specs.Device.{deviceBody}
 use Rattle.sets.specs.Opening.{opening}
 use Rattle.pieces.specs.Pieces.{Piece}
 use Rattle.pieces.specs.Held.{pieceFor}
-use Rattle.set_writer.specs.Writer.{lent}
+use Rattle.set_writer.specs.Writer.{lent, Filled}
 use Rattle.dumps.specs.Dump.{flat}
+use Rattle.exporting.specs.declared.Dumped.{Dumped}
 
 -- "the device descriptor followed by its configuration bodies"
 abbrev pub exported : List ℕ → List ℕ
@@ -26,6 +28,11 @@ exporting set serial room =
 -- the device and the configurations of a set, as pieces
 abbrev pub own : List ℕ → List Piece
 own set = map (pieceFor set) (entriesOf 1 set) ++ map (pieceFor set) (entriesOf 2 set)
+
+-- what export answers, whole: its number, the buffer left, and the dump's length, 0 after a refusal
+pub record Exports (set serial buffer after : List ℕ) (r : Dumped) : Type 0 where
+  pub fills : Filled (exported set) buffer after (exporting set serial (length buffer)) (r .number)
+  pub counts : r .written ≡ pick (eqb (r .number) 0) (length (exported set)) 0
 
 -- ---- working definitions: how many bytes the entries of types up to 2 have
 abbrev pub share : Entry → ℕ

@@ -2,10 +2,14 @@
 use sets::Entry;
 ghost use mathlib.Core.Path.{_≡_};
 ghost use Prim.Native.Nat.{_<_};
-ghost use lib.ListN.{length};
 ghost use Rattle.sets.specs.Contents.{entries};
-ghost use Rattle.set_writer.specs.Writer.{Filled};
-ghost use Rattle.exporting.specs.Export.{share, shares, exported, exporting};
+ghost use Rattle.exporting.specs.Export.{share, shares, Exports};
+
+// What export answers: its number, and the dump's length, 0 after a refusal.
+pub struct Dumped {
+    pub number: u8,
+    pub written: u16,
+}
 
 // How many bytes an entry adds to a dump.
 fn share_of(e: Entry) -> usize
@@ -33,18 +37,22 @@ fn size_of(set: &[u8]) -> usize
 }
 
 // The dump of a set, at the buffer's start: 0, or the opening number or 22 with the buffer untouched. In a set that opens these bodies lie end to end.
-pub fn export(set: &[u8], serial: &[u8], out: &mut [u8]) -> u8
-    ensures { λ r. ⌜ Filled (exported (now (set .entry))) (now (out .entry)) (now (out .exit)) (exporting (now (set .entry)) (now (serial .entry)) (length (now (out .entry)))) r ⌝ }
+pub fn export(set: &[u8], serial: &[u8], out: &mut [u8]) -> Dumped
+    ensures { λ r. ⌜ Exports (now (set .entry)) (now (serial .entry)) (now (out .entry)) (now (out .exit)) r ⌝ }
 {
     let number = sets::opening(set, serial, descriptors::full_speed());
     if number != 0 {
-        return number;
+        return Dumped { number, written: 0 };
     }
     let start = 4 + 8 * (octets::peek(set, 2) as usize);
     let size = size_of(set);
     if out.len() < size {
-        return 22;
+        return Dumped {
+            number: 22,
+            written: 0,
+        };
     }
     bytes::copy(&set[start..start + size], out);
-    0
+    let written = size as u16;
+    Dumped { number: 0, written }
 }

@@ -1,6 +1,6 @@
 -- `exporting::export` meets its contract: refused, too short, or one copy. Assumes nothing.
 use native.Mathlib.Omega.{arith}
-use Rattle.exporting.proofs.Together.{refused, fits, short, given}
+use Rattle.exporting.proofs.Together.{refused, fits, small, short, given}
 use borrow.Author.Needs.{needs}
 use Rattle.exporting.proofs.export.Statement.{statement}
 use Rattle.exporting.proofs.export.Tie as tie
@@ -54,6 +54,13 @@ part-copy-end c =
 copy-requires : tie.Need-copy-requires
 copy-requires c κs = search needs
 
+cast-written : tie.Need-cast-written
+cast-written c =
+    let a = c .before .before .before .before .before .before .before .before .before .before .before .before .before .before .args in
+    let opened = rw (c .before .before .before .before .before .before .before .before .before .before .full-speed .ensures) at (c .before .before .before .before .before .before .before .before .before .opening .ensures) in
+    let h = small (a .set .now) (a .serial .now) (a .out .now) _ opened (c .before .before .before .before .before .before .before .before .if1 .left) _ (c .before .before .before .before .before .before .before .peek .ensures) _ (c .before .before .before .before .before .before .size-of .ensures) in
+    omega (arith, h)
+
 same-length : tie.Need-same-length
 same-length c = search needs
 
@@ -80,5 +87,6 @@ export-spec =
     part-copy-start
     part-copy-end
     copy-requires
+    cast-written
     same-length
     returns-3)
