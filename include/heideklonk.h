@@ -54,7 +54,8 @@ extern "C" {
 #define HK_ENDPOINT_UNFIT 16          /* function event on an unfit endpoint */
 #define HK_PIECES_BROKEN 20           /* makers: the pieces do not end where their lengths say */
 #define HK_SET_REFUSED 21             /* makers: over 64 pieces or 16,384 bytes, or hk_open would refuse the set */
-#define HK_BUFFER_TOO_SHORT 22        /* makers: the set is longer than the buffer */
+#define HK_BUFFER_TOO_SHORT 22        /* makers: what is to be written is longer than the buffer */
+#define HK_DUMP_BROKEN 23             /* makers: the dump does not split into a device and configurations */
 
 /* Bytes in memory that the caller lent. Test length, not start: the start of an empty part is NULL only where NULL was
  * lent. */
@@ -182,6 +183,23 @@ uint8_t hk_packet(const uint8_t *reply, size_t reply_length, uint16_t asked, uin
  * refused, use the program `writer`. The buffer and written overlap nothing else that is passed. */
 HK_MAKERS uint8_t hk_write(const uint8_t *pieces, size_t pieces_length, const uint8_t *serial, size_t serial_length,
                  uint8_t *buffer, size_t buffer_length, uint16_t *written);
+
+/* Makes a set of a dump: the file that Linux shows for a device that is plugged in, /sys/bus/usb/devices/.../descriptors,
+ * which is its device descriptor and its configurations. The set has no strings, so every reference to one becomes 0:
+ * iManufacturer, iProduct, iSerialNumber, iConfiguration and each iInterface.
+ *
+ * HK_DONE: the set stands at the buffer's start, *written bytes long, and opens with an empty serial block; the bytes
+ * behind it are as they were. HK_DUMP_BROKEN, HK_SET_REFUSED, HK_BUFFER_TOO_SHORT: the first of these that holds, in this
+ * order; the buffer is as it was, and *written is 0. A dump of a high-speed device gives HK_SET_REFUSED. */
+HK_MAKERS uint8_t hk_import(const uint8_t *dump, size_t dump_length, uint8_t *buffer, size_t buffer_length, uint16_t *written);
+
+/* The other way: the device descriptor and the configurations of a set, as they are, without the strings.
+ *
+ * HK_DONE: the dump stands at the buffer's start, *written bytes long; the bytes behind it are as they were.
+ * HK_FRAME_BROKEN to HK_SERIAL_BROKEN: hk_open would refuse the set or the serial block; else HK_BUFFER_TOO_SHORT; the
+ * buffer is as it was, and *written is 0. This call has no array in its frame. */
+HK_MAKERS uint8_t hk_export(const uint8_t *set, size_t set_length, const uint8_t *serial, size_t serial_length, uint8_t *buffer,
+                  size_t buffer_length, uint16_t *written);
 
 #ifdef __cplusplus
 }

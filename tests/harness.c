@@ -278,15 +278,22 @@ static void call_packet(uint8_t flags) {
     put_number(0);
 }
 
-/* The buffer is lent as the image is: it is given back whole. */
-static void call_write(uint8_t flags) {
+/* The makers' calls: pieces, a dump or the set into a buffer. The buffer is lent as the image is: it is given back whole. */
+static void call_maker(uint8_t operation, uint8_t flags) {
     static const uint8_t no_answer[2];
-    take_block(&pieces, flags);
+    if (operation != 'x')
+        take_block(&pieces, flags);
     take_block(&image, flags);
     place_unwritten(&written, sizeof(uint16_t), flags, sizeof(uint16_t));
     uint16_t *length = (uint16_t *)(void *)(written.room + written.start);
-    uint8_t number = hk_write(lent(&pieces, flags), pieces.length, lent(&serial, flags), serial.length,
-                              lent(&image, flags), image.length, length);
+    uint8_t *buffer = lent(&image, flags), number;
+    if (operation == 'w')
+        number = hk_write(lent(&pieces, flags), pieces.length, lent(&serial, flags), serial.length, buffer, image.length,
+                          length);
+    else if (operation == 'i')
+        number = hk_import(lent(&pieces, flags), pieces.length, buffer, image.length, length);
+    else
+        number = hk_export(lent(&set, flags), set.length, lent(&serial, flags), serial.length, buffer, image.length, length);
     int kept = lent_blocks_kept() && unchanged(&pieces) && guards_unchanged(&written);
     respond(kept ? 0 : BYTES_CHANGED, number, no_answer, 0, 0, 0, *length);
     respond_with_image();
@@ -314,8 +321,8 @@ int main(void) {
         case 'k':
             call_packet(flags);
             break;
-        case 'w':
-            call_write(flags);
+        case 'w': case 'i': case 'x':
+            call_maker(operation, flags);
             break;
         case 'o': case 'e': case 'r': case 'h': case 'p':
             call_event(operation, flags);

@@ -6,25 +6,6 @@ use libc::STDOUT_FILENO;
 ghost use Prim.Native.Nat.{_<_, _≤_};
 ghost use lib.ListN.{length};
 
-// What the buffer is full of before the call.
-const BEFORE: u8 = 170;
-
-fn is_untouched(bytes: &[u8]) -> bool {
-    let mut i = 0;
-    while i < bytes.len() {
-        if bytes[i] != BEFORE {
-            return false;
-        }
-        i += 1;
-    }
-    true
-}
-
-fn is_as_it_should(out: &[u8], set: &[u8]) -> bool {
-    let start = check::same(pieces::head(out, set.len()), set);
-    start & is_untouched(pieces::tail(out, set.len()))
-}
-
 fn tell(heading: &[u8], number: u8, written: u16, good: bool) {
     io::write_all(STDOUT_FILENO, heading);
     io::print_decimal(STDOUT_FILENO, number as u64);
@@ -40,7 +21,12 @@ fn tell(heading: &[u8], number: u8, written: u16, good: bool) {
 fn write_one(heading: &[u8], serial: &[u8], stream: &[u8], set: &[u8], out: &mut [u8]) {
     let report = set_writer::write(stream, serial, descriptors::full_speed(), out);
     let written = set_writer::length_written(report.number, out);
-    tell(heading, report.number, written, is_as_it_should(out, set));
+    tell(
+        heading,
+        report.number,
+        written,
+        bench_buffer::is_good(out, set),
+    );
 }
 
 fn write_first(rest: &[u8]) -> usize
@@ -55,7 +41,7 @@ fn write_first(rest: &[u8]) -> usize
     if rest.len() < end {
         return rest.len();
     }
-    let mut out = [BEFORE; 65536];
+    let mut out = [bench_buffer::BEFORE; 65536];
     write_one(
         &rest[8..serial_at],
         &rest[serial_at..stream_at],

@@ -9,3 +9,5 @@ pub mod Order
 pub mod ReadBack
 pub mod Canonical
 pub mod Bytewise
+pub mod LaidOut
+pub mod InPieces

@@ -24,14 +24,14 @@ use Rattle.pieces.proofs.Sizes.{set-size}
 use Rattle.pieces.specs.Places.{countOf, piecesAt}
 use Rattle.writing.specs.Written as written
 use Rattle.set_writer.specs.declared.Report.{Report}
-use Rattle.set_writer.specs.Writer.{setOf, tooLarge, Filled, lengthWritten}
+use Rattle.set_writer.specs.Writer.{setOf, lent, tooLarge, Filled, lengthWritten}
 use Rattle.set_writer.specs.Reported.{Handed, Reported}
 
 abbrev pub answer : ℕ → ℕ → Report
 answer number opening = record { number = number; opening = opening }
 
 -- ---- handing over
-module _ (limits : Limits) (set serial out : List ℕ) (n : ℕ) (e : n ≡ opening limits (record { set = set; serial = serial })) where
+module _ (limits : Limits) (set serial out : List ℕ) (n : ℕ) (e : n ≡ opening limits (lent set serial)) where
   pub refused : (n ≡ 0 → ⊥) → Handed limits set serial out out (answer 21 n)
   refused h = record { fills = record { number = sym (rw (← e, ne-eqb n 0 h)); bytes = refl }; why = e }
 

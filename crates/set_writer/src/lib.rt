@@ -17,7 +17,7 @@ pub struct Report {
     pub opening: u8,
 }
 
-fn answer(number: u8, opening: u8) -> Report
+pub fn answer(number: u8, opening: u8) -> Report
     ensures { λ r. ⌜ r ≡ record { number = number; opening = opening } ⌝ }
 {
     Report { number, opening }

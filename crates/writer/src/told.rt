@@ -1,15 +1,8 @@
 // What a maker is told of a refusal: its number, why, and each piece that stands in the way, counted from 1, with its place in pieces.bin.
-use libc::STDOUT_FILENO;
+use files::say;
+use files::say_number;
 ghost use Prim.Native.Nat.{_<_, _≤_};
 ghost use lib.ListN.{length};
-
-pub fn say(text: &[u8]) {
-    io::write_all(STDOUT_FILENO, text);
-}
-
-pub fn say_number(number: usize) {
-    io::print_decimal(STDOUT_FILENO, number as u64);
-}
 
 // Where the piece behind the one at a place begins; the stream's end, where that one does not end.
 fn next(stream: &[u8], at: usize) -> usize

@@ -13,7 +13,7 @@ use Rattle.records.specs.Device.{Sized}
 use Rattle.events.specs.declared.Event.{Event}
 use Rattle.pieces.specs.Pieces.{streamOf}
 use Rattle.pieces.specs.Held.{piecesIn}
-use Rattle.set_writer.specs.Writer.{setOf, writing}
+use Rattle.set_writer.specs.Writer.{setOf, lent, writing}
 use Rattle.promises.specs.Keeps.{FitImage, Reached, reachedFits}
 use Rattle.promises.specs.Rearranged.{Rearranged, after, heard}
 use Rattle.promises.specs.Order.{order}
@@ -24,7 +24,7 @@ use Rattle.written.specs.Written.{opens, writtenBytes}
 use Rattle.written.specs.Example.{assembled}
 
 abbrev pub writtenBoard : List ℕ → List ℕ → Board
-writtenBoard stream serial = record { set = setOf stream; serial = serial }
+writtenBoard stream serial = lent (setOf stream) serial
 
 module _ (stream serial : List ℕ) (room : ℕ) (bytes : Bytes stream) (w : writing fullSpeed stream serial room ≡ 0) where
   -- demand 2: every image reached from power-on fits

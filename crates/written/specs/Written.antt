@@ -7,7 +7,6 @@ use mathlib.Core.Bool.{Bool, true, _||_, not}
 use mathlib.Core.Option.{some}
 use mathlib.Core.List.{List, [], _∷_, List·Memᴰ}
 use lib.ListN.{length, take, drop, length-map}
-use lib.Seq.{take-append-seam, drop-append-seam}
 use lib.Dec.{eqb, leb, ltb}
 use borrow.Author.Tests.{eqb-true, leb-true, eq-eqb, ne-eqb, le-ltb}
 use Rattle.octets.specs.Octets.{byte, Bytes}
@@ -32,6 +31,7 @@ use Rattle.pieces.proofs.Shuffled.{itself, back, among}
 use Rattle.pieces.proofs.Sizes.{sorted-length}
 use Rattle.pieces.proofs.Stream.{stream-read, stream-whole}
 use Rattle.set_writer.specs.Writer.{setOf, opensAs, writing, Filled}
+use Rattle.set_writer.proofs.Filling as filling
 use Rattle.set_writer.proofs.Accepted.{mapped, mapping, zero-opens, framed, ascends, entries-ascend, looked-up, same-sorted, answer-accepted, answer-refused}
 
 -- ---- "What it writes, with the serial block given, the opener accepts"
@@ -41,13 +41,13 @@ opens = zero-opens
 -- ---- "Bytes past the set stay as they were"; "the buffer is then untouched"
 module _ {text buffer after : List ℕ} {asked n : ℕ} (w : Filled text buffer after asked n) where
   pub untouched : (n ≡ 0 → ⊥) → after ≡ buffer
-  untouched h = w .bytes ∙ rw (ne-eqb n 0 h)
+  untouched = filling.untouched w
 
   pub there : n ≡ 0 → take (length text) after ≡ text
-  there h = rw (w .bytes, eq-eqb n 0 h) (take-append-seam text (drop (length text) buffer))
+  there = filling.there w
 
   pub behind : n ≡ 0 → drop (length text) after ≡ drop (length text) buffer
-  behind h = rw (w .bytes, eq-eqb n 0 h) (drop-append-seam text (drop (length text) buffer))
+  behind = filling.behind w
 
 -- ---- "every piece is found again unchanged": it is an entry of the set with its body; and every entry is some piece
 pub found : (stream : List ℕ) (p : Piece) → List·Memᴰ p (pieces stream) → (e : Entry) × List·Memᴰ e (entries (setOf stream)) × (p ≡ pieceFor (setOf stream) e)

@@ -1,5 +1,6 @@
 //! One call at the C boundary, and the reference's answer to it.
 
+use crate::dumps;
 use crate::events::{Block, Event, Lent, Outcome, Part};
 use crate::fault::Fault;
 use crate::octets::hex;
@@ -12,6 +13,8 @@ pub enum Call {
     Event { image: Vec<u8>, event: Event },
     Packet { reply_length: usize, asked: u16, size: u32, packet: u32 },
     Write { pieces: Vec<u8>, buffer: Vec<u8> },
+    Import { dump: Vec<u8>, buffer: Vec<u8> },
+    Export { buffer: Vec<u8> },
 }
 
 impl Call {
@@ -23,6 +26,11 @@ impl Call {
                 cut(packets::packet(*reply_length, *asked, *size, *packet, lent.fault))
             }
             Call::Write { pieces, buffer } => writer::write(pieces, &lent.serial, buffer, lent.fault),
+            Call::Import { dump, buffer } => dumps::import(dump, buffer, lent.fault),
+            Call::Export { buffer } => {
+                let opened = lent.opened.as_ref().map_err(|rule| rule.group());
+                dumps::export(&lent.set, opened, buffer, lent.fault)
+            }
         }
     }
 
@@ -35,14 +43,16 @@ impl Call {
                 format!("packet {reply_length} {asked} {size} {packet}")
             }
             Call::Write { pieces, buffer } => format!("write {} {}", hex(pieces), hex(buffer)),
+            Call::Import { dump, buffer } => format!("import {} {}", hex(dump), hex(buffer)),
+            Call::Export { buffer } => format!("export {}", hex(buffer)),
         }
     }
 
-    /// The image that is lent; packets and pieces need none.
+    /// The image that is lent; packets and the makers' calls need none.
     pub fn image(&self) -> &[u8] {
         match self {
             Call::Open { image } | Call::Event { image, .. } => image,
-            Call::Packet { .. } | Call::Write { .. } => &[],
+            _ => &[],
         }
     }
 
@@ -56,7 +66,9 @@ impl Call {
                 let (offset, length) = part.map_or((0, 0), |part| (part.offset, part.length));
                 format!("{number} {offset} {length}")
             }
-            Call::Write { .. } => format!("{number} {} {}", part.map_or(0, |part| part.length), hex(image)),
+            Call::Write { .. } | Call::Import { .. } | Call::Export { .. } => {
+                format!("{number} {} {}", part.map_or(0, |part| part.length), hex(image))
+            }
         }
     }
 }

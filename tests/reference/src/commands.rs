@@ -18,6 +18,7 @@ use crate::vectors;
 const DEFAULT_SETS: usize = 100_000;
 const DEFAULT_CALLS: usize = 200_000;
 const DEFAULT_WRITES: usize = 50_000;
+const DEFAULT_DUMPS: usize = 50_000;
 
 /// So many differences are enough to choose the smallest from.
 const PATIENCE: usize = 1_000;
@@ -26,8 +27,8 @@ pub const USAGE: &str = "\
 reference vectors [--least N] FILE..            answers every question of the files, at least N (1) in each, and compares
 reference run-vectors --program CMD [--least N] FILE..
                                                 the same, and through a harness
-reference compare --program CMD [--sets N] [--calls N] [--writes N] [--seed S] [--fault NAME]
-                                                sets through opening, calls over the whole boundary, or both; streams of pieces;
+reference compare --program CMD [--sets N] [--calls N] [--writes N] [--dumps N] [--seed S] [--fault NAME]
+                                                sets through opening, calls over the whole boundary, or both; streams of pieces; dumps;
                                                 from 100,000 sets and 200,000 calls on each rule and number must be reached
 reference faults --program CMD [--seed S]       every planted fault must be noticed
 reference serve [--fault NAME]                  the reference in a harness's place
@@ -158,10 +159,14 @@ fn agrees(what: &str, findings: &Findings) -> bool {
 fn compare(arguments: &Arguments) -> Verdict {
     let (sets, calls) = (arguments.number("sets")?, arguments.number("calls")?);
     let writes = arguments.number("writes")?;
-    let both = sets.is_none() && calls.is_none() && writes.is_none();
+    let dumps = arguments.number("dumps")?;
+    let both = sets.is_none() && calls.is_none() && writes.is_none() && dumps.is_none();
     let mut right = true;
     if let Some(writes) = writes {
         right &= compare_writer(arguments, writes)?;
+    }
+    if let Some(dumps) = dumps {
+        right &= compare_dumps(arguments, dumps)?;
     }
     if sets.is_some() || both {
         right &= compare_opening(arguments, sets.unwrap_or(DEFAULT_SETS))?;
@@ -202,6 +207,15 @@ fn compare_writer(arguments: &Arguments, calls: usize) -> Verdict {
     Ok(same & reached(&[0, 20, 21, 22].map(|number| (format!("number {number}"), numbers[number])), calls >= DEFAULT_WRITES))
 }
 
+fn compare_dumps(arguments: &Arguments, calls: usize) -> Verdict {
+    let mut comparison = Comparison::start(arguments.program()?, PATIENCE).map_err(told)?;
+    makers::dumping(&mut comparison, calls, arguments.seed()?, arguments.fault()?);
+    let numbers = comparison.numbers;
+    let same = ended(comparison, "dumps", "dumps and sets")?;
+    let given = [0, 1, 2, 3, 4, 5, 6, 21, 22, 23];
+    Ok(same & reached(&given.map(|number| (format!("number {number}"), numbers[number])), calls >= DEFAULT_DUMPS))
+}
+
 /// Tells how a comparison went and how long it took.
 fn ended(comparison: Comparison, part: &str, unit: &str) -> Verdict {
     let (start, calls) = (comparison.start, comparison.calls);
@@ -232,6 +246,8 @@ fn faults(arguments: &Arguments) -> Verdict {
             runs::opening(&mut comparison, DEFAULT_SETS, seed, fault);
         } else if fault::WRITER.contains(&fault) {
             makers::writing(&mut comparison, DEFAULT_CALLS, seed, fault);
+        } else if fault::DUMPS.contains(&fault) {
+            makers::dumping(&mut comparison, DEFAULT_CALLS, seed, fault);
         } else {
             runs::whole(&mut comparison, DEFAULT_CALLS, seed, fault);
         }

@@ -63,6 +63,11 @@ faults! {
         SixtyFourthPieceRefused LongestWrittenOneLess SizeBeforeWholeStream LastPieceMayBeCut RoomForOneMore
         WrittenWithoutSerial RefusalTouchesBuffer
     }
+    DUMPS {
+        BodyOfEightBytesSplits LastBodyMayBeCut DeviceAloneSplits SerialReferenceStays ConfigurationReferenceStays
+        AlternateReferenceStays FunctionReferenceZeroed LongDumpBeforeSplit ConfigurationsFromOne ImportRoomBeforeRefusal
+        ExportRoomBeforeOpening StringsExported ExportZeroesReferences ExportNeedsOneMore
+    }
     LISTER {
         AttributesInsteadOfTransferType PacketSizeByLowByte IndexInsteadOfValue FirstSettingsOnly
         SettingsInsteadOfInterfaces
@@ -72,7 +77,7 @@ faults! {
 impl Fault {
     /// All that show at the C boundary.
     pub fn at_boundary() -> impl Iterator<Item = Fault> {
-        [OPENING, EVENTS, PACKETS, WRITER].into_iter().flatten().copied()
+        [OPENING, EVENTS, PACKETS, WRITER, DUMPS].into_iter().flatten().copied()
     }
 
     pub fn name(self) -> String {

@@ -9,6 +9,7 @@
 //!     h endpoint(1) image    hk_halt                       p endpoint(1) image   hk_packet_passed
 //!     k reply_length(4) asked(2) size(4) number(4)         hk_packet
 //!     w pieces buffer        hk_write: length is what was written, the image is the buffer
+//!     i dump buffer          hk_import, in the same way    x buffer       hk_export
 //!
 //! Each call is answered with error(1) number(1) count(1) bytes(2) block(1) offset(4) length(4) and the image as a block.
 
@@ -114,6 +115,8 @@ impl Command {
             Command::Call(Call::Open { .. }) => b'o',
             Command::Call(Call::Packet { .. }) => b'k',
             Command::Call(Call::Write { .. }) => b'w',
+            Command::Call(Call::Import { .. }) => b'i',
+            Command::Call(Call::Export { .. }) => b'x',
             Command::Call(Call::Event { event, .. }) => match event {
                 Event::Setup(_) => b's',
                 Event::StatusEnd => b'e',
@@ -165,10 +168,11 @@ fn write_call(call: &Call, stream: &mut impl Write) -> io::Result<()> {
             stream.write_all(&size.to_le_bytes())?;
             stream.write_all(&packet.to_le_bytes())
         }
-        Call::Write { pieces, buffer } => {
-            write_block(stream, pieces)?;
+        Call::Write { pieces: given, buffer } | Call::Import { dump: given, buffer } => {
+            write_block(stream, given)?;
             write_block(stream, buffer)
         }
+        Call::Export { buffer } => write_block(stream, buffer),
     }
 }
 
@@ -177,6 +181,8 @@ fn read_call(operation: u8, stream: &mut impl Read) -> io::Result<Call> {
         b'o' => return Ok(Call::Open { image: read_block(stream)? }),
         b'k' => return read_packet(stream),
         b'w' => return Ok(Call::Write { pieces: read_block(stream)?, buffer: read_block(stream)? }),
+        b'i' => return Ok(Call::Import { dump: read_block(stream)?, buffer: read_block(stream)? }),
+        b'x' => return Ok(Call::Export { buffer: read_block(stream)? }),
         b's' => {
             let image = read_block(stream)?;
             return Ok(Call::Event { image, event: Event::Setup(read_block(stream)?) });

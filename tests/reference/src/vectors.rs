@@ -55,10 +55,11 @@ pub fn run(text: &str, ask: &mut dyn FnMut(&Lent, &Call)) -> Tally {
 }
 
 impl Script {
-    /// A line that lends: set, serial or record. A remark lends nothing, and the rules in force are those that are built in.
+    /// A line that lends: set, serial or record. A remark lends nothing, no high-speed set is none, and the
+    /// rules in force are those that are built in.
     fn lend(&mut self, line: &str) -> Option<()> {
         let (what, bytes) = line.split_once(' ')?;
-        if what == "#" || what == "rules" {
+        if what == "#" || what == "rules" || line == "high none" {
             return Some(());
         }
         let bytes = from_hex(bytes)?;
@@ -88,6 +89,11 @@ impl Script {
                 let (pieces, buffer) = (from_hex(words.get(1)?)?, from_hex(words.get(2)?)?);
                 Some(self.tell_call(Call::Write { pieces, buffer }))
             }
+            "import" => {
+                let (dump, buffer) = (from_hex(words.get(1)?)?, from_hex(words.get(2)?)?);
+                Some(self.tell_call(Call::Import { dump, buffer }))
+            }
+            "export" => Some(self.tell_call(Call::Export { buffer: from_hex(words.get(1)?)? })),
             "count" => tell_count(&numbers(&words[1..])?),
             "list" => told(hex(list(&self.lent.set, &self.lent.serial, Fault::None).as_bytes())),
             "fits" => told(u8::from(self.fits()).to_string()),

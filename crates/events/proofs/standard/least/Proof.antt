@@ -1,4 +1,4 @@
--- `events::standard::least` meets its contract. Assumes nothing.
+-- `events::standard::least` meets its contract. No axiom.
 use borrow.Author.Needs.{needs}
 use Rattle.events.proofs.standard.least.Statement.{statement}
 use Rattle.events.proofs.standard.least.Tie as tie

@@ -1,4 +1,4 @@
--- `events::standard::with_configuration` meets its contract: field by field. Assumes nothing.
+-- `events::standard::with_configuration` meets its contract: field by field. No axiom.
 use mathlib.Core.Path.{refl}
 use Rattle.events.proofs.standard.with_configuration.Statement.{statement}
 use Rattle.events.proofs.standard.with_configuration.Tie as tie

@@ -1,9 +1,9 @@
--- `bench_pieces::is_untouched` is safe and ends. No axiom.
+-- `bench_buffer::is_untouched` is safe and ends. No axiom.
 use Prim.Native.Nat.{_-_, _≤_}
 use lib.ListN.{length}
 use borrow.Author.Needs.{needs}
-use Rattle.bench_pieces.proofs.is_untouched.Statement.{statement}
-use Rattle.bench_pieces.proofs.is_untouched.Tie as tie
+use Rattle.bench_buffer.proofs.is_untouched.Statement.{statement}
+use Rattle.bench_buffer.proofs.is_untouched.Tie as tie
 
 abbrev Inv-loop : tie.InvT-loop
 Inv-loop bytes i₀ i = i ≤ length bytes
