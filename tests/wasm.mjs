@@ -160,13 +160,19 @@ function callPacket(flags) {
     respond(error || (found ? 0 : PART_ASTRAY), number, 0, [0, 0], ...(found ?? [2, 0, 0]), []);
 }
 
-// The buffer is lent as the image is: it is given back whole.
-function callWrite(flags) {
-    const pieces = takeBlock(), buffer = takeBlock(), lent = new Lent(flags);
-    const blocks = [lent.place(pieces), lent.place(serial)], bufferLent = lent.placeForWriting(buffer);
+// What a maker's call reads, before its buffer; the buffer is lent as the image is: it is given back whole.
+const MAKERS = {
+    w: ["hk_write", () => [takeBlock(), serial]],
+    i: ["hk_import", () => [takeBlock()]],
+    x: ["hk_export", () => [set, serial]],
+};
+
+function callMaker(operation, flags) {
+    const [name, read] = MAKERS[operation], lent = new Lent(flags);
+    const blocks = read().map((bytes) => lent.place(bytes)), buffer = lent.placeForWriting(takeBlock());
     const written = lent.placeForWriting(new Uint8Array(2).fill(UNWRITTEN), 2);
-    const { number, error } = lent.call("hk_write", ...[...blocks, bufferLent].flatMap(pair), written.address);
-    respond(error, number, 0, [0, 0], 0, 0, words.getUint16(written.address, true), bufferLent.bytes());
+    const { number, error } = lent.call(name, ...[...blocks, buffer].flatMap(pair), written.address);
+    respond(error, number, 0, [0, 0], 0, 0, words.getUint16(written.address, true), buffer.bytes());
 }
 
 for (;;) {
@@ -179,8 +185,8 @@ for (;;) {
         callSetup(flags);
     else if (operation === "k")
         callPacket(flags);
-    else if (operation === "w")
-        callWrite(flags);
+    else if (operation in MAKERS)
+        callMaker(operation, flags);
     else if (operation in EVENTS)
         callEvent(operation, flags);
     else
