@@ -4,7 +4,7 @@ use crate::octets::kebab;
 
 macro_rules! faults {
     ($($part:ident { $($fault:ident)* })*) => {
-        /// A deviation from document 01, or none.
+        /// A deviation from documents 01 and 02, or none.
         #[derive(Clone, Copy, PartialEq, Eq, Debug)]
         pub enum Fault { None, $($($fault,)*)* }
 
@@ -42,7 +42,7 @@ faults! {
         HighestAddressOneMore HighestAddressOneLess LargeConfigurationValueDoesNotExist
         StringNeedsIndexZero StringZeroNeedsListedLanguage SerialInAnyLanguage OtherTypesAllowAnyIndex
         DescriptorLongerThanAsked AskedLengthZeroRefused EmptyPartStartsAtSet DeviceIndexIgnored
-        SelfPoweredFromFirstConfiguration WakeupNotReported WakeupOfSelectedConfigurationOnly
+        SelfPoweredFromConfiguration SelfPoweredInConfiguredOnly WakeupNotReported WakeupOfSelectedConfigurationOnly
         ConfigurationClearsWakeup SameConfigurationKeepsSettings ConfigurationZeroKeepsToggles
         InterfaceClearsNewSettingOnly InterfaceClearsEveryInterface InterfaceClearsHaltsOnly
         InterfaceByLowByte AlternateByLowByte FeatureByLowByte EndpointByLowByte
@@ -52,6 +52,10 @@ faults! {
         WaitingInConfiguredFits WakeupWithoutSupportFits IsochronousToggleFits AbsentInterfaceAlternateFits
         ZeroBytesIgnored HaltOfOtherSettingFits Waiting128Fits AddressInDefaultFits
         BusResetMendsRecord BusResetKeepsWakeup
+        BusResetClearsPower OpeningKeepsPower PowerEventDropsWaitingAddress PowerEventClearsWakeup
+        PowerByLowBit RefusedPowerIsTaken PowerInDefaultIsNotTaken PowerTwoFits OwnSupplyDoesNotFit
+        OwnSupplyFitsSelfPoweredOnly ConfigurationSetsPower UnknownEventReadsSetup UnknownEventIsDone
+        UnknownEventDropsWaitingAddress
     }
     PACKETS {
         EmptyLastPacketMissing EmptyPacketWhenEqual EmptyReplyAlwaysHasPacket PacketSize128Passes
