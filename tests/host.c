@@ -26,7 +26,7 @@ struct learnt {
     } bodies[MOST_CONFIGURATIONS];
     uint8_t refers[256]; /* string indices that some descriptor names */
     unsigned languages[127], language_count;
-    int wakeup;
+    int wakeup, own_supply; /* some configuration's attributes say so */
 };
 
 static void heading(const char *text) {
@@ -127,6 +127,7 @@ static void read_configuration(struct host *host, struct learnt *learnt, unsigne
     memcpy(body->bytes, host->bytes, body->length);
     learnt->refers[body->bytes[6]] = 1;
     learnt->wakeup |= body->bytes[7] >> 5 & 1;
+    learnt->own_supply |= body->bytes[7] >> 6 & 1;
     for (size_t at = 0; at < body->length; at = next_descriptor(body->bytes, body->length, at))
         if (body->bytes[at + 1] == TYPE_INTERFACE)
             learnt->refers[body->bytes[at + 8]] = 1;
@@ -189,6 +190,25 @@ static void use_wakeup(struct host *host, const struct learnt *learnt) {
     change_wakeup(host, learnt, SET_FEATURE);
     ask(host, 0x80, GET_STATUS, 0, 0, 2, HK_DONE);
     change_wakeup(host, learnt, CLEAR_FEATURE);
+}
+
+static void change_power(struct host *host, uint8_t source) {
+    printf("the device draws from %s\n", source == HK_POWER_OWN ? "its own supply" : "the bus");
+    wire_change_power(source);
+    show_record(host, "");
+    ask(host, 0x80, GET_STATUS, 0, 0, 2, HK_DONE);
+    if (host->bytes[0] % 2 != source)
+        fail(host, "D0 is not the supply");
+}
+
+/* From here on the device keeps its own supply. */
+static void use_power(struct host *host, const struct learnt *learnt) {
+    if (!learnt->own_supply)
+        return;
+    heading("The supply changes: D0 of the device's status tells it");
+    change_power(host, HK_POWER_OWN);
+    change_power(host, HK_POWER_BUS);
+    change_power(host, HK_POWER_OWN);
 }
 
 /* SET_CONFIGURATION takes a value, not an index: some value is never there, since there are at most 8. */
@@ -287,7 +307,7 @@ static void use_configuration(struct host *host, const struct learnt *learnt, co
 }
 
 static void leave(struct host *host, const struct learnt *learnt) {
-    heading("Configuration 0 leads back to Address, a bus reset to Default; only the reset ends remote wakeup");
+    heading("Configuration 0 leads back to Address, a bus reset to Default; only the reset ends remote wakeup, and it keeps the supply");
     change_wakeup(host, learnt, SET_FEATURE);
     ask(host, 0x00, SET_CONFIGURATION, 0, 0, 0, HK_DONE);
     reset_bus(host);
@@ -346,6 +366,7 @@ static int enumerate(const struct device_flash *flash) {
     read_one_packet(&host, &learnt.bodies[0]);
     read_strings(&host, &learnt);
     use_wakeup(&host, &learnt);
+    use_power(&host, &learnt);
     for (unsigned index = 0; index < learnt.configurations; index++)
         use_configuration(&host, &learnt, &learnt.bodies[index]);
     leave(&host, &learnt);

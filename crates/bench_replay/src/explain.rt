@@ -53,7 +53,7 @@ fn no_descriptor(asked: u8, language: u16) {
 // Another first byte of GET_STATUS of the device.
 fn other_status(ours: u8, recorded: u8) {
     if ours % 2 != recorded % 2 {
-        return say(b"the device's D0 is not attribute bit 6, which we answer");
+        return say(b"the device has a supply of its own, of which no power event told");
     }
     if ours / 2 % 2 != recorded / 2 % 2 {
         return say(b"the device's D1 is on, and wakeup is not supported");

@@ -1,5 +1,5 @@
 -- What a lookup tells of the board, and what GET_DESCRIPTOR answers from where a descriptor lies. No axiom.
-use Prim.Native.Nat.{ℕ, zero, suc, _/_, _%_, _≤_, _<_, min}
+use Prim.Native.Nat.{ℕ, zero, suc, _/_, _%_, _<_, min}
 use native.Mathlib.Omega.{arith}
 use mathlib.Core.Path.{_≡_, refl}
 use mathlib.Core.Bool.{Bool, true, false, _&&_, not}
@@ -51,7 +51,7 @@ described v d s =
 
     go : (string serial listed configuration device : Bool) (o p q : Option Entry)
         → pick string (pick serial (pick listed (gives (SerialPart (min (v .block) (s .length))) d) (refused 13 d)) (setPart d (s .length) o))
-            (pick configuration (setPart d (s .length) p) (pick device (setPart d (s .length) q) (refused 13 d)))
+        (pick configuration (setPart d (s .length) p) (pick device (setPart d (s .length) q) (refused 13 d)))
         ≡ describe d (s .length) (pick string (pick serial (pick listed (Serial (v .block)) Nowhere) (bodyAt o)) (pick configuration (bodyAt p) (pick device (bodyAt q) Nowhere)))
     go true true true c e o p q = refl
     go true true false c e o p q = refl
@@ -64,11 +64,6 @@ described v d s =
 pub unhalted : (a b : Bool) {f h t : Bool} → f ≡ a → h ≡ (a && b) → (f && not h) ≡ t → (a && not b) ≡ t
 unhalted true b p q r = rw (p, q) at r
 unhalted false b p q r = rw p at r
-
--- ---- a bool as a number
-pub digit-small : (b : Bool) → digit b ≤ 1
-digit-small true = omega arith
-digit-small false = omega arith
 
 -- ---- status end: zero leads to Default, others to Address
 pub state-of : (w : ℕ) → digit (leb 1 w) ≡ pick (eqb w 0) inDefault inAddress
@@ -84,7 +79,6 @@ pub settles : {v : View} {d : Device} {s : Setup} {f : Facts} → Tells v d s f 
 settles t = record {
   configured = t .configured;
   waking = t .waking;
-  powered = t .powered;
   surveyed = t .surveyed;
   interface = t .interface;
   small = t .small;

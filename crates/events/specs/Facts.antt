@@ -4,7 +4,6 @@ use mathlib.Core.Path.{_≡_}
 use mathlib.Core.Bool.{Bool, true, false, _&&_}
 use mathlib.Core.Option.{Option, some, none}
 use lib.Dec.{eqb, leb}
-use Rattle.octets.specs.Bit.{bit}
 use Rattle.octets.specs.Sentences.{pick, first, member}
 use Rattle.descriptors.specs.Configuration.{hasInterface, hasSetting}
 use Rattle.descriptors.specs.declared.survey.Asked.{Asked}
@@ -16,14 +15,14 @@ use Rattle.records.specs.Change.{changed}
 use Rattle.records.specs.Current.{selected}
 use Rattle.requests.specs.declared.Setup.{Setup}
 use Rattle.events.specs.declared.Event.{Event}
-use Rattle.events.specs.declared.Event.the-variants.{Request, Malformed, StatusEnd, BusReset, Halt, PacketPassed}
+use Rattle.events.specs.declared.Event.the-variants.{Request, Malformed, StatusEnd, BusReset, Halt, PacketPassed, Power}
 use Rattle.events.specs.declared.facts.Facts.{Facts}
 use Rattle.events.specs.declared.facts.Located.{Located}
 use Rattle.events.specs.declared.facts.Located.the-variants.{Body, Serial, Nowhere}
 use Rattle.events.specs.declared.reaction.Reaction.{Reaction}
 use Rattle.events.specs.declared.Outcome.{Outcome}
 use Rattle.events.specs.Answer.{gives}
-use Rattle.events.specs.Requests.{byRecipient, digit, powering, deviceFeature, interfaceFeature, endpointFeature, clearHalt, setHalt, isEntry, languageFor}
+use Rattle.events.specs.Requests.{byRecipient, digit, deviceFeature, interfaceFeature, endpointFeature, clearHalt, setHalt, isEntry, languageFor}
 
 -- ---- a reaction to an event at a record
 abbrev pub outcomeOf : Reaction → Device → Outcome
@@ -69,6 +68,7 @@ questionOf StatusEnd = naming 0
 questionOf BusReset = naming 0
 questionOf (Halt a) = naming a
 questionOf (PacketPassed a) = naming a
+questionOf (Power source) = naming 0
 
 -- what it asks of the selected configuration
 abbrev pub askedBy : Setup → Asked
@@ -78,7 +78,6 @@ askedBy s = record { address = s .index; interface = s .index; alternate = s .va
 pub record Tells (v : View) (d : Device) (s : Setup) (f : Facts) : Type 0 where
   pub configured : f .configured ≡ hasValue (record { 0 = d .configuration }) (v .configurations)
   pub waking : f .waking ≡ wakes v
-  pub powered : f .powered ≡ bit (powering v d .attributes) 6
   pub surveyed : Surveys (selected v d) (d .alternates) (askedBy s) (f .survey)
   pub interface : f .interface ≡ hasInterface (selected v d) (s .index)
   pub small : hasSetting (selected v d) (s .index) (s .value) ≡ true → (s .index < 16) × (s .value < 16)

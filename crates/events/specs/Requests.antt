@@ -11,7 +11,7 @@ use Rattle.octets.specs.Sentences.{pick, only, first, member}
 use Rattle.descriptors.specs.declared.Endpoint.{Endpoint}
 use Rattle.descriptors.specs.Configuration.{Configuration, hasInterface, hasSetting, canHalt, bitOf, cleared, ofEither}
 use Rattle.sets.specs.declared.Entry.{Entry}
-use Rattle.sets.specs.View.{View, entryByIndex, byIndex, hasValue, wakes}
+use Rattle.sets.specs.View.{View, entryByIndex, hasValue, wakes}
 use Rattle.records.specs.declared.Device.{Device}
 use Rattle.records.specs.Device.{inAddress, inConfigured, withWaiting, withWakeup, withConfiguration, withEndpoints}
 use Rattle.records.specs.Current.{selected, endpointAt}
@@ -34,13 +34,9 @@ abbrev pub digit : Bool → ℕ
 digit true = 1
 digit false = 0
 
--- "D0 is attribute bit 6 of the selected configuration (index 0 in Address)"
-abbrev pub powering : View → Device → Configuration
-powering v d = pick (eqb (d .state) inAddress) (byIndex (record { 0 = 0 }) (v .configurations)) (selected v d)
-
--- "D1 is wakeup"
-abbrev pub getDeviceStatus : View → Device → Outcome
-getDeviceStatus v d = gives (TwoBytes (digit (bit (powering v d .attributes) 6) + 2 * d .wakeup) 0) d
+-- "D0 is that byte in every state", the power source (L2); "D1 is wakeup"
+abbrev pub getDeviceStatus : Device → Outcome
+getDeviceStatus d = gives (TwoBytes (d .power + 2 * d .wakeup) 0) d
 
 -- "interface 0, 0"
 abbrev pub getInterfaceStatus : View → Device → ℕ → Outcome
@@ -55,7 +51,7 @@ abbrev pub getEndpointStatus : View → Device → ℕ → Outcome
 getEndpointStatus v d index = pick (isEndpointZero index) (gives (TwoBytes 0 0) d) (endpointStatus d (endpointAt v d index))
 
 unfoldable pub getStatus : View → Device → Setup → Outcome
-getStatus v d s = byRecipient s (getDeviceStatus v d) (getInterfaceStatus v d (s .index)) (getEndpointStatus v d (s .index))
+getStatus v d s = byRecipient s (getDeviceStatus d) (getInterfaceStatus v d (s .index)) (getEndpointStatus v d (s .index))
 
 -- ---- CLEAR_FEATURE and SET_FEATURE
 -- "Features: device 1 (wakeup, if supported)"

@@ -19,7 +19,7 @@ use Rattle.descriptors.specs.declared.ConfigurationIndex.{ConfigurationIndex}
 use Rattle.sets.specs.View.{View, entryByIndex, wakes}
 use Rattle.sets.proofs.Lookups.{by-index-member}
 use Rattle.records.specs.declared.Device.{Device}
-use Rattle.records.specs.Device.{inDefault, inAddress, inConfigured, nothing, fresh, settled, withWaiting, withWakeup, withAddress, withConfiguration, withEndpoints}
+use Rattle.records.specs.Device.{inDefault, inAddress, inConfigured, nothing, afterReset, settled, withWaiting, withWakeup, withPower, withAddress, withConfiguration, withEndpoints}
 use Rattle.records.specs.Current.{selected, currentEndpoints, endpointAt}
 use Rattle.requests.specs.declared.Setup.{Setup}
 use Rattle.requests.specs.declared.Row.{Row}
@@ -28,7 +28,7 @@ use Rattle.requests.specs.Table.{table, rowOf, inState, fieldsFit, refusalAt, r
 use Rattle.events.specs.declared.Answer.{Answer}
 use Rattle.events.specs.declared.Answer.the-variants.{Done, SetPart, SerialPart}
 use Rattle.events.specs.declared.Event.{Event}
-use Rattle.events.specs.declared.Event.the-variants.{Request, Malformed, StatusEnd, BusReset, Halt, PacketPassed}
+use Rattle.events.specs.declared.Event.the-variants.{Request, Malformed, StatusEnd, BusReset, Halt, PacketPassed, Power}
 use Rattle.events.specs.declared.Outcome.{Outcome}
 use Rattle.events.specs.Answer.{numberOf, partOf, gives, done, refused}
 use Rattle.events.specs.Requests.{byRecipient, isEndpointZero, deviceFeature, interfaceFeature, endpointFeature, endpointStatus, haltFeature, clearHalt, setHalt, setPart, isEntry, languageFor, withSetting, getStatus, clearFeature, setFeature, setAddress, getDescriptor, getConfiguration, setConfiguration, getInterface, setInterface}
@@ -47,7 +47,8 @@ pub data Changed (v : View) (d : Device) : Device → Type 0 where
   configures : (c : ℕ) → 1 ≤ d .state → d .waiting ≡ nothing → any (λ k. eqb (k .value) c) (v .configurations) ≡ true
       → Changed v d (withConfiguration inConfigured c d)
   sets : (j a : ℕ) → hasSetting (selected v d) j a ≡ true → Changed v d (withSetting v d j a)
-  resets : Changed v d fresh
+  resets : Changed v d (afterReset d)
+  powers : (source : ℕ) → source ≤ 1 → Changed v d (withPower source d)
 
 -- a setup's outcome, on the record d that it has settled
 pub data Answered (v : View) (d : Device) : Outcome → Type 0 where
@@ -57,11 +58,12 @@ pub data Answered (v : View) (d : Device) : Outcome → Type 0 where
   changes : {x : Device} → Changed v d x → Answered v d (done x)
   refusedWith : (n : ℕ) → 10 ≤ n → n ≤ 14 → Answered v d (refused n d)
 
--- the refusals of an event that settles nothing: "not 8 bytes" 9, a function event 16
+-- the refusals of an event that settles nothing: "not 8 bytes" 9, a function event or a power event 16
 pub data Refusable : Event → ℕ → Type 0 where
   malformed : Refusable Malformed 9
   noHalt : {a : ℕ} → Refusable (Halt a) 16
   noPass : {a : ℕ} → Refusable (PacketPassed a) 16
+  noPower : {source : ℕ} → Refusable (Power source) 16
 
 -- an event's outcome
 pub data Responded (v : View) (d : Device) : Event → Outcome → Type 0 where
@@ -212,3 +214,4 @@ module _ (v : View) (d : Device) where
       at none p = refuses noPass
       at (some e) p = chosen (Responded v d (PacketPassed a)) (canHalt e && not (bit (d .halts) (bitOf (e .address))))
           (λ t. becomes (toggled e (found a p) (both (canHalt e) (not (bit (d .halts) (bitOf (e .address)))) t .0))) (λ t. refuses noPass)
+  responded (Power source) = chosen (Responded v d (Power source)) (leb source 1) (λ t. becomes (powers source (leb-true source 1 t))) (λ t. refuses noPower)

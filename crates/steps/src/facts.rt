@@ -16,14 +16,12 @@ ghost use Prim.Native.Nat.{_<_};
 ghost use lib.Dec.{ltb};
 ghost use Rattle.octets.specs.Bit.{bit};
 ghost use Rattle.octets.specs.Sentences.{pick};
-ghost use Rattle.descriptors.specs.Configuration.{configurationOf, configurationAttributes};
 ghost use Rattle.sets.specs.Opening.{lent};
 ghost use Rattle.sets.specs.Found.{isFound};
-ghost use Rattle.sets.specs.View.{View, viewOf, openingOf, hasValue};
-ghost use Rattle.records.specs.Current.{selected};
-ghost use Rattle.events.specs.Requests.{powering, languageFor};
+ghost use Rattle.sets.specs.View.{viewOf, openingOf, hasValue};
+ghost use Rattle.events.specs.Requests.{languageFor};
 ghost use Rattle.events.specs.Facts.{naming, questionOf, locateString, locate, Tells};
-ghost use Rattle.steps.specs.Gathering.{configurationsIn, bodyFound, firstBody, located};
+ghost use Rattle.steps.specs.Gathering.{configurationsIn, bodyFound, located};
 
 // The question of a function event, or of one that asks nothing.
 fn naming(address: u8) -> Setup
@@ -49,6 +47,7 @@ fn question_of(event: Event) -> Setup
         Event::BusReset => naming(0),
         Event::Halt(address) => naming(address),
         Event::PacketPassed(address) => naming(address),
+        Event::Power(_) => naming(0),
     }
 }
 
@@ -81,27 +80,6 @@ fn place(entry: EntryFound) -> Located
         },
         EntryFound::Nothing => Located::Nowhere,
     }
-}
-
-// Whether a configuration is powered by itself: bit 6 of its attributes.
-fn is_powered(body: &[u8]) -> bool
-    ensures { λ r. ⌜ r ≡ bit (configurationAttributes (now (body .entry))) 6 ⌝ }
-{
-    octets::peek(body, 7) / 64 % 2 == 1
-}
-
-// Whether the device is powered by itself, by the selected configuration, whose body is given, or in Address by the one at index 0.
-fn powered(set: &[u8], body: &[u8], device: Device) -> bool
-    ensures { λ r. ⌜ ((v : View) → v .configurations ≡ configurationsIn (now (set .entry)) → configurationOf (now (body .entry)) ≡ selected v device
-        → r ≡ bit (powering v device .attributes) 6) ⌝ }
-{
-    if device.state == 1 {
-        return is_powered(body_found(
-            set,
-            configuration::by_index(set, ConfigurationIndex(0)),
-        ));
-    }
-    is_powered(body)
 }
 
 // Whether an interface is among those of a word; none has a number past 15.
@@ -189,7 +167,6 @@ pub fn gather(set: &[u8], serial: &[u8], device: Device, event: Event) -> Facts
     Facts {
         configured: is_found(selected),
         waking: configuration::wakes(set),
-        powered: powered(set, body, device),
         interface: is_among(survey.existing, question.index),
         survey,
         configuration: has_asked(set, question),
