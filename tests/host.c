@@ -307,7 +307,7 @@ static void use_configuration(struct host *host, const struct learnt *learnt, co
 }
 
 static void leave(struct host *host, const struct learnt *learnt) {
-    heading("Configuration 0 leads back to Address, a bus reset to Default; only the reset ends remote wakeup, and it keeps the supply");
+    heading("Configuration 0 leads back to Address, a bus reset to Default; only the reset ends remote wakeup");
     change_wakeup(host, learnt, SET_FEATURE);
     ask(host, 0x00, SET_CONFIGURATION, 0, 0, 0, HK_DONE);
     reset_bus(host);
