@@ -18,6 +18,8 @@ use Rattle.records.specs.Current.{selected, endpointAt}
 use Rattle.requests.specs.declared.Setup.{Setup}
 use Rattle.requests.specs.Setup.{recipient}
 use Rattle.events.specs.declared.Answer.the-variants.{OneByte, TwoBytes, SetPart, SerialPart}
+use Rattle.events.specs.declared.facts.Located.{Located}
+use Rattle.events.specs.declared.facts.Located.the-variants.{Body, Serial, Nowhere}
 use Rattle.events.specs.declared.Outcome.{Outcome}
 use Rattle.events.specs.Answer.{gives, done, refused}
 
@@ -88,34 +90,41 @@ setFeature v d s = byRecipient s (deviceFeature 1 v d s) (interfaceFeature v d s
 unfoldable pub setAddress : View → Device → Setup → Outcome
 setAddress v d s = done (withWaiting (s .value) d)
 
--- ---- GET_DESCRIPTOR: "never more than wLength bytes, from the start of the body"
-abbrev pub setPart : Device → ℕ → Option Entry → Outcome
-setPart d asked none = refused 13 d
-setPart d asked (some e) = gives (SetPart (e .offset) (min (e .length) asked)) d
-
+-- ---- GET_DESCRIPTOR
 abbrev pub isEntry : ℕ → ℕ → ℕ → Entry → Bool
 isEntry kind index language e = eqb (e .kind) kind && eqb (e .index) index && eqb (e .language) language
 
--- "The serial index is answered from the serial block"; it is given in each listed language
-abbrev pub serialPart : View → Device → ℕ → ℕ → Outcome
-serialPart v d language asked = pick (member language (v .languages)) (gives (SerialPart (min (v .block) asked)) d) (refused 13 d)
+abbrev pub bodyAt : Option Entry → Located
+bodyAt none = Nowhere
+bodyAt (some e) = Body (e .offset) (e .length)
 
 -- the language in which a string is given: "String 0 is given from the set for any wIndex; other strings need a listed language"
-abbrev pub languageFor : ℕ → ℕ → ℕ
-languageFor index asked = pick (eqb index 0) 0 asked
+abbrev pub languageFor : View → ℕ → ℕ → ℕ
+languageFor v index asked = pick (eqb index 0) 0 asked
 
-abbrev pub getString : View → Device → ℕ → ℕ → ℕ → Outcome
-getString v d index language asked =
-    pick (leb 1 index && eqb index (v .serial)) (serialPart v d language asked)
-    (setPart d asked (first (isEntry 3 index (languageFor index language)) (v .entries)))
+-- where a string lies, in the language chosen: "The serial index is answered from the serial block", which is given in each listed language
+abbrev pub locateString : View → ℕ → ℕ → Located
+locateString v index language =
+    pick (leb 1 index && eqb index (v .serial)) (pick (member language (v .languages)) (Serial (v .block)) Nowhere)
+    (bodyAt (first (isEntry 3 index language) (v .entries)))
 
--- "Device index must be 0 (13)": the one device entry has index 0; a configuration goes by its index; any other type gives 13
+-- where the descriptor lies that a setup asks for, whatever the record. "Device index must be 0 (13)": the one device entry has index 0;
+-- a configuration goes by its index; any other type is nowhere
+unfoldable pub locate : View → Setup → Located
+locate v s =
+    pick (eqb (s .value / 256) 3) (locateString v (s .value % 256) (languageFor v (s .value % 256) (s .index)))
+    (pick (eqb (s .value / 256) 2) (bodyAt (entryByIndex (record { 0 = s .value % 256 }) (v .entries)))
+    (pick (eqb (s .value / 256) 1) (bodyAt (first (isEntry 1 (s .value % 256) 0) (v .entries)))
+    Nowhere))
+
+-- "never more than wLength bytes, from the start of the body"; what is nowhere gives 13
+abbrev pub describe : Device → ℕ → Located → Outcome
+describe d asked (Body offset size) = gives (SetPart offset (min size asked)) d
+describe d asked (Serial size) = gives (SerialPart (min size asked)) d
+describe d asked Nowhere = refused 13 d
+
 unfoldable pub getDescriptor : View → Device → Setup → Outcome
-getDescriptor v d s =
-    pick (eqb (s .value / 256) 3) (getString v d (s .value % 256) (s .index) (s .length))
-    (pick (eqb (s .value / 256) 2) (setPart d (s .length) (entryByIndex (record { 0 = s .value % 256 }) (v .entries)))
-    (pick (eqb (s .value / 256) 1) (setPart d (s .length) (first (isEntry 1 (s .value % 256) 0) (v .entries)))
-    (refused 13 d)))
+getDescriptor v d s = describe d (s .length) (locate v s)
 
 -- ---- GET_CONFIGURATION
 unfoldable pub getConfiguration : View → Device → Setup → Outcome

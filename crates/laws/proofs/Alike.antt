@@ -1,5 +1,5 @@
 -- An event that concerns k or nobody: records that k cannot tell apart get the same answer and stay so. No axiom.
-use Prim.Native.Nat.{ℕ, _+_, _*_, _/_, _%_, _≤_, _<_}
+use Prim.Native.Nat.{ℕ, _+_, _*_, _≤_, _<_}
 use native.Mathlib.Omega.{arith}
 use mathlib.Core.Path.{_≡_, refl, sym, ap, _∙_}
 use mathlib.Core.Bool.{Bool, true, false, _&&_, _||_, not, false≢true}
@@ -10,12 +10,11 @@ use lib.Seq.{getD-set-same}
 use lib.Dec.{eqb, leb}
 use borrow.Author.Tests.{eqb-true, eqb-false}
 use Rattle.octets.specs.Bit.{bit, flipBit}
-use Rattle.octets.specs.Sentences.{pick, any, only, first, member}
+use Rattle.octets.specs.Sentences.{pick, any, only}
 use Rattle.octets.proofs.Sentences.{both, any-member, member-any}
 use Rattle.descriptors.specs.declared.Endpoint.{Endpoint}
 use Rattle.descriptors.specs.Configuration.{Configuration, hasInterface, hasSetting, currentOf, addressed, canHalt, bitOf, cleared, ofEither}
-use Rattle.sets.specs.declared.Entry.{Entry}
-use Rattle.sets.specs.View.{View, entryByIndex, byValue, wakes}
+use Rattle.sets.specs.View.{View, byValue, wakes}
 use Rattle.records.specs.declared.Device.{Device}
 use Rattle.records.specs.Device.{inDefault, inAddress, inConfigured, nothing, afterReset, settled, withWaiting, withWakeup, withPower, withAddress, withConfiguration, withEndpoints}
 use Rattle.records.specs.Current.{selected, endpointAt}
@@ -24,11 +23,13 @@ use Rattle.requests.specs.Setup.{recipient}
 use Rattle.requests.specs.Table.{refusal}
 use Rattle.events.specs.declared.Answer.{Answer}
 use Rattle.events.specs.declared.Answer.the-variants.{OneByte, TwoBytes, Refused}
+use Rattle.events.specs.declared.facts.Located.{Located}
+use Rattle.events.specs.declared.facts.Located.the-variants.{Body, Serial, Nowhere}
 use Rattle.events.specs.declared.Outcome.{Outcome}
 use Rattle.events.specs.declared.Event.{Event}
 use Rattle.events.specs.declared.Event.the-variants.{Request, Malformed, StatusEnd, BusReset, Halt, PacketPassed, Power}
 use Rattle.events.specs.Answer.{gives, done, refused}
-use Rattle.events.specs.Requests.{byRecipient, getStatus, endpointStatus, isEndpointZero, digit, deviceFeature, interfaceFeature, haltFeature, endpointFeature, clearHalt, setHalt, clearFeature, setFeature, setAddress, setPart, isEntry, languageFor, getDescriptor, getConfiguration, setConfiguration, getInterface, withSetting, setInterface}
+use Rattle.events.specs.Requests.{byRecipient, getStatus, endpointStatus, isEndpointZero, digit, deviceFeature, interfaceFeature, haltFeature, endpointFeature, clearHalt, setHalt, clearFeature, setFeature, setAddress, locate, describe, getDescriptor, getConfiguration, setConfiguration, getInterface, withSetting, setInterface}
 use Rattle.events.specs.Step.{request, answerSetup, statusEnd, haltAt, halt, passAt, packetPassed, power, respond}
 use Rattle.events.specs.Concerns.{setupConcerns, eventConcerns}
 use Rattle.sets.specs.Sound.{SoundConfiguration}
@@ -242,18 +243,14 @@ module _ (v : View) (T : Type 0) (k : ℕ) (d s : Device) (h : Near v T k d s) w
     unfolding setAddress
     alike-set-address = record { answer = refl; near = near-waiting (q .value) }
 
-    alike-part : (o : Option Entry) → Alike v T k (setPart d (q .length) o) (setPart s (q .length) o)
-    alike-part none = refuse 13
-    alike-part (some e) = give refl
+    alike-described : (l : Located) → Alike v T k (describe d (q .length) l) (describe s (q .length) l)
+    alike-described (Body offset size) = give refl
+    alike-described (Serial size) = give refl
+    alike-described Nowhere = refuse 13
 
     alike-get-descriptor : Alike v T k (getDescriptor v d q) (getDescriptor v s q)
     unfolding getDescriptor
-    alike-get-descriptor = test (eqb (q .value / 256) 3)
-        (λ p. test (leb 1 (q .value % 256) && eqb (q .value % 256) (v .serial))
-        (λ t. test (member (q .index) (v .languages)) (λ u. give refl) (λ u. refuse 13))
-        (λ t. alike-part (first (isEntry 3 (q .value % 256) (languageFor (q .value % 256) (q .index))) (v .entries))))
-        (λ p. test (eqb (q .value / 256) 2) (λ t. alike-part (entryByIndex (record { 0 = q .value % 256 }) (v .entries)))
-        (λ t. test (eqb (q .value / 256) 1) (λ u. alike-part (first (isEntry 1 (q .value % 256) 0) (v .entries))) (λ u. refuse 13)))
+    alike-get-descriptor = alike-described (locate v q)
 
     alike-get-configuration : Alike v T k (getConfiguration v d q) (getConfiguration v s q)
     unfolding getConfiguration

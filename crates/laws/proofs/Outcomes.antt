@@ -29,9 +29,11 @@ use Rattle.events.specs.declared.Answer.{Answer}
 use Rattle.events.specs.declared.Answer.the-variants.{Done, SetPart, SerialPart}
 use Rattle.events.specs.declared.Event.{Event}
 use Rattle.events.specs.declared.Event.the-variants.{Request, Malformed, StatusEnd, BusReset, Halt, PacketPassed, Power}
+use Rattle.events.specs.declared.facts.Located.{Located}
+use Rattle.events.specs.declared.facts.Located.the-variants.{Body, Serial, Nowhere}
 use Rattle.events.specs.declared.Outcome.{Outcome}
 use Rattle.events.specs.Answer.{numberOf, partOf, gives, done, refused}
-use Rattle.events.specs.Requests.{byRecipient, isEndpointZero, deviceFeature, interfaceFeature, endpointFeature, endpointStatus, haltFeature, clearHalt, setHalt, setPart, isEntry, languageFor, withSetting, getStatus, clearFeature, setFeature, setAddress, getDescriptor, getConfiguration, setConfiguration, getInterface, setInterface}
+use Rattle.events.specs.Requests.{byRecipient, isEndpointZero, deviceFeature, interfaceFeature, endpointFeature, endpointStatus, haltFeature, clearHalt, setHalt, isEntry, bodyAt, languageFor, locateString, locate, describe, withSetting, getStatus, clearFeature, setFeature, setAddress, getDescriptor, getConfiguration, setConfiguration, getInterface, setInterface}
 use Rattle.events.specs.Step.{request, answerSetup, statusEnd, haltAt, halt, passAt, packetPassed, respond}
 
 -- a change of a record that fits, with what is known where it comes about
@@ -116,6 +118,30 @@ tableRefuses state s = go (rowOf s)
     go none n = (lit≤ tt, lit≤ tt)
     go (some r) n = tests (inState r state) (fieldsFit r s) n
 
+-- ---- a descriptor lies in the body of an entry, in the serial block, or nowhere
+pub data Lies (v : View) : Located → Type 0 where
+  inBody : (e : Entry) → List·Memᴰ e (v .entries) → Lies v (Body (e .offset) (e .length))
+  inBlock : Lies v (Serial (v .block))
+  nowhere : Lies v Nowhere
+
+lies : (v : View) (s : Setup) → Lies v (locate v s)
+unfolding locate
+lies v s = chosen (Lies v) (eqb (s .value / 256) 3) (λ e. string (s .value % 256) (languageFor v (s .value % 256) (s .index)))
+    (λ e. chosen (Lies v) (eqb (s .value / 256) 2) (λ e. numbered (record { 0 = s .value % 256 }) _ refl)
+    (λ e. chosen (Lies v) (eqb (s .value / 256) 1) (λ e. entry (isEntry 1 (s .value % 256) 0) _ refl) (λ e. nowhere)))
+  where
+    numbered : (i : ConfigurationIndex) (o : Option Entry) → entryByIndex i (v .entries) ≡ o → Lies v (bodyAt o)
+    numbered i none e = nowhere
+    numbered i (some x) e = inBody x (by-index-member i (v .entries) e)
+
+    entry : (p : Entry → Bool) (o : Option Entry) → first p (v .entries) ≡ o → Lies v (bodyAt o)
+    entry p none e = nowhere
+    entry p (some x) e = inBody x (first-some p (v .entries) e .0)
+
+    string : (index language : ℕ) → Lies v (locateString v index language)
+    string index language = chosen (Lies v) (leb 1 index && eqb index (v .serial))
+        (λ e. chosen (Lies v) (member language (v .languages)) (λ e. inBlock) (λ e. nowhere)) (λ e. entry (isEntry 3 index language) _ refl)
+
 -- ---- the requests, a leaf at a time
 module _ (v : View) (d : Device) (s : Setup) where
   missing : Answered v d (refused 13 d)
@@ -152,21 +178,12 @@ module _ (v : View) (d : Device) (s : Setup) where
 
   descriptors : Answered v d (getDescriptor v d s)
   unfolding getDescriptor
-  descriptors = chosen (Answered v d) (eqb (s .value / 256) 3)
-      (λ e. chosen (Answered v d) (leb 1 (s .value % 256) && eqb (s .value % 256) (v .serial))
-      (λ e. chosen (Answered v d) (member (s .index) (v .languages)) (λ e. fromSerial (s .length)) (λ e. missing))
-      (λ e. at 3 (s .value % 256) (languageFor (s .value % 256) (s .index)) _ refl))
-      (λ e. chosen (Answered v d) (eqb (s .value / 256) 2) (λ e. numbered (record { 0 = s .value % 256 }) _ refl)
-      (λ e. chosen (Answered v d) (eqb (s .value / 256) 1) (λ e. at 1 (s .value % 256) 0 _ refl)
-      (λ e. missing)))
+  descriptors = at (lies v s)
     where
-      numbered : (i : ConfigurationIndex) (o : Option Entry) → entryByIndex i (v .entries) ≡ o → Answered v d (setPart d (s .length) o)
-      numbered i none e = missing
-      numbered i (some x) e = fromSet x (s .length) (by-index-member i (v .entries) e)
-
-      at : (kind index language : ℕ) (o : Option Entry) → first (isEntry kind index language) (v .entries) ≡ o → Answered v d (setPart d (s .length) o)
-      at kind index language none e = missing
-      at kind index language (some x) e = fromSet x (s .length) (first-some (isEntry kind index language) (v .entries) e .0)
+      at : {l : Located} → Lies v l → Answered v d (describe d (s .length) l)
+      at (inBody e m) = fromSet e (s .length) m
+      at inBlock = fromSerial (s .length)
+      at nowhere = missing
 
   configurations : 1 ≤ d .state → d .waiting ≡ nothing → Answered v d (setConfiguration v d s)
   unfolding setConfiguration

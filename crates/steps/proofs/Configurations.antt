@@ -30,7 +30,7 @@ use Rattle.sets.proofs.Bodies.{bytes-part, soundConfiguration}
 use Rattle.sets.proofs.Strings.{found-some}
 use Rattle.sets.proofs.Lookups.{value-found}
 use Rattle.steps.specs.Gathering.{configurationsIn, bodyFound, selectedBody, Usable, located}
-use Rattle.events.specs.Facts.{bodyAt}
+use Rattle.events.specs.Requests.{bodyAt}
 
 -- ---- an entry that was looked up
 pub located-found : (o : Option Entry) → located (found o) ≡ bodyAt o

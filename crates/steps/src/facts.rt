@@ -18,9 +18,9 @@ ghost use Rattle.octets.specs.Bit.{bit};
 ghost use Rattle.octets.specs.Sentences.{pick};
 ghost use Rattle.sets.specs.Opening.{lent};
 ghost use Rattle.sets.specs.Found.{isFound};
-ghost use Rattle.sets.specs.View.{viewOf, openingOf, hasValue};
-ghost use Rattle.events.specs.Requests.{languageFor};
-ghost use Rattle.events.specs.Facts.{naming, questionOf, locateString, locate, Tells};
+ghost use Rattle.sets.specs.View.{View, viewOf, openingOf, hasValue};
+ghost use Rattle.events.specs.Requests.{languageFor, locateString, locate};
+ghost use Rattle.events.specs.Facts.{naming, questionOf, Tells};
 ghost use Rattle.steps.specs.Gathering.{configurationsIn, bodyFound, located};
 
 // The question of a function event, or of one that asks nothing.
@@ -103,9 +103,9 @@ fn has_asked(set: &[u8], setup: Setup) -> bool
     false
 }
 
-// The language in which a string is asked for: string 0 is given for any.
+// The language in which a string is given: string 0 is given for any.
 fn language_for(index: u8, asked: u16) -> u16
-    ensures { λ r. ⌜ r ≡ languageFor index asked ⌝ }
+    ensures { λ r. ⌜ ((v : View) → r ≡ languageFor v index asked) ⌝ }
 {
     if index == 0 {
         return 0;
@@ -125,7 +125,7 @@ fn locate_string(set: &[u8], serial: &[u8], index: u8, language: u16) -> Located
         }
         return Located::Nowhere;
     }
-    place(contents::find_entry(set, 3, index, language_for(index, language)))
+    place(contents::find_entry(set, 3, index, language))
 }
 
 // Where the descriptor lies that GET_DESCRIPTOR asks for: a configuration by its index, a device or a string by its entry.
@@ -138,7 +138,7 @@ fn locate(set: &[u8], serial: &[u8], setup: Setup) -> Located
         return Located::Nowhere;
     }
     if kind == 3 {
-        return locate_string(set, serial, index, setup.index);
+        return locate_string(set, serial, index, language_for(index, setup.index));
     }
     if kind == 2 {
         return place(configuration::by_index(set, ConfigurationIndex(index)));
