@@ -389,20 +389,35 @@ impl Step<'_> {
         Ok(Part { block: Block::Set, offset: entry.offset, length: entry.length })
     }
 
-    /// String 0 for any wIndex; others need a listed language; the serial index is answered from the serial block.
-    fn string(&self, index: u8, language: u16) -> Result<Part, u8> {
-        let listed = self.board.languages.contains(&language);
+    /// String 0 for any wIndex; others in one listed language; the serial index is answered from the serial block.
+    fn string(&self, index: u8, asked: u16) -> Result<Part, u8> {
+        let listed = self.board.languages.contains(&asked);
         if index == 0 && (listed || !self.has_fault(Fault::StringZeroNeedsListedLanguage)) {
             return self.body_in_set(STRING, 0, 0);
         }
+        let language = self.language_for(index, asked).ok_or(13)?;
         let is_serial = index != 0 && index == self.board.serial_index;
-        if is_serial && (listed || self.has_fault(Fault::SerialInAnyLanguage)) {
+        if is_serial && (listed || !self.has_fault(Fault::SerialNeedsListedLanguage)) {
             return Ok(Part { block: Block::Serial, offset: 0, length: self.board.serial_length });
         }
-        if !listed {
-            return Err(13);
-        }
         self.body_in_set(STRING, index, language)
+    }
+
+    /// "In the first listed language when the asked one is not listed."
+    fn language_for(&self, index: u8, asked: u16) -> Option<u16> {
+        let languages = &self.board.languages;
+        let stands_in = |language: &&u16| self.board.entry(STRING, index, **language).is_some();
+        let needs_entry = self.has_fault(Fault::FallsBackThoughLanguageListed);
+        if languages.contains(&asked) && (!needs_entry || stands_in(&&asked)) {
+            return Some(asked);
+        }
+        match self.board.fault {
+            Fault::UnlistedLanguageDoesNotExist => None,
+            Fault::LanguageZeroDoesNotExist if asked == 0 => None,
+            Fault::FallsBackToLastLanguage => languages.last().copied(),
+            Fault::FallsBackToAnyLanguage => languages.iter().find(stands_in).or(languages.first()).copied(),
+            _ => languages.first().copied(),
+        }
     }
 
     /// "0 leads to Address. Either way alternates, halts and toggles become 0, also for the same value again."

@@ -40,7 +40,9 @@ faults! {
         AddressZeroWaitsAsNone AddressZeroLeadsToAddress StatusEndKeepsWaitingAddress StatusEndClearsWakeup
         LongerImagePasses LongerSetupPasses FieldsBeforeState FeatureBeforeExistence RecordBeforeSet SetupLengthBeforeRecord
         HighestAddressOneMore HighestAddressOneLess LargeConfigurationValueDoesNotExist
-        StringNeedsIndexZero StringZeroNeedsListedLanguage SerialInAnyLanguage OtherTypesAllowAnyIndex
+        StringNeedsIndexZero StringZeroNeedsListedLanguage SerialNeedsListedLanguage OtherTypesAllowAnyIndex
+        UnlistedLanguageDoesNotExist LanguageZeroDoesNotExist FallsBackThoughLanguageListed FallsBackToLastLanguage
+        FallsBackToAnyLanguage
         DescriptorLongerThanAsked AskedLengthZeroRefused EmptyPartStartsAtSet DeviceIndexIgnored
         SelfPoweredFromConfiguration SelfPoweredInConfiguredOnly WakeupNotReported WakeupOfSelectedConfigurationOnly
         ConfigurationClearsWakeup SameConfigurationKeepsSettings ConfigurationZeroKeepsToggles

@@ -273,10 +273,18 @@ fn alternate(interface: u16, board: &Board, record: &Record, random: &mut Random
     random.pick(&[inside, inside, inside, inside, current, settings as u16, inside | 0x0100])
 }
 
+/// Such a string shows which language it was looked up in.
+fn misses_a_language(board: &Board, index: u8) -> bool {
+    board.languages.iter().any(|&language| board.entry(STRING, index, language).is_none())
+}
+
 fn ask_descriptor(setup: &mut Setup, board: &Board, random: &mut Random) {
     let descriptor_type =
         random.pick(&[DEVICE, CONFIGURATION, CONFIGURATION, STRING, STRING, STRING, STRING, 0, 4, 6, 7]);
-    let of_type: Vec<_> = board.entries.iter().filter(|entry| entry.descriptor_type == descriptor_type).collect();
+    let mut of_type: Vec<_> = board.entries.iter().filter(|entry| entry.descriptor_type == descriptor_type).collect();
+    if descriptor_type == STRING && random.percent(25) {
+        of_type.retain(|entry| entry.index != 0 && misses_a_language(board, entry.index));
+    }
     let (index, language, length) = match of_type.is_empty() {
         true => (random.pick(&[0, 1]), 0, 0),
         false => {

@@ -10,7 +10,7 @@ use crate::packets;
 use crate::record::Record;
 
 /// The requests of document 02 that change old answers and have landed.
-const LANDED: [&str; 1] = ["l2"];
+const LANDED: [&str; 2] = ["l2", "l6"];
 
 /// What is lent from now on, and the record for the next question.
 struct Script {
