@@ -90,6 +90,8 @@ uint8_t hk_open(const uint8_t *set, size_t set_length, const uint8_t *serial, si
  * bytes, *count and *part are always written. What is not handed back is 0: a refusal leaves count 0 and bytes 0, 0, and
  * one byte leaves bytes[1] 0. A part that is not handed back is the set's first 0 bytes.
  *
+ * A string that is asked in a language that the set does not list is given in the first listed one.
+ *
  * A new address only waits here: hk_status_end takes it, so that the status stage still goes out under the old one. */
 uint8_t hk_setup(const uint8_t *set, size_t set_length, const uint8_t *serial, size_t serial_length,
                  uint8_t *image, size_t image_length, const uint8_t *setup, size_t setup_length,
