@@ -165,19 +165,29 @@ static void read_languages(struct host *host, struct learnt *learnt) {
         learnt->languages[learnt->language_count++] = two_bytes(host->bytes + at);
 }
 
+/* In each language, and in one that is not listed: then it is given in the first. */
+static void read_string(struct host *host, const struct learnt *learnt, unsigned index, unsigned unlisted) {
+    uint8_t first[255];
+    size_t length = 0;
+    for (unsigned at = 0; at < learnt->language_count; at++) {
+        get_descriptor(host, TYPE_STRING, index, learnt->languages[at], sizeof first, HK_DONE);
+        if (at == 0)
+            memcpy(first, host->bytes, length = host->length);
+    }
+    get_descriptor(host, TYPE_STRING, index, unlisted, sizeof first, length == 0 ? HK_DOES_NOT_EXIST : HK_DONE);
+    if (length != 0 && (host->length != length || memcmp(first, host->bytes, length) != 0))
+        fail(host, "it is not the string in the first language");
+}
+
 static void read_strings(struct host *host, struct learnt *learnt) {
     heading("Strings: string 0 lists the languages, then each string in each of them");
     read_languages(host, learnt);
     unsigned unlisted = 0x0409;
     while (is_listed(learnt, unlisted))
         unlisted++;
-    for (unsigned index = 1; index < 256; index++) {
-        if (!learnt->refers[index])
-            continue;
-        for (unsigned at = 0; at < learnt->language_count; at++)
-            get_descriptor(host, TYPE_STRING, index, learnt->languages[at], 255, HK_DONE);
-        get_descriptor(host, TYPE_STRING, index, unlisted, 255, HK_DOES_NOT_EXIST);
-    }
+    for (unsigned index = 1; index < 256; index++)
+        if (learnt->refers[index])
+            read_string(host, learnt, index, unlisted);
 }
 
 static void change_wakeup(struct host *host, const struct learnt *learnt, enum request request) {

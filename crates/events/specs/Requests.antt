@@ -98,9 +98,10 @@ abbrev pub bodyAt : Option Entry → Located
 bodyAt none = Nowhere
 bodyAt (some e) = Body (e .offset) (e .length)
 
--- the language in which a string is given: "String 0 is given from the set for any wIndex; other strings need a listed language"
+-- the language in which a string is given: "String 0 is given from the set for any wIndex"; a string index "is answered in the first listed
+-- language when the asked one is not listed" (L6; 0, in which no string stands, where none is listed)
 abbrev pub languageFor : View → ℕ → ℕ → ℕ
-languageFor v index asked = pick (eqb index 0) 0 asked
+languageFor v index asked = pick (eqb index 0) 0 (pick (member asked (v .languages)) asked (getD (v .languages) 0 0))
 
 -- where a string lies, in the language chosen: "The serial index is answered from the serial block", which is given in each listed language
 abbrev pub locateString : View → ℕ → ℕ → Located

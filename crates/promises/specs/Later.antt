@@ -7,10 +7,11 @@ use Rattle.records.specs.declared.Device.{Device}
 use Rattle.records.specs.Device.{fresh, withWaiting, withPower}
 use Rattle.events.specs.declared.Event.{Event}
 use Rattle.events.specs.declared.Event.the-variants.{StatusEnd, BusReset, Power}
+use Rattle.events.specs.Answer.{ofSerial}
 use Rattle.order.specs.Run.{log}
 use Rattle.promises.specs.Examples.{computed, S, T}
 use Rattle.promises.specs.Rearranged.{Values, valuesOf, answerOf, nextOf, after}
-use Rattle.promises.specs.Bench.{done, refused, addressed, configured, setup}
+use Rattle.promises.specs.Bench.{done, given, refused, addressed, configured, setup}
 
 -- a run of events on a board, from a record
 pub record Run : Type 0 where
@@ -53,9 +54,27 @@ power =
     on S (withWaiting 5 fresh) (Power 2 ∷ Power 255 ∷ []) (refused 16 ∷ refused 16 ∷ []) (withWaiting 5 fresh) ∷
     on S (withPower 2 fresh) (Power 2 ∷ BusReset ∷ []) (refused 8 ∷ refused 8 ∷ []) (withPower 2 fresh) ∷ []
 
+-- ---- L6: T lists German, then English; S lists none
+-- a part of the serial block
+abbrev ofBlock : ℕ → Values
+ofBlock size = record { number = 0; bytes = []; part = record { block = ofSerial; offset = 0; length = size } }
+
+language : List Later
+language =
+    -- string 2 in German, in English; in Italian and in language 0, which are not listed: in German
+    on T fresh (setup 0x800602030704FF00 ∷ setup 0x800602030904FF00 ∷ setup 0x800602031004FF00 ∷ setup 0x800602030000FF00 ∷ [])
+    (given 195 4 ∷ given 203 4 ∷ given 195 4 ∷ given 195 4 ∷ []) fresh ∷
+    -- string 5 has no entry in German: "stays 13" there, and in Italian
+    on T fresh (setup 0x800605030704FF00 ∷ setup 0x800605030904FF00 ∷ setup 0x800605031004FF00 ∷ []) (refused 13 ∷ given 207 2 ∷ refused 13 ∷ []) fresh ∷
+    -- "or the serial index"
+    on T fresh (setup 0x800603030904FF00 ∷ setup 0x800603031004FF00 ∷ []) (ofBlock 4 ∷ ofBlock 4 ∷ []) fresh ∷
+    -- string 0 for any wIndex, and an index that does not exist
+    on T fresh (setup 0x800600031004FF00 ∷ setup 0x800609031004FF00 ∷ []) (given 185 6 ∷ refused 13 ∷ []) fresh ∷
+    on S fresh (setup 0x800601030904FF00 ∷ setup 0x800600030904FF00 ∷ []) (refused 13 ∷ refused 13 ∷ []) fresh ∷ []
+
 pub examples : List Later
-unfolding power
-examples = power
+unfolding power language
+examples = power ++ language
 
 pub later : map (λ l. ending (l .run)) examples ≡ map (λ l. l .ends) examples
 unfolding computed examples

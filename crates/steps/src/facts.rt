@@ -12,13 +12,14 @@ use sets::configuration;
 use sets::contents;
 ghost use mathlib.Core.Path.{_≡_};
 ghost use mathlib.Core.Bool.{false};
-ghost use Prim.Native.Nat.{_<_};
+ghost use mathlib.Core.List.{List};
+ghost use Prim.Native.Nat.{ℕ, _<_};
 ghost use lib.Dec.{ltb};
 ghost use Rattle.octets.specs.Bit.{bit};
 ghost use Rattle.octets.specs.Sentences.{pick};
 ghost use Rattle.sets.specs.Opening.{lent};
 ghost use Rattle.sets.specs.Found.{isFound};
-ghost use Rattle.sets.specs.View.{View, viewOf, openingOf, hasValue};
+ghost use Rattle.sets.specs.View.{viewOf, openingOf, hasValue};
 ghost use Rattle.events.specs.Requests.{languageFor, locateString, locate};
 ghost use Rattle.events.specs.Facts.{naming, questionOf, Tells};
 ghost use Rattle.steps.specs.Gathering.{configurationsIn, bodyFound, located};
@@ -103,14 +104,17 @@ fn has_asked(set: &[u8], setup: Setup) -> bool
     false
 }
 
-// The language in which a string is given: string 0 is given for any.
-fn language_for(index: u8, asked: u16) -> u16
-    ensures { λ r. ⌜ ((v : View) → r ≡ languageFor v index asked) ⌝ }
+// The language in which a string is given: string 0 is given for any, and the first listed one stands in for one that is not listed.
+fn language_for(set: &[u8], index: u8, asked: u16) -> u16
+    ensures { λ r. ⌜ ((serial : List ℕ) → r ≡ languageFor (viewOf (lent (now (set .entry)) serial)) index asked) ⌝ }
 {
     if index == 0 {
         return 0;
     }
-    asked
+    if sets::string::language_listed(set, asked) {
+        return asked;
+    }
+    sets::string::first_language(set)
 }
 
 // Where the string with an index lies, in a language.
@@ -138,7 +142,7 @@ fn locate(set: &[u8], serial: &[u8], setup: Setup) -> Located
         return Located::Nowhere;
     }
     if kind == 3 {
-        return locate_string(set, serial, index, language_for(index, setup.index));
+        return locate_string(set, serial, index, language_for(set, index, setup.index));
     }
     if kind == 2 {
         return place(configuration::by_index(set, ConfigurationIndex(index)));

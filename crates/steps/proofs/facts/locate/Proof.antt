@@ -1,7 +1,6 @@
 -- `steps::facts::locate` meets its contract: by the type. No axiom.
 use borrow.Author.Tests.{eq-eqb, ne-eqb}
 use borrow.Author.Needs.{needs}
-use Rattle.sets.specs.Opening.{lent}
 use Rattle.sets.specs.View.{viewOf}
 use Rattle.events.specs.Requests.{locate}
 use Rattle.steps.proofs.Configurations.{located-found}
@@ -28,7 +27,7 @@ returns-2 : tie.Need-returns-2
 unfolding viewOf locate
 returns-2 c =
     let a = c .before .before .before .before .before .before .before .before .before .args in
-    λ p. rw (c .locate-string .ensures, c .before .language-for .ensures (viewOf (lent (a .set .now) (a .serial .now))), eq-eqb _ _ (c .before .before .if2 .taken))
+    λ p. rw (c .locate-string .ensures, c .before .language-for .ensures (a .serial .now), eq-eqb _ _ (c .before .before .if2 .taken))
 
 by-index-requires : tie.Need-by-index-requires
 by-index-requires c κs = search needs
