@@ -51,11 +51,15 @@ extern "C" {
 #define HK_DOES_NOT_EXIST 13          /* STALL: no such descriptor, configuration, interface, setting or endpoint */
 #define HK_NO_SUCH_FEATURE 14         /* STALL: feature not there for this recipient */
 #define HK_NO_SUCH_PACKET 15          /* packet: size, lengths or packet number */
-#define HK_ENDPOINT_UNFIT 16          /* function event on an unfit endpoint */
+#define HK_ENDPOINT_UNFIT 16          /* function event on an unfit endpoint; power event with a value above 1 */
 #define HK_PIECES_BROKEN 20           /* makers: the pieces do not end where their lengths say */
 #define HK_SET_REFUSED 21             /* makers: over 64 pieces or 16,384 bytes, or hk_open would refuse the set */
 #define HK_BUFFER_TOO_SHORT 22        /* makers: what is to be written is longer than the buffer */
 #define HK_DUMP_BROKEN 23             /* makers: the dump does not split into a device and configurations */
+
+/* The power sources. */
+#define HK_POWER_BUS 0
+#define HK_POWER_OWN 1
 
 /* Bytes in memory that the caller lent. Test length, not start: the start of an empty part is NULL only where NULL was
  * lent. */
@@ -77,6 +81,8 @@ typedef struct hk_part {
  * the image is fresh afterwards, whatever it held. HK_RECORD_DOES_NOT_FIT: image_length is not HK_IMAGE_LENGTH; nothing
  * was looked at or changed.
  *
+ * The fresh record says that the bus supplies the device: call hk_power next, with what the board senses.
+ *
  * This is the only call that mends an image that does not fit. */
 uint8_t hk_open(const uint8_t *set, size_t set_length, const uint8_t *serial, size_t serial_length,
                 uint8_t *image, size_t image_length);
@@ -92,6 +98,8 @@ uint8_t hk_open(const uint8_t *set, size_t set_length, const uint8_t *serial, si
  * bytes, *count and *part are always written. What is not handed back is 0: a refusal leaves count 0 and bytes 0, 0, and
  * one byte leaves bytes[1] 0. A part that is not handed back is the set's first 0 bytes.
  *
+ * A string that is asked in a language that the set does not list is given in the first listed one.
+ *
  * A new address only waits here: hk_status_end takes it, so that the status stage still goes out under the old one. */
 uint8_t hk_setup(const uint8_t *set, size_t set_length, const uint8_t *serial, size_t serial_length,
                  uint8_t *image, size_t image_length, const uint8_t *setup, size_t setup_length,
@@ -104,7 +112,7 @@ uint8_t hk_setup(const uint8_t *set, size_t set_length, const uint8_t *serial, s
 uint8_t hk_status_end(const uint8_t *set, size_t set_length, const uint8_t *serial, size_t serial_length,
                       uint8_t *image, size_t image_length);
 
-/* The bus was reset: makes the image the fresh record.
+/* The bus was reset: makes the image the fresh record; only the power source stays.
  *
  * HK_DONE, HK_SET_NOT_ACCEPTABLE or HK_RECORD_DOES_NOT_FIT; the last two change nothing. On an image that does not fit,
  * this is HK_RECORD_DOES_NOT_FIT and mends nothing: call hk_open. */
@@ -127,6 +135,14 @@ uint8_t hk_halt(const uint8_t *set, size_t set_length, const uint8_t *serial, si
 uint8_t hk_packet_passed(const uint8_t *set, size_t set_length, const uint8_t *serial, size_t serial_length,
                          uint8_t *image, size_t image_length, uint8_t endpoint);
 
+/* The board senses its supply: source is HK_POWER_BUS or HK_POWER_OWN, and is what GET_STATUS reports from now on. Call
+ * this after hk_open and whenever the supply changes. Every other byte of the image stays; an address waits on.
+ *
+ * HK_DONE; HK_ENDPOINT_UNFIT for any other source; HK_SET_NOT_ACCEPTABLE or HK_RECORD_DOES_NOT_FIT. All but HK_DONE
+ * change nothing. */
+uint8_t hk_power(const uint8_t *set, size_t set_length, const uint8_t *serial, size_t serial_length,
+                 uint8_t *image, size_t image_length, uint8_t source);
+
 /* The device record as a struct, in the order of its image. On a little-endian machine its 32 bytes are the image, so
  * hk_open opens a record too: hk_open(set, set_length, serial, serial_length, (uint8_t *)&record, sizeof record). */
 typedef struct hk_record {
@@ -135,7 +151,8 @@ typedef struct hk_record {
     uint8_t waiting;        /* the address that hk_status_end takes, 255 for none */
     uint8_t configuration;  /* the selected bConfigurationValue, 0 for none */
     uint8_t wakeup;         /* 1: the host has allowed remote wakeup */
-    uint8_t power, suspended, speed; /* 0 */
+    uint8_t power;          /* HK_POWER_BUS or HK_POWER_OWN */
+    uint8_t suspended, speed; /* 0 */
     uint8_t alternates[16]; /* the current setting of each interface */
     uint32_t halts;         /* bit e: OUT endpoint e is halted; bit 16 + e: IN endpoint e */
     uint32_t toggles;       /* the data toggles, in the same order */
@@ -145,19 +162,20 @@ typedef struct hk_record {
 #define HK_EVENT_SETUP 0         /* as hk_setup: reads setup */
 #define HK_EVENT_STATUS_END 1    /* as hk_status_end */
 #define HK_EVENT_BUS_RESET 2     /* as hk_bus_reset */
-#define HK_EVENT_HALT 3          /* as hk_halt: reads endpoint */
-#define HK_EVENT_PACKET_PASSED 4 /* as hk_packet_passed: reads endpoint */
+#define HK_EVENT_HALT 3          /* as hk_halt: value is the endpoint */
+#define HK_EVENT_PACKET_PASSED 4 /* as hk_packet_passed: value is the endpoint */
+#define HK_EVENT_POWER 5         /* as hk_power: value is the source */
 
 /* Any event, on a record that stands aligned in memory: what the call for that event does to an image, done to the
  * record where it stands, without a copy to an image and back. Its numbers are that call's too.
  *
- * endpoint is read by HK_EVENT_HALT and HK_EVENT_PACKET_PASSED alone (else 0), setup by HK_EVENT_SETUP alone (else NULL
- * and 0). bytes, *count and *part are always written, as hk_setup writes them: only a setup hands something back. Any
- * other event number is answered as a setup that is not 8 bytes, HK_SETUP_LENGTH_WRONG, and changes nothing.
+ * value is read by HK_EVENT_HALT, HK_EVENT_PACKET_PASSED and HK_EVENT_POWER alone (else 0), setup by HK_EVENT_SETUP alone
+ * (else NULL and 0). bytes, *count and *part are always written, as hk_setup writes them: only a setup hands something
+ * back. Any other event number is answered as a setup that is not 8 bytes, HK_SETUP_LENGTH_WRONG, and changes nothing.
  *
  * The record is aligned as a uint32_t is, and overlaps nothing else that is passed. */
 uint8_t hk_record_event(const uint8_t *set, size_t set_length, const uint8_t *serial, size_t serial_length,
-                        hk_record *record, uint8_t event, uint8_t endpoint, const uint8_t *setup, size_t setup_length,
+                        hk_record *record, uint8_t event, uint8_t value, const uint8_t *setup, size_t setup_length,
                         uint8_t bytes[2], uint8_t *count, hk_part *part);
 
 /* Cuts packet `number` (from 0) out of a reply: asked is the setup's wLength, size is bMaxPacketSize0.

@@ -9,7 +9,7 @@
 /* What the hardware holds, and one event that the loop has not seen yet. */
 static struct {
     struct device *device;
-    uint8_t address, heard;
+    uint8_t address, heard, power;
     uint8_t record[HK_IMAGE_LENGTH]; /* as the endpoints have it */
     int stalled, status_expected, packet_ready, event_waits;
     hk_part packet;
@@ -43,6 +43,10 @@ void hardware_set_address(uint8_t address) {
 
 void hardware_set_endpoints(const uint8_t *record) {
     memcpy(wire.record, record, sizeof wire.record);
+}
+
+uint8_t hardware_power_source(void) {
+    return wire.power;
 }
 
 void application_hear(uint8_t number) {
@@ -83,6 +87,11 @@ static void happen(enum hardware_event_kind kind) {
 void wire_reset_bus(void) {
     clear_endpoint_zero();
     happen(HARDWARE_BUS_RESET);
+}
+
+void wire_change_power(uint8_t source) {
+    wire.power = source;
+    happen(HARDWARE_POWER_CHANGED);
 }
 
 enum wire_answer wire_send_setup(uint8_t address, const uint8_t *setup) {

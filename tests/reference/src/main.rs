@@ -1,4 +1,4 @@
-//! An implementation of document 01, and of document 02 as far as it has landed, that shares no line with the proved library, and the tests that it makes possible.
+//! An implementation of documents 01 and 02 that shares no line with the proved library, and the tests that it makes possible.
 
 mod call;
 mod commands;
