@@ -43,6 +43,17 @@ static void conclude(const struct device *device, uint8_t number) {
         application_hear(number);
 }
 
+/* What the host is told by D0 of GET_STATUS. */
+static uint8_t tell_power(struct device *device) {
+    return hk_power(LENT(device), hardware_power_source());
+}
+
+/* Opening cannot know the supply: the fresh record says that it is the bus. */
+static uint8_t open_afresh(struct device *device) {
+    uint8_t number = hk_open(LENT(device));
+    return number == HK_DONE ? tell_power(device) : number;
+}
+
 /* Where the reply is shorter than asked, the last packet is short or empty, so that the host knows the end. */
 static void send_next_packet(struct device *device) {
     struct device_transfer *transfer = &device->transfer;
@@ -181,7 +192,7 @@ static void handle_bus_reset(struct device *device) {
     uint8_t number = hk_bus_reset(LENT(device));
     if (number == HK_RECORD_DOES_NOT_FIT) {
         application_hear(number);
-        number = hk_open(LENT(device));
+        number = open_afresh(device);
     }
     device->transfer.stage = STAGE_NONE;
     open_endpoints(device);
@@ -208,13 +219,16 @@ static void handle(struct device *device, const struct hardware_event *event) {
     case HARDWARE_ENDPOINT_PACKET:
         conclude(device, hk_packet_passed(LENT(device), event->endpoint));
         break;
+    case HARDWARE_POWER_CHANGED:
+        conclude(device, tell_power(device));
+        break;
     }
 }
 
 uint8_t device_start(struct device *device, const struct device_flash *flash) {
     device->flash = flash;
     device->transfer.stage = STAGE_NONE;
-    uint8_t number = hk_open(LENT(device));
+    uint8_t number = open_afresh(device);
     open_endpoints(device);
     conclude(device, number);
     return number;

@@ -18,7 +18,8 @@ enum hardware_event_kind {
     HARDWARE_PACKET_TAKEN,    /* endpoint zero: the host has acknowledged the packet that was sent */
     HARDWARE_STATUS_RECEIVED, /* endpoint zero: the host's empty packet has arrived */
     HARDWARE_PACKET_RECEIVED, /* endpoint zero: the host's data packet stands where it was to go, received bytes of it */
-    HARDWARE_ENDPOINT_PACKET  /* a data packet was acknowledged on the bulk or interrupt endpoint `endpoint` */
+    HARDWARE_ENDPOINT_PACKET, /* a data packet was acknowledged on the bulk or interrupt endpoint `endpoint` */
+    HARDWARE_POWER_CHANGED    /* the board draws from another supply than before */
 };
 
 struct hardware_event {
@@ -61,6 +62,9 @@ void hardware_open_endpoint(const uint8_t *descriptor);
 /* What the record has of them: STALL at those with a bit in the halts (bytes 24 to 27), and DATA1 to send or expect at
  * those with a bit in the toggles (bytes 28 to 31). Bit e is OUT number e, bit 16 + e is IN. */
 void hardware_set_endpoints(const uint8_t *record);
+
+/* The supply that the board draws from now: HK_POWER_BUS or HK_POWER_OWN. */
+uint8_t hardware_power_source(void);
 
 /* The application hears every number but HK_DONE. HK_REQUEST_UNKNOWN to HK_NO_SUCH_FEATURE are the host's doing, and it
  * was told by STALL. All others are a fault on the board: its flash, its memory, its peripheral or its application. */

@@ -51,7 +51,15 @@ extern "C" {
 #define HK_DOES_NOT_EXIST 13          /* STALL: no such descriptor, configuration, interface, setting or endpoint */
 #define HK_NO_SUCH_FEATURE 14         /* STALL: feature not there for this recipient */
 #define HK_NO_SUCH_PACKET 15          /* packet: size, lengths or packet number */
-#define HK_ENDPOINT_UNFIT 16          /* function event on an unfit endpoint; no such endpoint */
+#define HK_ENDPOINT_UNFIT 16          /* function event on an unfit endpoint; power value above 1; no such endpoint */
+#define HK_PIECES_BROKEN 20           /* makers: the pieces do not end where their lengths say */
+#define HK_SET_REFUSED 21             /* makers: over 64 pieces or 16,384 bytes, or hk_open would refuse the set */
+#define HK_BUFFER_TOO_SHORT 22        /* makers: what is to be written is longer than the buffer */
+#define HK_DUMP_BROKEN 23             /* makers: the dump does not split into a device and configurations */
+
+/* The power sources. */
+#define HK_POWER_BUS 0
+#define HK_POWER_OWN 1
 
 /* Bytes in memory that the caller lent. Test length, not start: the start of an empty part is NULL only where NULL was
  * lent. */
@@ -63,11 +71,17 @@ typedef struct hk_part {
 /* Initialises a hk_part: hk_part part = HK_NO_PART; */
 #define HK_NO_PART { (const uint8_t *)"", 0 }
 
+/* Marks a maker's call: it runs on a maker's computer, may take more than 1,024 bytes of stack, and stands in an object of
+ * its own in a board's archive, which a board that does not call it does not link. */
+#define HK_MAKERS
+
 /* Power-on: checks the set and the serial block, and makes the image the fresh record (state Default, address 0).
  *
  * HK_DONE: acceptable. HK_FRAME_BROKEN to HK_SERIAL_BROKEN: the first group of rules that is broken. In all these cases
  * the image is fresh afterwards, whatever it held. HK_RECORD_DOES_NOT_FIT: image_length is not HK_IMAGE_LENGTH; nothing
  * was looked at or changed.
+ *
+ * The fresh record says that the bus supplies the device: call hk_power next, with what the board senses.
  *
  * This is the only call that mends an image that does not fit. */
 uint8_t hk_open(const uint8_t *set, size_t set_length, const uint8_t *serial, size_t serial_length,
@@ -84,6 +98,8 @@ uint8_t hk_open(const uint8_t *set, size_t set_length, const uint8_t *serial, si
  * bytes, *count and *part are always written. What is not handed back is 0: a refusal leaves count 0 and bytes 0, 0, and
  * one byte leaves bytes[1] 0. A part that is not handed back is the set's first 0 bytes.
  *
+ * A string that is asked in a language that the set does not list is given in the first listed one.
+ *
  * A new address only waits here: hk_status_end takes it, so that the status stage still goes out under the old one. */
 uint8_t hk_setup(const uint8_t *set, size_t set_length, const uint8_t *serial, size_t serial_length,
                  uint8_t *image, size_t image_length, const uint8_t *setup, size_t setup_length,
@@ -96,7 +112,7 @@ uint8_t hk_setup(const uint8_t *set, size_t set_length, const uint8_t *serial, s
 uint8_t hk_status_end(const uint8_t *set, size_t set_length, const uint8_t *serial, size_t serial_length,
                       uint8_t *image, size_t image_length);
 
-/* The bus was reset: makes the image the fresh record.
+/* The bus was reset: makes the image the fresh record; only the power source stays.
  *
  * HK_DONE, HK_SET_NOT_ACCEPTABLE or HK_RECORD_DOES_NOT_FIT; the last two change nothing. On an image that does not fit,
  * this is HK_RECORD_DOES_NOT_FIT and mends nothing: call hk_open. */
@@ -119,6 +135,14 @@ uint8_t hk_halt(const uint8_t *set, size_t set_length, const uint8_t *serial, si
 uint8_t hk_packet_passed(const uint8_t *set, size_t set_length, const uint8_t *serial, size_t serial_length,
                          uint8_t *image, size_t image_length, uint8_t endpoint);
 
+/* The board senses its supply: source is HK_POWER_BUS or HK_POWER_OWN, and is what GET_STATUS reports from now on. Call
+ * this after hk_open and whenever the supply changes. Every other byte of the image stays; an address waits on.
+ *
+ * HK_DONE; HK_ENDPOINT_UNFIT for any other source; HK_SET_NOT_ACCEPTABLE or HK_RECORD_DOES_NOT_FIT. All but HK_DONE
+ * change nothing. */
+uint8_t hk_power(const uint8_t *set, size_t set_length, const uint8_t *serial, size_t serial_length,
+                 uint8_t *image, size_t image_length, uint8_t source);
+
 /* Endpoint descriptor `number` (from 0) of the current settings, in the set's order: what a board opens after a
  * SET_CONFIGURATION or a SET_INTERFACE. It holds address, attributes, wMaxPacketSize and bInterval (bytes 2, 3, 4 and 5, 6)
  * and has at least 7 bytes.
@@ -138,7 +162,8 @@ typedef struct hk_record {
     uint8_t waiting;        /* the address that hk_status_end takes, 255 for none */
     uint8_t configuration;  /* the selected bConfigurationValue, 0 for none */
     uint8_t wakeup;         /* 1: the host has allowed remote wakeup */
-    uint8_t power, suspended, speed; /* 0 */
+    uint8_t power;          /* HK_POWER_BUS or HK_POWER_OWN */
+    uint8_t suspended, speed; /* 0 */
     uint8_t alternates[16]; /* the current setting of each interface */
     uint32_t halts;         /* bit e: OUT endpoint e is halted; bit 16 + e: IN endpoint e */
     uint32_t toggles;       /* the data toggles, in the same order */
@@ -148,19 +173,20 @@ typedef struct hk_record {
 #define HK_EVENT_SETUP 0         /* as hk_setup: reads setup */
 #define HK_EVENT_STATUS_END 1    /* as hk_status_end */
 #define HK_EVENT_BUS_RESET 2     /* as hk_bus_reset */
-#define HK_EVENT_HALT 3          /* as hk_halt: reads endpoint */
-#define HK_EVENT_PACKET_PASSED 4 /* as hk_packet_passed: reads endpoint */
+#define HK_EVENT_HALT 3          /* as hk_halt: value is the endpoint */
+#define HK_EVENT_PACKET_PASSED 4 /* as hk_packet_passed: value is the endpoint */
+#define HK_EVENT_POWER 5         /* as hk_power: value is the source */
 
 /* Any event, on a record that stands aligned in memory: what the call for that event does to an image, done to the
  * record where it stands, without a copy to an image and back. Its numbers are that call's too.
  *
- * endpoint is read by HK_EVENT_HALT and HK_EVENT_PACKET_PASSED alone (else 0), setup by HK_EVENT_SETUP alone (else NULL
- * and 0). bytes, *count and *part are always written, as hk_setup writes them: only a setup hands something back. Any
- * other event number is answered as a setup that is not 8 bytes, HK_SETUP_LENGTH_WRONG, and changes nothing.
+ * value is read by HK_EVENT_HALT, HK_EVENT_PACKET_PASSED and HK_EVENT_POWER alone (else 0), setup by HK_EVENT_SETUP alone
+ * (else NULL and 0). bytes, *count and *part are always written, as hk_setup writes them: only a setup hands something
+ * back. Any other event number is answered as a setup that is not 8 bytes, HK_SETUP_LENGTH_WRONG, and changes nothing.
  *
  * The record is aligned as a uint32_t is, and overlaps nothing else that is passed. */
 uint8_t hk_record_event(const uint8_t *set, size_t set_length, const uint8_t *serial, size_t serial_length,
-                        hk_record *record, uint8_t event, uint8_t endpoint, const uint8_t *setup, size_t setup_length,
+                        hk_record *record, uint8_t event, uint8_t value, const uint8_t *setup, size_t setup_length,
                         uint8_t bytes[2], uint8_t *count, hk_part *part);
 
 /* Cuts packet `number` (from 0) out of a reply: asked is the setup's wLength, size is bMaxPacketSize0.
@@ -171,6 +197,38 @@ uint8_t hk_record_event(const uint8_t *set, size_t set_length, const uint8_t *se
  * out by counting number up until HK_NO_SUCH_PACKET. A reply of 0 bytes where 0 are asked has no packet. */
 uint8_t hk_packet(const uint8_t *reply, size_t reply_length, uint16_t asked, uint32_t size, uint32_t number,
                   hk_part *packet);
+
+/* ---- For makers, on a bench computer: these calls have an array of 16,384 bytes in their frame, and are no board's. */
+
+/* Writes a set from its pieces, so that nobody counts offsets: contents and bodies, sorted as hk_open asks.
+ *
+ * pieces holds them end to end, in any order. A piece is its type (1 device, 2 configuration, 3 string), its index, its
+ * language (2 bytes), the length of its body (2 bytes), and the body; a number of 2 bytes has its low byte first. serial
+ * is the serial block that the set is to open with.
+ *
+ * HK_DONE: the set stands at the buffer's start, *written bytes long, and opens with this serial block; the bytes behind
+ * it are as they were. HK_PIECES_BROKEN, HK_SET_REFUSED, HK_BUFFER_TOO_SHORT: the first of these that holds, in this
+ * order; the buffer is as it was, and *written is 0. A buffer of 16,384 bytes is never too short. To learn why a set is
+ * refused, use the program `writer`. The buffer and written overlap nothing else that is passed. */
+HK_MAKERS uint8_t hk_write(const uint8_t *pieces, size_t pieces_length, const uint8_t *serial, size_t serial_length,
+                 uint8_t *buffer, size_t buffer_length, uint16_t *written);
+
+/* Makes a set of a dump: the file that Linux shows for a device that is plugged in, /sys/bus/usb/devices/.../descriptors,
+ * which is its device descriptor and its configurations. The set has no strings, so every reference to one becomes 0:
+ * iManufacturer, iProduct, iSerialNumber, iConfiguration and each iInterface.
+ *
+ * HK_DONE: the set stands at the buffer's start, *written bytes long, and opens with an empty serial block; the bytes
+ * behind it are as they were. HK_DUMP_BROKEN, HK_SET_REFUSED, HK_BUFFER_TOO_SHORT: the first of these that holds, in this
+ * order; the buffer is as it was, and *written is 0. A dump of a high-speed device gives HK_SET_REFUSED. */
+HK_MAKERS uint8_t hk_import(const uint8_t *dump, size_t dump_length, uint8_t *buffer, size_t buffer_length, uint16_t *written);
+
+/* The other way: the device descriptor and the configurations of a set, as they are, without the strings.
+ *
+ * HK_DONE: the dump stands at the buffer's start, *written bytes long; the bytes behind it are as they were.
+ * HK_FRAME_BROKEN to HK_SERIAL_BROKEN: hk_open would refuse the set or the serial block; else HK_BUFFER_TOO_SHORT; the
+ * buffer is as it was, and *written is 0. This call has no array in its frame. */
+HK_MAKERS uint8_t hk_export(const uint8_t *set, size_t set_length, const uint8_t *serial, size_t serial_length, uint8_t *buffer,
+                  size_t buffer_length, uint16_t *written);
 
 #ifdef __cplusplus
 }

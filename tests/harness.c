@@ -37,7 +37,7 @@ typedef struct block {
     size_t start, length;
 } block;
 
-static block set, serial, image, setup, bytes, count, part, reply;
+static block set, serial, image, setup, bytes, count, part, reply, pieces, written;
 
 /* What a hk_part points to before the call, so that it shows whether the call wrote it. */
 static const uint8_t decoy[1];
@@ -157,11 +157,15 @@ static void place(block *block, size_t length, uint8_t flags, size_t alignment) 
 }
 
 /* Places what comes next in the input. */
-static void take_block(block *block, uint8_t flags) {
+static void take_aligned(block *block, uint8_t flags, size_t alignment) {
     uint32_t length = take_number(4);
-    place(block, length, flags, 1);
+    place(block, length, flags, alignment);
     take(block->room + block->start, length);
     memcpy(block->twin + block->start, block->room + block->start, length);
+}
+
+static void take_block(block *block, uint8_t flags) {
+    take_aligned(block, flags, 1);
 }
 
 /* Places what the call is to write. */
@@ -220,15 +224,14 @@ static int lent_blocks_kept(void) {
     return unchanged(&set) && unchanged(&serial) && guards_unchanged(&image);
 }
 
-static void call_setup(uint8_t flags) {
-    take_block(&image, flags);
-    take_block(&setup, flags);
+/* What a call that may hand something back writes. */
+static hk_part *unwritten_answer(uint8_t flags) {
     place_unwritten(&bytes, 2, flags, 1);
     place_unwritten(&count, 1, flags, 1);
-    hk_part *found = unwritten_part(flags);
-    uint8_t number = hk_setup(lent(&set, flags), set.length, lent(&serial, flags), serial.length, lent(&image, flags),
-                              image.length, lent(&setup, flags), setup.length, bytes.room + bytes.start,
-                              count.room + count.start, found);
+    return unwritten_part(flags);
+}
+
+static void respond_with_answer(uint8_t number, const hk_part *found, uint8_t flags) {
     int kept = lent_blocks_kept() && unchanged(&setup) && guards_unchanged(&bytes) && guards_unchanged(&count) &&
                guards_unchanged(&part);
     size_t in_set = offset_in(&set, *found, flags), in_serial = offset_in(&serial, *found, flags);
@@ -238,10 +241,34 @@ static void call_setup(uint8_t flags) {
     respond_with_image();
 }
 
-/* The calls that only lend set, serial block and image, and those that name an endpoint too. */
+static void call_setup(uint8_t flags) {
+    take_block(&image, flags);
+    take_block(&setup, flags);
+    hk_part *found = unwritten_answer(flags);
+    uint8_t number = hk_setup(lent(&set, flags), set.length, lent(&serial, flags), serial.length, lent(&image, flags),
+                              image.length, lent(&setup, flags), setup.length, bytes.room + bytes.start,
+                              count.room + count.start, found);
+    respond_with_answer(number, found, flags);
+}
+
+/* Any event by its number, on an aligned record. */
+static void call_record_event(uint8_t flags) {
+    uint8_t event = take_byte(), value = take_byte();
+    take_aligned(&image, flags, sizeof(uint32_t));
+    take_block(&setup, flags);
+    if (image.length != sizeof(hk_record))
+        respond_with_error(COMMAND_WRONG);
+    hk_part *found = unwritten_answer(flags);
+    uint8_t number = hk_record_event(lent(&set, flags), set.length, lent(&serial, flags), serial.length,
+                                     (hk_record *)(void *)(image.room + image.start), event, value, lent(&setup, flags),
+                                     setup.length, bytes.room + bytes.start, count.room + count.start, found);
+    respond_with_answer(number, found, flags);
+}
+
+/* The calls that only lend set, serial block and image, and those that name an endpoint or a power source too. */
 static void call_event(uint8_t operation, uint8_t flags) {
     static const uint8_t no_answer[2];
-    uint8_t endpoint = operation == 'h' || operation == 'p' ? take_byte() : 0;
+    uint8_t value = operation == 'h' || operation == 'p' || operation == 'P' ? take_byte() : 0;
     take_block(&image, flags);
     const uint8_t *set_lent = lent(&set, flags), *serial_lent = lent(&serial, flags);
     uint8_t *image_lent = lent(&image, flags), number;
@@ -256,10 +283,13 @@ static void call_event(uint8_t operation, uint8_t flags) {
         number = hk_bus_reset(set_lent, set.length, serial_lent, serial.length, image_lent, image.length);
         break;
     case 'h':
-        number = hk_halt(set_lent, set.length, serial_lent, serial.length, image_lent, image.length, endpoint);
+        number = hk_halt(set_lent, set.length, serial_lent, serial.length, image_lent, image.length, value);
+        break;
+    case 'P':
+        number = hk_power(set_lent, set.length, serial_lent, serial.length, image_lent, image.length, value);
         break;
     default:
-        number = hk_packet_passed(set_lent, set.length, serial_lent, serial.length, image_lent, image.length, endpoint);
+        number = hk_packet_passed(set_lent, set.length, serial_lent, serial.length, image_lent, image.length, value);
     }
     respond(lent_blocks_kept() ? 0 : BYTES_CHANGED, number, no_answer, 0, 0, 0, 0);
     respond_with_image();
@@ -278,8 +308,29 @@ static void call_packet(uint8_t flags) {
     put_number(0);
 }
 
+/* The makers' calls: pieces, a dump or the set into a buffer. The buffer is lent as the image is: it is given back whole. */
+static void call_maker(uint8_t operation, uint8_t flags) {
+    static const uint8_t no_answer[2];
+    if (operation != 'x')
+        take_block(&pieces, flags);
+    take_block(&image, flags);
+    place_unwritten(&written, sizeof(uint16_t), flags, sizeof(uint16_t));
+    uint16_t *length = (uint16_t *)(void *)(written.room + written.start);
+    uint8_t *buffer = lent(&image, flags), number;
+    if (operation == 'w')
+        number = hk_write(lent(&pieces, flags), pieces.length, lent(&serial, flags), serial.length, buffer, image.length,
+                          length);
+    else if (operation == 'i')
+        number = hk_import(lent(&pieces, flags), pieces.length, buffer, image.length, length);
+    else
+        number = hk_export(lent(&set, flags), set.length, lent(&serial, flags), serial.length, buffer, image.length, length);
+    int kept = lent_blocks_kept() && unchanged(&pieces) && guards_unchanged(&written);
+    respond(kept ? 0 : BYTES_CHANGED, number, no_answer, 0, 0, 0, *length);
+    respond_with_image();
+}
+
 int main(void) {
-    block *blocks[] = {&set, &serial, &image, &setup, &bytes, &count, &part, &reply};
+    block *blocks[] = {&set, &serial, &image, &setup, &bytes, &count, &part, &reply, &pieces, &written};
     int stopping[] = {SIGSEGV, SIGBUS, SIGILL, SIGTRAP, SIGFPE, SIGABRT};
     for (size_t at = 0; at < sizeof blocks / sizeof *blocks; at++)
         make_room(blocks[at]);
@@ -300,7 +351,13 @@ int main(void) {
         case 'k':
             call_packet(flags);
             break;
-        case 'o': case 'e': case 'r': case 'h': case 'p':
+        case 'w': case 'i': case 'x':
+            call_maker(operation, flags);
+            break;
+        case 'v':
+            call_record_event(flags);
+            break;
+        case 'o': case 'e': case 'r': case 'h': case 'p': case 'P':
             call_event(operation, flags);
             break;
         default:

@@ -26,7 +26,7 @@ struct learnt {
     } bodies[MOST_CONFIGURATIONS];
     uint8_t refers[256]; /* string indices that some descriptor names */
     unsigned languages[127], language_count;
-    int wakeup;
+    int wakeup, own_supply; /* some configuration's attributes say so */
 };
 
 static void heading(const char *text) {
@@ -127,6 +127,7 @@ static void read_configuration(struct host *host, struct learnt *learnt, unsigne
     memcpy(body->bytes, host->bytes, body->length);
     learnt->refers[body->bytes[6]] = 1;
     learnt->wakeup |= body->bytes[7] >> 5 & 1;
+    learnt->own_supply |= body->bytes[7] >> 6 & 1;
     for (size_t at = 0; at < body->length; at = next_descriptor(body->bytes, body->length, at))
         if (body->bytes[at + 1] == TYPE_INTERFACE)
             learnt->refers[body->bytes[at + 8]] = 1;
@@ -164,19 +165,29 @@ static void read_languages(struct host *host, struct learnt *learnt) {
         learnt->languages[learnt->language_count++] = two_bytes(host->bytes + at);
 }
 
+/* In each language, and in one that is not listed: then it is given in the first. */
+static void read_string(struct host *host, const struct learnt *learnt, unsigned index, unsigned unlisted) {
+    uint8_t first[255];
+    size_t length = 0;
+    for (unsigned at = 0; at < learnt->language_count; at++) {
+        get_descriptor(host, TYPE_STRING, index, learnt->languages[at], sizeof first, HK_DONE);
+        if (at == 0)
+            memcpy(first, host->bytes, length = host->length);
+    }
+    get_descriptor(host, TYPE_STRING, index, unlisted, sizeof first, length == 0 ? HK_DOES_NOT_EXIST : HK_DONE);
+    if (length != 0 && (host->length != length || memcmp(first, host->bytes, length) != 0))
+        fail(host, "it is not the string in the first language");
+}
+
 static void read_strings(struct host *host, struct learnt *learnt) {
     heading("Strings: string 0 lists the languages, then each string in each of them");
     read_languages(host, learnt);
     unsigned unlisted = 0x0409;
     while (is_listed(learnt, unlisted))
         unlisted++;
-    for (unsigned index = 1; index < 256; index++) {
-        if (!learnt->refers[index])
-            continue;
-        for (unsigned at = 0; at < learnt->language_count; at++)
-            get_descriptor(host, TYPE_STRING, index, learnt->languages[at], 255, HK_DONE);
-        get_descriptor(host, TYPE_STRING, index, unlisted, 255, HK_DOES_NOT_EXIST);
-    }
+    for (unsigned index = 1; index < 256; index++)
+        if (learnt->refers[index])
+            read_string(host, learnt, index, unlisted);
 }
 
 static void change_wakeup(struct host *host, const struct learnt *learnt, enum request request) {
@@ -189,6 +200,25 @@ static void use_wakeup(struct host *host, const struct learnt *learnt) {
     change_wakeup(host, learnt, SET_FEATURE);
     ask(host, 0x80, GET_STATUS, 0, 0, 2, HK_DONE);
     change_wakeup(host, learnt, CLEAR_FEATURE);
+}
+
+static void change_power(struct host *host, uint8_t source) {
+    printf("the device draws from %s\n", source == HK_POWER_OWN ? "its own supply" : "the bus");
+    wire_change_power(source);
+    show_record(host, "");
+    ask(host, 0x80, GET_STATUS, 0, 0, 2, HK_DONE);
+    if (host->bytes[0] % 2 != source)
+        fail(host, "D0 is not the supply");
+}
+
+/* From here on the device keeps its own supply. */
+static void use_power(struct host *host, const struct learnt *learnt) {
+    if (!learnt->own_supply)
+        return;
+    heading("The supply changes: D0 of the device's status tells it");
+    change_power(host, HK_POWER_OWN);
+    change_power(host, HK_POWER_BUS);
+    change_power(host, HK_POWER_OWN);
 }
 
 /* SET_CONFIGURATION takes a value, not an index: some value is never there, since there are at most 8. */
@@ -400,6 +430,7 @@ static int enumerate(const struct device_flash *flash) {
     read_one_packet(&host, &learnt.bodies[0]);
     read_strings(&host, &learnt);
     use_wakeup(&host, &learnt);
+    use_power(&host, &learnt);
     for (unsigned index = 0; index < learnt.configurations; index++)
         use_configuration(&host, &learnt, &learnt.bodies[index]);
     leave(&host, &learnt);

@@ -11,6 +11,7 @@
 #define DAMAGED_COPIES 24
 #define MOST_SET 512
 #define SET_ADDRESS 5
+#define FIRST_OTHER_EVENT 6 /* no event has this number or a higher one */
 
 /* What an event hands back. */
 struct answer {
@@ -20,7 +21,7 @@ struct answer {
 
 /* One event; what it does not read is 0. */
 struct event {
-    uint8_t kind, endpoint, setup[HK_SETUP_LENGTH + 1];
+    uint8_t kind, value, setup[HK_SETUP_LENGTH + 1];
     size_t setup_length;
 };
 
@@ -81,10 +82,13 @@ static struct event random_event(void) {
         event.kind = below(8) == 0 ? HK_EVENT_BUS_RESET : HK_EVENT_STATUS_END;
     } else if (choice < 62) {
         event.kind = one_of(function_events, sizeof function_events);
-        event.endpoint = random_endpoint();
+        event.value = random_endpoint();
+    } else if (choice < 63) {
+        event.kind = HK_EVENT_POWER;
+        event.value = (uint8_t)(below(4) ? below(2) : below(256));
     } else {
         random_setup(&event); /* no setup reads it */
-        event.kind = (uint8_t)(HK_EVENT_PACKET_PASSED + 1 + below(251));
+        event.kind = (uint8_t)(FIRST_OTHER_EVENT + below(256 - FIRST_OTHER_EVENT));
     }
     return event;
 }
@@ -101,10 +105,13 @@ static struct answer on_image(const struct event *event) {
         answer.number = hk_bus_reset(set, set_length, serial, serial_length, image, sizeof image);
         break;
     case HK_EVENT_HALT:
-        answer.number = hk_halt(set, set_length, serial, serial_length, image, sizeof image, event->endpoint);
+        answer.number = hk_halt(set, set_length, serial, serial_length, image, sizeof image, event->value);
         break;
     case HK_EVENT_PACKET_PASSED:
-        answer.number = hk_packet_passed(set, set_length, serial, serial_length, image, sizeof image, event->endpoint);
+        answer.number = hk_packet_passed(set, set_length, serial, serial_length, image, sizeof image, event->value);
+        break;
+    case HK_EVENT_POWER:
+        answer.number = hk_power(set, set_length, serial, serial_length, image, sizeof image, event->value);
         break;
     default:
         answer.number = hk_setup(set, set_length, serial, serial_length, image, sizeof image, event->setup, setup_length,
@@ -115,7 +122,7 @@ static struct answer on_image(const struct event *event) {
 
 static struct answer on_record(const struct event *event) {
     struct answer answer = {255, {0xA5, 0xA5}, 0xA5, {event->setup, 3}};
-    answer.number = hk_record_event(set, set_length, serial, serial_length, &record, event->kind, event->endpoint,
+    answer.number = hk_record_event(set, set_length, serial, serial_length, &record, event->kind, event->value,
                                     event->setup_length == 0 ? NULL : event->setup, event->setup_length, answer.bytes,
                                     &answer.count, &answer.part);
     return answer;
@@ -135,8 +142,8 @@ static void compare_event(const struct event *event) {
     numbers[answer.number]++;
     if (agree)
         return;
-    printf("record: event %lu differs: kind %d, endpoint %02x, setup of %zu bytes, %02x %02x ..\n", done, event->kind,
-           event->endpoint, event->setup_length, event->setup[0], event->setup[1]);
+    printf("record: event %lu differs: kind %d, value %02x, setup of %zu bytes, %02x %02x ..\n", done, event->kind,
+           event->value, event->setup_length, event->setup[0], event->setup[1]);
     print_answer("on the image", &expected);
     print_answer("on the record", &answer);
     exit(1);

@@ -16,18 +16,18 @@
 #define STACK_LENGTH 65536
 #define PAINT 0x5A
 
-enum function { EMPTY, OPEN, SETUP, STATUS_END, BUS_RESET, HALT, PACKET_PASSED, RECORD_EVENT, PACKET, FUNCTIONS };
+enum function { EMPTY, OPEN, SETUP, STATUS_END, BUS_RESET, HALT, PACKET_PASSED, POWER, RECORD_EVENT, PACKET, FUNCTIONS };
 
 static const char *const names[FUNCTIONS] = {
     "an empty call", "hk_open", "hk_setup", "hk_status_end", "hk_bus_reset", "hk_halt", "hk_packet_passed",
-    "hk_record_event", "hk_packet",
+    "hk_power", "hk_record_event", "hk_packet",
 };
 
 /* What the next call takes; static, so that nothing of it lies on the painted stack. */
 static enum function function;
 static uint8_t set[20000], serial[20000], image[HK_IMAGE_LENGTH], setup[HK_SETUP_LENGTH], bytes[2], count;
 static hk_record record;
-static uint8_t event, endpoint, number;
+static uint8_t event, event_value, number;
 static size_t set_length, serial_length;
 static hk_part part = HK_NO_PART;
 
@@ -52,17 +52,20 @@ static void call(void) {
         hk_bus_reset(set, set_length, serial, serial_length, image, sizeof image);
         break;
     case HALT:
-        hk_halt(set, set_length, serial, serial_length, image, sizeof image, endpoint);
+        hk_halt(set, set_length, serial, serial_length, image, sizeof image, event_value);
         break;
     case PACKET_PASSED:
-        hk_packet_passed(set, set_length, serial, serial_length, image, sizeof image, endpoint);
+        hk_packet_passed(set, set_length, serial, serial_length, image, sizeof image, event_value);
+        break;
+    case POWER:
+        hk_power(set, set_length, serial, serial_length, image, sizeof image, event_value);
         break;
     case RECORD_EVENT:
-        hk_record_event(set, set_length, serial, serial_length, &record, event, endpoint, setup, sizeof setup, bytes,
+        hk_record_event(set, set_length, serial, serial_length, &record, event, event_value, setup, sizeof setup, bytes,
                         &count, &part);
         break;
     case PACKET:
-        hk_packet(set, set_length, UINT16_MAX, 8, endpoint, &part);
+        hk_packet(set, set_length, UINT16_MAX, 8, event_value, &part);
         break;
     default:
         break;
@@ -131,7 +134,7 @@ static void measure_state(void) {
                 ask(requests[request][0], requests[request][1], values[value], indices[index], requests[request][2]);
             }
     for (int address = 0; address < 32; address++) {
-        endpoint = (uint8_t)(address % 16 | (address < 16 ? 0 : 0x80));
+        event_value = (uint8_t)(address % 16 | (address < 16 ? 0 : 0x80));
         measure_record(HK_EVENT_HALT);
         measure_record(HK_EVENT_PACKET_PASSED);
         memcpy(image, state, sizeof state);
@@ -139,6 +142,10 @@ static void measure_state(void) {
         memcpy(image, state, sizeof state);
         measure(PACKET_PASSED);
     }
+    memcpy(image, state, sizeof state);
+    event_value = HK_POWER_OWN;
+    measure_record(HK_EVENT_POWER);
+    measure(POWER);
     memcpy(image, state, sizeof state);
 }
 
@@ -163,7 +170,7 @@ static void measure_set(void) {
     measure_record(HK_EVENT_BUS_RESET);
     measure(BUS_RESET);
     for (size_t at = 0; at < sizeof numbers; at++) {
-        endpoint = numbers[at];
+        event_value = numbers[at];
         measure(PACKET);
     }
 }

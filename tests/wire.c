@@ -10,7 +10,7 @@
 static struct {
     struct device *device;
     struct serial_port *port;
-    uint8_t address, heard;
+    uint8_t address, heard, power;
     uint8_t record[HK_IMAGE_LENGTH]; /* as the endpoints have it */
     const uint8_t *open[WIRE_MOST_ENDPOINTS];
     size_t open_count;
@@ -65,6 +65,10 @@ void hardware_open_endpoint(const uint8_t *descriptor) {
         wire.open[wire.open_count++] = descriptor;
 }
 
+uint8_t hardware_power_source(void) {
+    return wire.power;
+}
+
 void application_hear(uint8_t number) {
     wire.heard = number;
 }
@@ -117,6 +121,11 @@ static void happen(enum hardware_event_kind kind) {
 void wire_reset_bus(void) {
     clear_endpoint_zero();
     happen(HARDWARE_BUS_RESET);
+}
+
+void wire_change_power(uint8_t source) {
+    wire.power = source;
+    happen(HARDWARE_POWER_CHANGED);
 }
 
 enum wire_answer wire_send_setup(uint8_t address, const uint8_t *setup) {

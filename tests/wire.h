@@ -16,6 +16,9 @@ enum wire_answer {
 void wire_attach(struct device *device, struct serial_port *port);
 void wire_reset_bus(void);
 
+/* The board draws from this supply from now on. */
+void wire_change_power(uint8_t source);
+
 /* Endpoint zero of the device that has this address. A SETUP is always acknowledged. */
 enum wire_answer wire_send_setup(uint8_t address, const uint8_t *setup);
 enum wire_answer wire_take_packet(uint8_t address, hk_part *packet);

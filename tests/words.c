@@ -196,6 +196,8 @@ void print_record(const uint8_t *record) {
         printf(", configuration %u", record[3]);
     if (record[4] != 0)
         printf(", remote wakeup on");
+    if (record[5] != 0)
+        printf(", own supply");
     for (int interface = 0; interface < 16; interface++)
         if (record[8 + interface] != 0)
             printf(", interface %d at alternate %u", interface, record[8 + interface]);

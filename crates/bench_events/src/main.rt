@@ -97,7 +97,10 @@ fn print_kind(kind: u8) {
     if kind == 3 {
         return print_text(b"halt ");
     }
-    print_text(b"packet passed ")
+    if kind == 4 {
+        return print_text(b"packet passed ");
+    }
+    print_text(b"power ")
 }
 
 fn event_of(kind: u8, bytes: &[u8]) -> Event {
@@ -113,7 +116,10 @@ fn event_of(kind: u8, bytes: &[u8]) -> Event {
     if kind == 3 {
         return Event::Halt(octets::peek(bytes, 0));
     }
-    Event::PacketPassed(octets::peek(bytes, 0))
+    if kind == 4 {
+        return Event::PacketPassed(octets::peek(bytes, 0));
+    }
+    Event::Power(octets::peek(bytes, 0))
 }
 
 // Answers an event, and gives the record that it leaves.

@@ -14,7 +14,7 @@ pub fn explain(setup: &[u8], number: u8, ours: &[u8], how: u8, recorded: &[u8]) 
         return not_built(kind, code);
     }
     if number == 13 && kind == 0x80 && code == 6 {
-        return no_descriptor(octets::peek(setup, 3), octets::word(setup, 4));
+        return no_descriptor(octets::peek(setup, 3));
     }
     if number == 0 && kind == 0x80 && code == 0 {
         return other_status(octets::peek(ours, 0), octets::peek(recorded, 0));
@@ -40,12 +40,9 @@ fn not_built(kind: u8, code: u8) {
 }
 
 // A descriptor that the set does not have.
-fn no_descriptor(asked: u8, language: u16) {
+fn no_descriptor(asked: u8) {
     if asked > 3 {
         return say(b"a set has no descriptors of this type");
-    }
-    if asked == 3 && language == 0 {
-        return say(b"the device answers in language 0, which no set lists");
     }
     say(b"unexplained");
 }
@@ -53,7 +50,7 @@ fn no_descriptor(asked: u8, language: u16) {
 // Another first byte of GET_STATUS of the device.
 fn other_status(ours: u8, recorded: u8) {
     if ours % 2 != recorded % 2 {
-        return say(b"the device's D0 is not attribute bit 6, which we answer");
+        return say(b"the device has a supply of its own, of which no power event told");
     }
     if ours / 2 % 2 != recorded / 2 % 2 {
         return say(b"the device's D1 is on, and wakeup is not supported");
@@ -65,6 +62,9 @@ fn other_status(ours: u8, recorded: u8) {
 fn other_bytes(asked: u8, ours: &[u8], recorded: &[u8]) {
     if asked == 2 && differ_in_sizes(ours, recorded) {
         return say(b"the set has packet sizes of full speed");
+    }
+    if asked == 3 {
+        return say(b"the string was not recorded whole, so the set has another");
     }
     say(b"unexplained");
 }

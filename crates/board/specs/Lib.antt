@@ -11,3 +11,4 @@ pub mod Records
 pub mod InhabitedRuns
 pub mod Idle
 pub mod InhabitedExports
+pub mod Makers

@@ -40,9 +40,9 @@ answersByRules b set serial d e = record { leaves = refl; answers = record { num
 -- ---- a run: each call meets its statement, and the record that it leaves is lent to the next
 pub data RecordRuns (b : Board) (set serial : Spot) : Device → List Call → List Given → Device → Type 0 where
   ended : {d : Device} → RecordRuns b set serial d [] [] d
-  called : {d left last : Device} {kind endpoint : ℕ} {bytes : List ℕ} {n : ℕ} {handedBack : List ℕ} {count : ℕ} {shown : List ℕ} {spot : Spot} {cs : List Call} {gs : List Given}
-      → AnswersRecordEvent b set serial d (numbered kind endpoint bytes) n left handedBack count shown spot → RecordRuns b set serial left cs gs last
-      → RecordRuns b set serial d (recordEvent kind endpoint bytes ∷ cs) (handed n handedBack count shown spot ∷ gs) last
+  called : {d left last : Device} {kind value : ℕ} {bytes : List ℕ} {n : ℕ} {handedBack : List ℕ} {count : ℕ} {shown : List ℕ} {spot : Spot} {cs : List Call} {gs : List Given}
+      → AnswersRecordEvent b set serial d (numbered kind value bytes) n left handedBack count shown spot → RecordRuns b set serial left cs gs last
+      → RecordRuns b set serial d (recordEvent kind value bytes ∷ cs) (handed n handedBack count shown spot ∷ gs) last
 
 -- ---- demand 1
 -- its number is one of document 01's for that board, record and event, in its order; a refusal leaves the record as it was, but that 10 to 14
@@ -70,8 +70,8 @@ module _ (b : Board) (set serial : Spot) (bytes : Bytes (b .set)) where
   pub asImages : {d last : Device} {cs : List Call} {gs : List Given} → Sized d → RecordRuns b set serial d cs gs last
       → Runs b set serial (imageOf d) cs gs (imageOf last) × Sized last
   asImages z ended = (ends, z)
-  asImages {d} z (called {kind = kind} {endpoint} {bytes = setup} a r) =
-      let (rest, y) = asImages (rw (a .leaves) (stepSized b bytes d (numbered kind endpoint setup) z)) r in
+  asImages {d} z (called {kind = kind} {value} {bytes = setup} a r) =
+      let (rest, y) = asImages (rw (a .leaves) (stepSized b bytes d (numbered kind value setup) z)) r in
       (calls (byRecordEvent (onImage z a)) rest, y)
 
   -- so the statements decide it

@@ -12,7 +12,7 @@ use Rattle.octets.specs.Octets.{Bytes}
 use Rattle.records.specs.Image.{bytesOfFour, imageOf}
 use Rattle.events.specs.declared.Answer.{Answer}
 use Rattle.events.specs.declared.Event.{Event}
-use Rattle.events.specs.declared.Event.the-variants.{StatusEnd, BusReset, Halt, PacketPassed}
+use Rattle.events.specs.declared.Event.the-variants.{StatusEnd, BusReset, Halt, PacketPassed, Power}
 use Rattle.events.specs.Answer.{Part, numberOf, partOf}
 use Rattle.events.specs.Places.{Inside, bytesIn}
 use Rattle.events.specs.Step.{setupEvent, event, opened}
@@ -26,13 +26,13 @@ use Rattle.board.specs.Exports.{Opens, Happens, AnswersSetup, Spot, padd
 -- ---- what an export that answers no setup tells
 pub data Happening : Type 0 where
   statusEnd busReset : Happening
-  halt packetPassed : ℕ → Happening
+  halt packetPassed power : ℕ → Happening
 
 -- a call as C makes it, but for the set, the serial block and the image, which a run lends to each of its calls
 pub data Call : Type 0 where
   setup : List ℕ → Call
   tell : Happening → Call
-  -- hk_record_event on the record whose image it is: an event's number, an endpoint, and a setup's bytes
+  -- hk_record_event on the record whose image it is: an event's number, a value, and a setup's bytes
   recordEvent : ℕ → ℕ → List ℕ → Call
 
 -- the event that it is
@@ -41,11 +41,12 @@ happened statusEnd = StatusEnd
 happened busReset = BusReset
 happened (halt endpoint) = Halt endpoint
 happened (packetPassed endpoint) = PacketPassed endpoint
+happened (power source) = Power source
 
 abbrev pub eventOf : Call → Event
 eventOf (setup bytes) = setupEvent bytes
 eventOf (tell h) = happened h
-eventOf (recordEvent kind endpoint bytes) = numbered kind endpoint bytes
+eventOf (recordEvent kind value bytes) = numbered kind value bytes
 
 -- what it gives back: a number alone, or of a setup and of hk_record_event the number, the two bytes, how many of them count, the part's bytes and where they lie
 pub data Given : Type 0 where
@@ -61,9 +62,9 @@ pub data Meets (b : Board) (setSpot serialSpot : Spot) (image : List ℕ) : Call
   bySetup : {bytes : List ℕ} {n : ℕ} {left handedBack : List ℕ} {count : ℕ} {shown : List ℕ} {spot : Spot}
       → AnswersSetup b setSpot serialSpot image bytes n left handedBack count shown spot → Meets b setSpot serialSpot image (setup bytes) (handed n handedBack count shown spot) left
   byHappening : {h : Happening} {n : ℕ} {left : List ℕ} → Happens b image (happened h) n left → Meets b setSpot serialSpot image (tell h) (number n) left
-  byRecordEvent : {kind endpoint : ℕ} {bytes : List ℕ} {n : ℕ} {left handedBack : List ℕ} {count : ℕ} {shown : List ℕ} {spot : Spot}
-      → AnswersImage b setSpot serialSpot image (numbered kind endpoint bytes) n left handedBack count shown spot
-      → Meets b setSpot serialSpot image (recordEvent kind endpoint bytes) (handed n handedBack count shown spot) left
+  byRecordEvent : {kind value : ℕ} {bytes : List ℕ} {n : ℕ} {left handedBack : List ℕ} {count : ℕ} {shown : List ℕ} {spot : Spot}
+      → AnswersImage b setSpot serialSpot image (numbered kind value bytes) n left handedBack count shown spot
+      → Meets b setSpot serialSpot image (recordEvent kind value bytes) (handed n handedBack count shown spot) left
 
 -- ---- a run: each call meets its statement, and the image that it leaves is lent to the next
 pub data Runs (b : Board) (setSpot serialSpot : Spot) : List ℕ → List Call → List Given → List ℕ → Type 0 where
@@ -80,7 +81,7 @@ handedAs b setSpot serialSpot v =
 abbrev pub givenAs : Board → Spot → Spot → Call → Values → Given
 givenAs b setSpot serialSpot (setup bytes) v = handedAs b setSpot serialSpot v
 givenAs b setSpot serialSpot (tell h) v = number (v .number)
-givenAs b setSpot serialSpot (recordEvent kind endpoint bytes) v = handedAs b setSpot serialSpot v
+givenAs b setSpot serialSpot (recordEvent kind value bytes) v = handedAs b setSpot serialSpot v
 
 module _ (b : Board) (setSpot serialSpot : Spot) where
   abbrev pub gives : List ℕ → Call → Given
@@ -103,7 +104,7 @@ module _ (b : Board) (setSpot serialSpot : Spot) where
   pub meets : (image : List ℕ) (c : Call) → Meets b setSpot serialSpot image c (gives image c) (leaves image c)
   meets image (setup bytes) = bySetup (record { leaves = refl; answers = record { number = refl; hands = refl; counts = refl; shows = refl; lies = refl } })
   meets image (tell h) = byHappening (record { number = refl; leaves = refl })
-  meets image (recordEvent kind endpoint bytes) =
+  meets image (recordEvent kind value bytes) =
       byRecordEvent (record { leaves = refl; answers = record { number = refl; hands = refl; counts = refl; shows = refl; lies = refl } })
 
   -- ---- so a run is the run of its events: from every image, every list of calls has a run, and one alone
@@ -157,7 +158,7 @@ module _ (b : Board) (setSpot serialSpot : Spot) where
   pub number-of : (image : List ℕ) (c : Call) → numberGiven (gives b setSpot serialSpot image c) ≡ numberOf (event b image (eventOf c) .answer)
   number-of image (setup bytes) = refl
   number-of image (tell h) = refl
-  number-of image (recordEvent kind endpoint bytes) = refl
+  number-of image (recordEvent kind value bytes) = refl
 
   empty-handed : (a : Answer) → (numberOf a ≡ 0 → ⊥) → NothingHanded (handedAs b setSpot serialSpot (valuesOf a))
   empty-handed a z = let (p, q) = refusalEmpty a z in (ap padded p, ap length p, ap (bytesIn (b .set) (b .serial)) q)
@@ -165,13 +166,13 @@ module _ (b : Board) (setSpot serialSpot : Spot) where
   nothing-handed : (image : List ℕ) (c : Call) → (numberOf (event b image (eventOf c) .answer) ≡ 0 → ⊥) → NothingHanded (gives b setSpot serialSpot image c)
   nothing-handed image (setup bytes) z = empty-handed (event b image (setupEvent bytes) .answer) z
   nothing-handed image (tell h) z = tt
-  nothing-handed image (recordEvent kind endpoint bytes) z = empty-handed (event b image (numbered kind endpoint bytes) .answer) z
+  nothing-handed image (recordEvent kind value bytes) z = empty-handed (event b image (numbered kind value bytes) .answer) z
 
   lies-inside : (image : List ℕ) (c : Call) → LiesInside b setSpot serialSpot (gives b setSpot serialSpot image c)
   lies-inside image (setup bytes) = (partOf (event b image (setupEvent bytes) .answer), eventInside b image (setupEvent bytes), refl, refl)
   lies-inside image (tell h) = tt
-  lies-inside image (recordEvent kind endpoint bytes) =
-      let e = numbered kind endpoint bytes in
+  lies-inside image (recordEvent kind value bytes) =
+      let e = numbered kind value bytes in
       (partOf (event b image e .answer), eventInside b image e, refl, refl)
 
   pub callRefuses : {image : List ℕ} {c : Call} {g : Given} {left : List ℕ} → Meets b setSpot serialSpot image c g left → Refuses b setSpot serialSpot image c g left

@@ -6,10 +6,11 @@ ghost use mathlib.Core.Path.{_≡_};
 ghost use Rattle.sets.specs.Opening.{lent};
 ghost use Rattle.sets.specs.View.{openingOf};
 ghost use Rattle.events.specs.Step.{event};
-ghost use Rattle.events.specs.declared.Event.the-variants.{StatusEnd, BusReset, Halt, PacketPassed};
+ghost use Rattle.events.specs.declared.Event.the-variants.{StatusEnd, BusReset, Halt, PacketPassed, Power};
 ghost use Rattle.board.specs.Exports.{Opens, Happens, AnswersSetup, CutsPacket, spotOf, numbered, AnswersRecordEvent};
 
 mod endpoint;
+mod makers;
 mod numbers;
 
 // Opens a set with its serial block: the image becomes the fresh record, whether they are accepted or not.
@@ -71,7 +72,7 @@ pub extern "C" fn hk_status_end(set: &[u8], serial: &[u8], image: &mut [u8]) -> 
     events::reply::number(event(number, set, serial, image, Event::StatusEnd))
 }
 
-// The bus was reset: the fresh record.
+// The bus was reset: the fresh record, but the power source stays.
 #[no_mangle]
 pub extern "C" fn hk_bus_reset(set: &[u8], serial: &[u8], image: &mut [u8]) -> u8
     ensures { λ r. ⌜ Happens (lent (now (set .entry)) (now (serial .entry))) (now (image .entry)) BusReset r (now (image .exit)) ⌝ }
@@ -98,6 +99,15 @@ pub extern "C" fn hk_packet_passed(set: &[u8], serial: &[u8], image: &mut [u8], 
     events::reply::number(event(number, set, serial, image, Event::PacketPassed(endpoint)))
 }
 
+// The board found its power source: 0 the bus, 1 its own supply.
+#[no_mangle]
+pub extern "C" fn hk_power(set: &[u8], serial: &[u8], image: &mut [u8], source: u8) -> u8
+    ensures { λ r. ⌜ Happens (lent (now (set .entry)) (now (serial .entry))) (now (image .entry)) (Power source) r (now (image .exit)) ⌝ }
+{
+    let number = steps::opening(set, serial);
+    events::reply::number(event(number, set, serial, image, Event::Power(source)))
+}
+
 // Packet `number` of a reply to a request that asked for `asked` bytes, with packets of `size` bytes: a part of the reply, and no copy.
 #[no_mangle]
 pub extern "C" fn hk_packet<'a>(
@@ -121,17 +131,17 @@ pub extern "C" fn hk_record_event<'a>(
     serial: &'a [u8],
     device: &mut Device,
     kind: u8,
-    endpoint: u8,
+    value: u8,
     setup: &[u8],
     bytes: &mut [u8; 2],
     count: &mut u8,
     part: &mut &'a [u8],
 ) -> u8
-    ensures { λ r. ⌜ AnswersRecordEvent (lent (now (set .entry)) (now (serial .entry))) (spotOf ((set .entry) .ptr)) (spotOf ((serial .entry) .ptr)) (now (device .entry)) (numbered kind endpoint (now (setup .entry)))
+    ensures { λ r. ⌜ AnswersRecordEvent (lent (now (set .entry)) (now (serial .entry))) (spotOf ((set .entry) .ptr)) (spotOf ((serial .entry) .ptr)) (now (device .entry)) (numbered kind value (now (setup .entry)))
         r (now (device .exit)) (now (bytes .exit)) (now (count .exit)) (now (now (part .exit))) (spotOf ((now (part .exit)) .ptr)) ⌝ }
 {
     let number = steps::opening(set, serial);
-    let event = numbers::event_of(kind, endpoint, setup);
+    let event = numbers::event_of(kind, value, setup);
     let answer = steps::step_lent(number, device, set, serial, event);
     numbers::hand_out(set, serial, answer, bytes, count, part)
 }

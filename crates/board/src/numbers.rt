@@ -8,16 +8,17 @@ ghost use Rattle.events.specs.Places.{Inside};
 ghost use Rattle.sets.specs.Opening.{lent};
 ghost use Rattle.board.specs.Exports.{spotOf, Hands, numbered};
 
-// The event of a number.
-pub fn event_of(kind: u8, endpoint: u8, setup: &[u8]) -> Event
-    ensures { λ r. ⌜ r ≡ numbered kind endpoint (now (setup .entry)) ⌝ }
+// The event of a number; the value is an endpoint's address or a power source.
+pub fn event_of(kind: u8, value: u8, setup: &[u8]) -> Event
+    ensures { λ r. ⌜ r ≡ numbered kind value (now (setup .entry)) ⌝ }
 {
     match kind {
         0 => events::setup_event(setup),
         1 => Event::StatusEnd,
         2 => Event::BusReset,
-        3 => Event::Halt(endpoint),
-        4 => Event::PacketPassed(endpoint),
+        3 => Event::Halt(value),
+        4 => Event::PacketPassed(value),
+        5 => Event::Power(value),
         _ => Event::Malformed,
     }
 }

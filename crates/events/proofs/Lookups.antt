@@ -1,28 +1,22 @@
--- What a lookup tells of the board, and what GET_DESCRIPTOR answers from where a descriptor lies. No axiom.
-use Prim.Native.Nat.{ℕ, zero, suc, _/_, _%_, _≤_, _<_, min}
+-- What a lookup tells of the board. No axiom.
+use Prim.Native.Nat.{ℕ, zero, suc, _%_, _<_}
 use native.Mathlib.Omega.{arith}
 use mathlib.Core.Path.{_≡_, refl}
 use mathlib.Core.Bool.{Bool, true, false, _&&_, not}
 use mathlib.Core.Option.{Option, some, none}
 use lib.Dec.{eqb, leb}
 use borrow.Author.Tests.{le-leb, ne-eqb}
-use Rattle.octets.specs.Sentences.{pick, first, member}
+use Rattle.octets.specs.Sentences.{pick}
 use Rattle.descriptors.specs.declared.Endpoint.{Endpoint}
 use Rattle.descriptors.specs.declared.lookup.EndpointFound.the-variants.{At, Nothing}
 use Rattle.descriptors.specs.Lookup.{found}
-use Rattle.sets.specs.declared.Entry.{Entry}
-use Rattle.sets.specs.View.{View, entryByIndex}
+use Rattle.sets.specs.View.{View}
 use Rattle.records.specs.declared.Device.{Device}
 use Rattle.records.specs.Device.{inDefault, inAddress, nothing, withWaiting}
 use Rattle.requests.specs.declared.Setup.{Setup}
-use Rattle.events.specs.declared.Answer.the-variants.{SetPart, SerialPart}
 use Rattle.events.specs.declared.facts.Facts.{Facts}
-use Rattle.events.specs.declared.facts.Located.{Located}
-use Rattle.events.specs.declared.facts.Located.the-variants.{Body, Serial, Nowhere}
-use Rattle.events.specs.declared.Outcome.{Outcome}
-use Rattle.events.specs.Answer.{gives, refused}
-use Rattle.events.specs.Requests.{digit, setPart, isEntry, languageFor, getDescriptor}
-use Rattle.events.specs.Facts.{bodyAt, locate, Tells}
+use Rattle.events.specs.Requests.{digit}
+use Rattle.events.specs.Facts.{Tells}
 
 -- ---- an endpoint that was looked up
 pub is-there : (o : Option Endpoint) {e : Endpoint} → found o ≡ At e → o ≡ some e
@@ -33,42 +27,10 @@ pub is-nowhere : (o : Option Endpoint) → found o ≡ Nothing → o ≡ none
 is-nowhere none p = refl
 is-nowhere (some e) p = let z : _≡_ {A = ℕ} 0 1 = cc in absurd (omega arith)
 
--- ---- a descriptor, from where it lies
-abbrev pub describe : Device → ℕ → Located → Outcome
-describe d asked (Body offset size) = gives (SetPart offset (min size asked)) d
-describe d asked (Serial size) = gives (SerialPart (min size asked)) d
-describe d asked Nowhere = refused 13 d
-
-pub described : (v : View) (d : Device) (s : Setup) → getDescriptor v d s ≡ describe d (s .wLength) (locate v s)
-unfolding getDescriptor
-described v d s =
-    go (eqb (s .wValue / 256) 3) (leb 1 (s .wValue % 256) && eqb (s .wValue % 256) (v .serialIndex)) (member (s .wIndex) (v .languages)) (eqb (s .wValue / 256) 2) (eqb (s .wValue / 256) 1)
-    (first (isEntry 3 (s .wValue % 256) (languageFor (s .wValue % 256) (s .wIndex))) (v .entries)) (entryByIndex (record { 0 = s .wValue % 256 }) (v .entries)) (first (isEntry 1 (s .wValue % 256) 0) (v .entries))
-  where
-    part : (o : Option Entry) → setPart d (s .wLength) o ≡ describe d (s .wLength) (bodyAt o)
-    part none = refl
-    part (some e) = refl
-
-    go : (string serial listed configuration device : Bool) (o p q : Option Entry)
-        → pick string (pick serial (pick listed (gives (SerialPart (min (v .serialLength) (s .wLength))) d) (refused 13 d)) (setPart d (s .wLength) o))
-            (pick configuration (setPart d (s .wLength) p) (pick device (setPart d (s .wLength) q) (refused 13 d)))
-        ≡ describe d (s .wLength) (pick string (pick serial (pick listed (Serial (v .serialLength)) Nowhere) (bodyAt o)) (pick configuration (bodyAt p) (pick device (bodyAt q) Nowhere)))
-    go true true true c e o p q = refl
-    go true true false c e o p q = refl
-    go true false l c e o p q = part o
-    go false t l true e o p q = part p
-    go false t l false true o p q = part q
-    go false t l false false o p q = refl
-
 -- ---- an endpoint that can halt and is not halted, where one that cannot halt is not
 pub unhalted : (a b : Bool) {f h t : Bool} → f ≡ a → h ≡ (a && b) → (f && not h) ≡ t → (a && not b) ≡ t
 unhalted true b p q r = rw (p, q) at r
 unhalted false b p q r = rw p at r
-
--- ---- a bool as a number
-pub digit-small : (b : Bool) → digit b ≤ 1
-digit-small true = omega arith
-digit-small false = omega arith
 
 -- ---- status end: zero leads to Default, others to Address
 pub state-of : (w : ℕ) → digit (leb 1 w) ≡ pick (eqb w 0) inDefault inAddress
@@ -84,7 +46,6 @@ pub settles : {v : View} {d : Device} {s : Setup} {f : Facts} → Tells v d s f 
 settles t = record {
   configured = t .configured;
   waking = t .waking;
-  powered = t .powered;
   surveyed = t .surveyed;
   interface = t .interface;
   small = t .small;

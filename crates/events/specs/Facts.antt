@@ -1,29 +1,22 @@
 -- Working definitions for the contracts of the requests' functions; no promise cites them.
-use Prim.Native.Nat.{ℕ, _/_, _%_, _<_}
+use Prim.Native.Nat.{ℕ, _<_}
 use mathlib.Core.Path.{_≡_}
-use mathlib.Core.Bool.{Bool, true, false, _&&_}
-use mathlib.Core.Option.{Option, some, none}
-use lib.Dec.{eqb, leb}
-use Rattle.octets.specs.Bit.{bit}
-use Rattle.octets.specs.Sentences.{pick, first, member}
+use mathlib.Core.Bool.{Bool, true, false}
 use Rattle.descriptors.specs.Configuration.{hasInterface, hasSetting}
 use Rattle.descriptors.specs.declared.survey.Asked.{Asked}
 use Rattle.descriptors.specs.Survey.{Surveys}
-use Rattle.sets.specs.declared.Entry.{Entry}
-use Rattle.sets.specs.View.{View, entryByIndex, hasValue, wakes}
+use Rattle.sets.specs.View.{View, hasValue, wakes}
 use Rattle.records.specs.declared.Device.{Device}
 use Rattle.records.specs.Change.{changed}
 use Rattle.records.specs.Current.{selected}
 use Rattle.requests.specs.declared.Setup.{Setup}
 use Rattle.events.specs.declared.Event.{Event}
-use Rattle.events.specs.declared.Event.the-variants.{Request, Malformed, StatusEnd, BusReset, Halt, PacketPassed}
+use Rattle.events.specs.declared.Event.the-variants.{Request, Malformed, StatusEnd, BusReset, Halt, PacketPassed, Power}
 use Rattle.events.specs.declared.facts.Facts.{Facts}
-use Rattle.events.specs.declared.facts.Located.{Located}
-use Rattle.events.specs.declared.facts.Located.the-variants.{Body, Serial, Nowhere}
 use Rattle.events.specs.declared.reaction.Reaction.{Reaction}
 use Rattle.events.specs.declared.Outcome.{Outcome}
 use Rattle.events.specs.Answer.{gives}
-use Rattle.events.specs.Requests.{byRecipient, digit, powering, deviceFeature, interfaceFeature, endpointFeature, clearHalt, setHalt, isEntry, languageFor}
+use Rattle.events.specs.Requests.{byRecipient, digit, deviceFeature, interfaceFeature, endpointFeature, clearHalt, setHalt, locate}
 
 -- ---- a reaction to an event at a record
 abbrev pub outcomeOf : Reaction → Device → Outcome
@@ -38,25 +31,6 @@ withHalt false = clearHalt
 abbrev pub feature : Bool → View → Device → Setup → Outcome
 feature on v d s = byRecipient s (deviceFeature (digit on) v d s) (interfaceFeature v d s) (endpointFeature (withHalt on) v d s)
 
--- ---- where a descriptor lies
-abbrev pub bodyAt : Option Entry → Located
-bodyAt none = Nowhere
-bodyAt (some e) = Body (e .offset) (e .length)
-
--- the string with an index, in a language
-abbrev pub locateString : View → ℕ → ℕ → Located
-locateString v index language =
-    pick (leb 1 index && eqb index (v .serialIndex)) (pick (member language (v .languages)) (Serial (v .serialLength)) Nowhere)
-    (bodyAt (first (isEntry 3 index (languageFor index language)) (v .entries)))
-
--- the descriptor that a setup asks for
-abbrev pub locate : View → Setup → Located
-locate v s =
-    pick (eqb (s .wValue / 256) 3) (locateString v (s .wValue % 256) (s .wIndex))
-    (pick (eqb (s .wValue / 256) 2) (bodyAt (entryByIndex (record { 0 = s .wValue % 256 }) (v .entries)))
-    (pick (eqb (s .wValue / 256) 1) (bodyAt (first (isEntry 1 (s .wValue % 256) 0) (v .entries)))
-    Nowhere))
-
 -- ---- what is asked of a board
 -- an event's question, put as a setup: that of a function event names its endpoint, that of other events nothing
 abbrev pub naming : ℕ → Setup
@@ -69,6 +43,7 @@ questionOf StatusEnd = naming 0
 questionOf BusReset = naming 0
 questionOf (Halt a) = naming a
 questionOf (PacketPassed a) = naming a
+questionOf (Power source) = naming 0
 
 -- what it asks of the selected configuration
 abbrev pub askedBy : Setup → Asked
@@ -78,7 +53,6 @@ askedBy s = record { address = s .wIndex; interface = s .wIndex; alternate = s .
 pub record Tells (v : View) (d : Device) (s : Setup) (f : Facts) : Type 0 where
   pub configured : f .configured ≡ hasValue (record { 0 = d .configuration }) (v .configurations)
   pub waking : f .waking ≡ wakes v
-  pub powered : f .powered ≡ bit (powering v d .attributes) 6
   pub surveyed : Surveys (selected v d) (d .alternates) (askedBy s) (f .survey)
   pub interface : f .interface ≡ hasInterface (selected v d) (s .wIndex)
   pub small : hasSetting (selected v d) (s .wIndex) (s .wValue) ≡ true → (s .wIndex < 16) × (s .wValue < 16)

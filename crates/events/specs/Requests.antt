@@ -11,13 +11,15 @@ use Rattle.octets.specs.Sentences.{pick, only, first, member}
 use Rattle.descriptors.specs.declared.Endpoint.{Endpoint}
 use Rattle.descriptors.specs.Configuration.{Configuration, hasInterface, hasSetting, canHalt, bitOf, cleared, ofEither}
 use Rattle.sets.specs.declared.Entry.{Entry}
-use Rattle.sets.specs.View.{View, entryByIndex, byIndex, hasValue, wakes}
+use Rattle.sets.specs.View.{View, entryByIndex, hasValue, wakes}
 use Rattle.records.specs.declared.Device.{Device}
 use Rattle.records.specs.Device.{inAddress, inConfigured, withWaiting, withWakeup, withConfiguration, withEndpoints}
 use Rattle.records.specs.Current.{selected, endpointAt}
 use Rattle.requests.specs.declared.Setup.{Setup}
 use Rattle.requests.specs.Setup.{recipient}
 use Rattle.events.specs.declared.Answer.the-variants.{OneByte, TwoBytes, SetPart, SerialPart}
+use Rattle.events.specs.declared.facts.Located.{Located}
+use Rattle.events.specs.declared.facts.Located.the-variants.{Body, Serial, Nowhere}
 use Rattle.events.specs.declared.Outcome.{Outcome}
 use Rattle.events.specs.Answer.{gives, done, refused}
 
@@ -34,13 +36,9 @@ abbrev pub digit : Bool → ℕ
 digit true = 1
 digit false = 0
 
--- "D0 is attribute bit 6 of the selected configuration (index 0 in Address)"
-abbrev pub powering : View → Device → Configuration
-powering v d = pick (eqb (d .state) inAddress) (byIndex (record { 0 = 0 }) (v .configurations)) (selected v d)
-
--- "D1 is wakeup"
-abbrev pub getDeviceStatus : View → Device → Outcome
-getDeviceStatus v d = gives (TwoBytes (digit (bit (powering v d .attributes) 6) + 2 * d .wakeup) 0) d
+-- "D0 is that byte in every state", the power source (L2); "D1 is wakeup"
+abbrev pub getDeviceStatus : Device → Outcome
+getDeviceStatus d = gives (TwoBytes (d .power + 2 * d .wakeup) 0) d
 
 -- "interface 0, 0"
 abbrev pub getInterfaceStatus : View → Device → ℕ → Outcome
@@ -55,7 +53,7 @@ abbrev pub getEndpointStatus : View → Device → ℕ → Outcome
 getEndpointStatus v d index = pick (isEndpointZero index) (gives (TwoBytes 0 0) d) (endpointStatus d (endpointAt v d index))
 
 unfoldable pub getStatus : View → Device → Setup → Outcome
-getStatus v d s = byRecipient s (getDeviceStatus v d) (getInterfaceStatus v d (s .wIndex)) (getEndpointStatus v d (s .wIndex))
+getStatus v d s = byRecipient s (getDeviceStatus d) (getInterfaceStatus v d (s .wIndex)) (getEndpointStatus v d (s .wIndex))
 
 -- ---- CLEAR_FEATURE and SET_FEATURE
 -- "Features: device 1 (wakeup, if supported)"
@@ -92,34 +90,42 @@ setFeature v d s = byRecipient s (deviceFeature 1 v d s) (interfaceFeature v d s
 unfoldable pub setAddress : View → Device → Setup → Outcome
 setAddress v d s = done (withWaiting (s .wValue) d)
 
--- ---- GET_DESCRIPTOR: "never more than wLength bytes, from the start of the body"
-abbrev pub setPart : Device → ℕ → Option Entry → Outcome
-setPart d asked none = refused 13 d
-setPart d asked (some e) = gives (SetPart (e .offset) (min (e .length) asked)) d
-
+-- ---- GET_DESCRIPTOR
 abbrev pub isEntry : ℕ → ℕ → ℕ → Entry → Bool
 isEntry kind index language e = eqb (e .kind) kind && eqb (e .index) index && eqb (e .language) language
 
--- "The serial index is answered from the serial block"; it is given in each listed language
-abbrev pub serialPart : View → Device → ℕ → ℕ → Outcome
-serialPart v d language asked = pick (member language (v .languages)) (gives (SerialPart (min (v .serialLength) asked)) d) (refused 13 d)
+abbrev pub bodyAt : Option Entry → Located
+bodyAt none = Nowhere
+bodyAt (some e) = Body (e .offset) (e .length)
 
--- the language in which a string is given: "String 0 is given from the set for any wIndex; other strings need a listed language"
-abbrev pub languageFor : ℕ → ℕ → ℕ
-languageFor index asked = pick (eqb index 0) 0 asked
+-- the language in which a string is given: "String 0 is given from the set for any wIndex"; a string index "is answered in the first listed
+-- language when the asked one is not listed" (L6; 0, in which no string stands, where none is listed)
+abbrev pub languageFor : View → ℕ → ℕ → ℕ
+languageFor v index asked = pick (eqb index 0) 0 (pick (member asked (v .languages)) asked (getD (v .languages) 0 0))
 
-abbrev pub getString : View → Device → ℕ → ℕ → ℕ → Outcome
-getString v d index language asked =
-    pick (leb 1 index && eqb index (v .serialIndex)) (serialPart v d language asked)
-    (setPart d asked (first (isEntry 3 index (languageFor index language)) (v .entries)))
+-- where a string lies, in the language chosen: "The serial index is answered from the serial block", which is given in each listed language
+abbrev pub locateString : View → ℕ → ℕ → Located
+locateString v index language =
+    pick (leb 1 index && eqb index (v .serialIndex)) (pick (member language (v .languages)) (Serial (v .serialLength)) Nowhere)
+    (bodyAt (first (isEntry 3 index language) (v .entries)))
 
--- "Device index must be 0 (13)": the one device entry has index 0; a configuration goes by its index; any other type gives 13
+-- where the descriptor lies that a setup asks for, whatever the record. "Device index must be 0 (13)": the one device entry has index 0;
+-- a configuration goes by its index; any other type is nowhere
+unfoldable pub locate : View → Setup → Located
+locate v s =
+    pick (eqb (s .wValue / 256) 3) (locateString v (s .wValue % 256) (languageFor v (s .wValue % 256) (s .wIndex)))
+    (pick (eqb (s .wValue / 256) 2) (bodyAt (entryByIndex (record { 0 = s .wValue % 256 }) (v .entries)))
+    (pick (eqb (s .wValue / 256) 1) (bodyAt (first (isEntry 1 (s .wValue % 256) 0) (v .entries)))
+    Nowhere))
+
+-- "never more than wLength bytes, from the start of the body"; what is nowhere gives 13
+abbrev pub describe : Device → ℕ → Located → Outcome
+describe d asked (Body offset size) = gives (SetPart offset (min size asked)) d
+describe d asked (Serial size) = gives (SerialPart (min size asked)) d
+describe d asked Nowhere = refused 13 d
+
 unfoldable pub getDescriptor : View → Device → Setup → Outcome
-getDescriptor v d s =
-    pick (eqb (s .wValue / 256) 3) (getString v d (s .wValue % 256) (s .wIndex) (s .wLength))
-    (pick (eqb (s .wValue / 256) 2) (setPart d (s .wLength) (entryByIndex (record { 0 = s .wValue % 256 }) (v .entries)))
-    (pick (eqb (s .wValue / 256) 1) (setPart d (s .wLength) (first (isEntry 1 (s .wValue % 256) 0) (v .entries)))
-    (refused 13 d)))
+getDescriptor v d s = describe d (s .wLength) (locate v s)
 
 -- ---- GET_CONFIGURATION
 unfoldable pub getConfiguration : View → Device → Setup → Outcome

@@ -4,14 +4,14 @@ use mathlib.Core.List.{List}
 use mathlib.Core.Bool.{_&&_, not}
 use mathlib.Core.Option.{Option, some, none}
 use lib.ListN.{length}
-use lib.Dec.{eqb}
+use lib.Dec.{eqb, leb}
 use Rattle.octets.specs.Bit.{bit, flipBit}
 use Rattle.octets.specs.Sentences.{pick}
 use Rattle.descriptors.specs.declared.Endpoint.{Endpoint}
 use Rattle.sets.specs.Opening.{Board}
 use Rattle.sets.specs.View.{View, openingOf, accepted}
 use Rattle.records.specs.declared.Device.{Device}
-use Rattle.records.specs.Device.{inDefault, inAddress, nothing, fresh, settled, withAddress, withEndpoints}
+use Rattle.records.specs.Device.{inDefault, inAddress, nothing, fresh, afterReset, settled, withPower, withAddress, withEndpoints}
 use Rattle.records.specs.Image.{deviceOf, imageOf}
 use Rattle.descriptors.specs.Configuration.{canHalt, bitOf}
 use Rattle.records.specs.Current.{viewAt, endpointAt}
@@ -22,7 +22,7 @@ use Rattle.requests.specs.Table.{refusal}
 use Rattle.events.specs.declared.Answer.{Answer}
 use Rattle.events.specs.declared.Answer.the-variants.{Refused}
 use Rattle.events.specs.declared.Event.{Event}
-use Rattle.events.specs.declared.Event.the-variants.{Request, Malformed, StatusEnd, BusReset, Halt, PacketPassed}
+use Rattle.events.specs.declared.Event.the-variants.{Request, Malformed, StatusEnd, BusReset, Halt, PacketPassed, Power}
 use Rattle.events.specs.declared.Outcome.{Outcome}
 use Rattle.events.specs.Answer.{done, refused}
 use Rattle.events.specs.Requests.{getStatus, clearFeature, setFeature, setHalt, setAddress, getDescriptor, getConfiguration, setConfiguration, getInterface, setInterface}
@@ -73,14 +73,19 @@ passAt d (some e) =
 unfoldable pub packetPassed : View → Device → ℕ → Outcome
 packetPassed v d address = passAt d (endpointAt v d address)
 
+-- ---- the power source: "the power event leaves every other byte"; "a power event with a value above 1 gets 16" (L2)
+abbrev pub power : Device → ℕ → Outcome
+power d source = pick (leb source 1) (done (withPower source d)) (refused 16 d)
+
 -- ---- every event, on a record that fits
 abbrev pub respond : View → Device → Event → Outcome
 respond v d (Request s) = answerSetup v d s
 respond v d Malformed = refused 9 d
 respond v d StatusEnd = statusEnd d
-respond v d BusReset = done fresh
+respond v d BusReset = done (afterReset d)
 respond v d (Halt a) = halt v d a
 respond v d (PacketPassed a) = packetPassed v d a
+respond v d (Power source) = power d source
 
 -- "Order: 7, 8, then for a setup 9 to 14, for a function event 16."
 unfoldable pub step : Board → Device → Event → Outcome

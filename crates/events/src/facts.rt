@@ -8,13 +8,11 @@ pub enum Located {
     Nowhere,
 }
 
-// configured: the set has a configuration with the record's value; waking: some configuration supports remote wakeup; powered: the configuration
-// that tells of the supply is powered by itself; survey: what the selected configuration has; interface: it has the interface that is asked for;
+// configured: the set has a configuration with the record's value; waking: some configuration supports remote wakeup; survey: what the selected configuration has; interface: it has the interface that is asked for;
 // configuration: the set has the value that SET_CONFIGURATION asks for; located: what GET_DESCRIPTOR asks for.
 pub struct Facts {
     pub configured: bool,
     pub waking: bool,
-    pub powered: bool,
     pub interface: bool,
     pub survey: Survey,
     pub configuration: bool,

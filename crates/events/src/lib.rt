@@ -11,7 +11,7 @@ pub mod reply;
 pub mod respond;
 pub mod standard;
 
-// An event: a setup of eight bytes, a setup of any other length, or one of the four others.
+// An event: a setup of eight bytes, a setup of any other length, or one of the five others.
 pub enum Event {
     Request(Setup),
     Malformed,
@@ -19,6 +19,7 @@ pub enum Event {
     BusReset,
     Halt(u8),
     PacketPassed(u8),
+    Power(u8),
 }
 
 // What an event answers: done, with no, one or two bytes; the part of the set from `offset` on; the serial block's first bytes; or a

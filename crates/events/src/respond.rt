@@ -13,15 +13,16 @@ use requests::Setup;
 ghost use mathlib.Core.Path.{_≡_};
 ghost use Prim.Native.Nat.{_<_};
 ghost use Rattle.sets.specs.View.{View};
-ghost use Rattle.records.specs.Device.{fresh};
+ghost use Rattle.records.specs.Device.{afterReset};
 ghost use Rattle.requests.specs.Table.{refusal};
 ghost use Rattle.events.specs.Answer.{done};
-ghost use Rattle.events.specs.Step.{request, answerSetup, statusEnd, respond};
+ghost use Rattle.events.specs.Step.{request, answerSetup, statusEnd, power, respond};
 ghost use Rattle.events.specs.Facts.{questionOf, Tells, outcomeOf};
 
 // The request by its code, past the table's refusals.
 fn request(facts: Facts, device: Device, setup: Setup) -> Reaction
     requires { ⌜ device .wakeup < 2 ⌝ }
+    requires { ⌜ device .power < 2 ⌝ }
     requires { ⌜ refusal (device .state) setup ≡ 0 ⌝ }
     ensures { λ r. ⌜ ((v : View) → Tells v device setup facts → outcomeOf r device ≡ request v device setup) ⌝ }
 {
@@ -42,6 +43,7 @@ fn request(facts: Facts, device: Device, setup: Setup) -> Reaction
 // A setup: what waits is dropped; then the table's refusal, or the request.
 fn answer_setup(facts: Facts, device: Device, setup: Setup) -> Reaction
     requires { ⌜ device .wakeup < 2 ⌝ }
+    requires { ⌜ device .power < 2 ⌝ }
     ensures { λ r. ⌜ ((v : View) → Tells v device setup facts → outcomeOf r device ≡ answerSetup v device setup) ⌝ }
 {
     let number = requests::refusal(device.state, setup);
@@ -68,9 +70,9 @@ fn status_end(device: Device) -> Reaction
     done(next)
 }
 
-// The bus was reset.
-fn bus_reset() -> Reaction
-    ensures { λ r. ⌜ ((d : Device) → outcomeOf r d ≡ done fresh) ⌝ }
+// The bus was reset: the power source stays.
+fn bus_reset(device: Device) -> Reaction
+    ensures { λ r. ⌜ outcomeOf r device ≡ done (afterReset device) ⌝ }
 {
     done(Change {
         state: 0,
@@ -78,7 +80,7 @@ fn bus_reset() -> Reaction
         waiting: 255,
         configuration: 0,
         wakeup: 0,
-        power: 0,
+        power: device.power,
         suspended: 0,
         speed: 0,
         settings: Settings::Cleared,
@@ -87,9 +89,22 @@ fn bus_reset() -> Reaction
     })
 }
 
+// The power source has changed, or was found.
+fn power(source: u8, device: Device) -> Reaction
+    ensures { λ r. ⌜ outcomeOf r device ≡ power device source ⌝ }
+{
+    if source <= 1 {
+        let mut next = records::kept(device);
+        next.power = source;
+        return done(next);
+    }
+    refused(16, device)
+}
+
 // Every event.
 pub fn respond(facts: Facts, device: Device, event: Event) -> Reaction
     requires { ⌜ device .wakeup < 2 ⌝ }
+    requires { ⌜ device .power < 2 ⌝ }
     ensures { λ r. ⌜ ((v : View) → Tells v device (questionOf event) facts → outcomeOf r device ≡ respond v device event) ⌝ }
 {
     let survey = facts.survey;
@@ -98,8 +113,9 @@ pub fn respond(facts: Facts, device: Device, event: Event) -> Reaction
         Event::Request(setup) => answer_setup(facts, device, setup),
         Event::Malformed => refused(9, device),
         Event::StatusEnd => status_end(device),
-        Event::BusReset => bus_reset(),
+        Event::BusReset => bus_reset(device),
         Event::Halt(_) => endpoint::halt(endpoint, device),
         Event::PacketPassed(_) => endpoint::packet_passed(endpoint, device),
+        Event::Power(source) => power(source, device),
     }
 }

@@ -18,18 +18,19 @@ ghost use Prim.Native.Nat.{_<_, min};
 ghost use Rattle.sets.specs.View.{View, hasValue, wakes};
 ghost use Rattle.records.specs.Device.{withConfiguration};
 ghost use Rattle.records.specs.Change.{changed};
-ghost use Rattle.events.specs.Requests.{digit, getStatus, deviceFeature, endpointFeature, clearFeature, setFeature, setAddress, getDescriptor, getConfiguration, setConfiguration, getInterface, setInterface};
-ghost use Rattle.events.specs.Facts.{Tells, withHalt, feature, locate, outcomeOf};
+ghost use Rattle.events.specs.Requests.{digit, getStatus, deviceFeature, endpointFeature, clearFeature, setFeature, setAddress, locate, getDescriptor, getConfiguration, setConfiguration, getInterface, setInterface};
+ghost use Rattle.events.specs.Facts.{Tells, withHalt, feature, outcomeOf};
 
-// GET_STATUS: of the device its supply and wakeup, of an interface 0, of an endpoint its halt.
+// GET_STATUS: of the device its power source and wakeup, of an interface 0, of an endpoint its halt.
 pub fn get_status(facts: Facts, device: Device, setup: Setup) -> Reaction
     requires { ⌜ device .wakeup < 2 ⌝ }
+    requires { ⌜ device .power < 2 ⌝ }
     ensures { λ r. ⌜ ((v : View) → Tells v device setup facts → outcomeOf r device ≡ getStatus v device setup) ⌝ }
 {
     let recipient = setup.bmRequestType % 32;
     if recipient == 0 {
         return gives(
-            Answer::TwoBytes(facts.powered as u8 + 2 * device.wakeup, 0),
+            Answer::TwoBytes(device.power + 2 * device.wakeup, 0),
             device,
         );
     }

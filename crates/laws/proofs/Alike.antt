@@ -1,5 +1,5 @@
 -- An event that concerns k or nobody: records that k cannot tell apart get the same answer and stay so. No axiom.
-use Prim.Native.Nat.{ℕ, _+_, _*_, _/_, _%_, _≤_, _<_}
+use Prim.Native.Nat.{ℕ, _+_, _*_, _≤_, _<_}
 use native.Mathlib.Omega.{arith}
 use mathlib.Core.Path.{_≡_, refl, sym, ap, _∙_}
 use mathlib.Core.Bool.{Bool, true, false, _&&_, _||_, not, false≢true}
@@ -10,30 +10,30 @@ use lib.Seq.{getD-set-same}
 use lib.Dec.{eqb, leb}
 use borrow.Author.Tests.{eqb-true, eqb-false}
 use Rattle.octets.specs.Bit.{bit, flipBit}
-use Rattle.octets.specs.Sentences.{pick, any, only, first, member}
+use Rattle.octets.specs.Sentences.{pick, any, only}
 use Rattle.octets.proofs.Sentences.{both, any-member, member-any}
 use Rattle.descriptors.specs.declared.Endpoint.{Endpoint}
 use Rattle.descriptors.specs.Configuration.{Configuration, hasInterface, hasSetting, currentOf, addressed, canHalt, bitOf, cleared, ofEither}
-use Rattle.sets.specs.declared.Entry.{Entry}
-use Rattle.sets.specs.View.{View, entryByIndex, byIndex, byValue, wakes}
+use Rattle.sets.specs.View.{View, byValue, wakes}
 use Rattle.records.specs.declared.Device.{Device}
-use Rattle.records.specs.Device.{inDefault, inAddress, inConfigured, nothing, fresh, settled, withWaiting, withWakeup, withAddress, withConfiguration, withEndpoints}
+use Rattle.records.specs.Device.{inDefault, inAddress, inConfigured, nothing, afterReset, settled, withWaiting, withWakeup, withPower, withAddress, withConfiguration, withEndpoints}
 use Rattle.records.specs.Current.{selected, endpointAt}
 use Rattle.requests.specs.declared.Setup.{Setup}
 use Rattle.requests.specs.Setup.{recipient}
 use Rattle.requests.specs.Table.{refusal}
 use Rattle.events.specs.declared.Answer.{Answer}
 use Rattle.events.specs.declared.Answer.the-variants.{OneByte, TwoBytes, Refused}
+use Rattle.events.specs.declared.facts.Located.{Located}
+use Rattle.events.specs.declared.facts.Located.the-variants.{Body, Serial, Nowhere}
 use Rattle.events.specs.declared.Outcome.{Outcome}
 use Rattle.events.specs.declared.Event.{Event}
-use Rattle.events.specs.declared.Event.the-variants.{Request, Malformed, StatusEnd, BusReset, Halt, PacketPassed}
-use Rattle.events.specs.Answer.{gives, refused}
-use Rattle.events.specs.Requests.{byRecipient, getStatus, endpointStatus, isEndpointZero, digit, deviceFeature, interfaceFeature, haltFeature, endpointFeature, clearHalt, setHalt, clearFeature, setFeature, setAddress, setPart, isEntry, languageFor, getDescriptor, getConfiguration, setConfiguration, getInterface, withSetting, setInterface}
-use Rattle.events.specs.Step.{request, answerSetup, statusEnd, haltAt, halt, passAt, packetPassed, respond}
+use Rattle.events.specs.declared.Event.the-variants.{Request, Malformed, StatusEnd, BusReset, Halt, PacketPassed, Power}
+use Rattle.events.specs.Answer.{gives, done, refused}
+use Rattle.events.specs.Requests.{byRecipient, getStatus, endpointStatus, isEndpointZero, digit, deviceFeature, interfaceFeature, haltFeature, endpointFeature, clearHalt, setHalt, clearFeature, setFeature, setAddress, locate, describe, getDescriptor, getConfiguration, setConfiguration, getInterface, withSetting, setInterface}
+use Rattle.events.specs.Step.{request, answerSetup, statusEnd, haltAt, halt, passAt, packetPassed, power, respond}
 use Rattle.events.specs.Concerns.{setupConcerns, eventConcerns}
 use Rattle.sets.specs.Sound.{SoundConfiguration}
 use Rattle.laws.specs.Parts.{home, Shared, shared, SameIn, rest, withCommon}
-use Rattle.laws.proofs.Same.{self}
 use Rattle.laws.proofs.Homes.{AllIn, all-in, found-home, found-alike, set-both, clear-both, flip-both, cleared-both}
 use Rattle.laws.proofs.Recipients.{Tabled, table-fits}
 
@@ -97,6 +97,9 @@ module _ (v : View) (T : Type 0) (k : ℕ) (d s : Device) (h : Near v T k d s) w
 
   near-wakeup : (on : ℕ) → Near v T k (withWakeup on d) (withWakeup on s)
   near-wakeup on = near-common (ap (λ (x : Shared). shared (withWakeup on (withCommon x (rest d) d))) (h .part .firm)) refl (h .still)
+
+  near-power : (source : ℕ) → Near v T k (withPower source d) (withPower source s)
+  near-power source = near-common (ap (λ (x : Shared). shared (withPower source (withCommon x (rest d) d))) (h .part .firm)) refl (h .still)
 
   near-configuration : (state value : ℕ) → Near v T k (withConfiguration state value d) (withConfiguration state value s)
   near-configuration state value = record {
@@ -213,13 +216,9 @@ module _ (v : View) (T : Type 0) (k : ℕ) (d s : Device) (h : Near v T k d s) w
     alike-get-status : Alike v T k (getStatus v d q) (getStatus v s q)
     unfolding getStatus
     alike-get-status = alike-recipient
-        (give (ap (λ (x : Shared). TwoBytes (digit (bit (poweringOf x .attributes) 6) + 2 * x .wakeup) 0) (h .part .firm)))
+        (give (ap (λ (x : Shared). TwoBytes (x .power + 2 * x .wakeup) 0) (h .part .firm)))
         (λ r. tests _ _ (interface-test (q .wIndex)) (λ i. give refl) (λ i. refuse 13))
         (λ r. test (isEndpointZero (q .wIndex)) (λ z. give refl) (λ z. alike-status S (q .wIndex) (of-endpoint r)))
-      where
-        poweringOf : Shared → Configuration
-        poweringOf x =
-            pick (eqb (x .state) inAddress) (byIndex (record { 0 = 0 }) (v .configurations)) (byValue (record { 0 = x .configuration }) (v .configurations))
 
     alike-interface-feature : Alike v T k (interfaceFeature v d q) (interfaceFeature v s q)
     alike-interface-feature = tests _ _ (interface-test (q .wIndex)) (λ i. refuse 14) (λ i. refuse 13)
@@ -244,18 +243,14 @@ module _ (v : View) (T : Type 0) (k : ℕ) (d s : Device) (h : Near v T k d s) w
     unfolding setAddress
     alike-set-address = record { answer = refl; near = near-waiting (q .wValue) }
 
-    alike-part : (o : Option Entry) → Alike v T k (setPart d (q .wLength) o) (setPart s (q .wLength) o)
-    alike-part none = refuse 13
-    alike-part (some e) = give refl
+    alike-described : (l : Located) → Alike v T k (describe d (q .wLength) l) (describe s (q .wLength) l)
+    alike-described (Body offset size) = give refl
+    alike-described (Serial size) = give refl
+    alike-described Nowhere = refuse 13
 
     alike-get-descriptor : Alike v T k (getDescriptor v d q) (getDescriptor v s q)
     unfolding getDescriptor
-    alike-get-descriptor = test (eqb (q .wValue / 256) 3)
-        (λ p. test (leb 1 (q .wValue % 256) && eqb (q .wValue % 256) (v .serialIndex))
-        (λ t. test (member (q .wIndex) (v .languages)) (λ u. give refl) (λ u. refuse 13))
-        (λ t. alike-part (first (isEntry 3 (q .wValue % 256) (languageFor (q .wValue % 256) (q .wIndex))) (v .entries))))
-        (λ p. test (eqb (q .wValue / 256) 2) (λ t. alike-part (entryByIndex (record { 0 = q .wValue % 256 }) (v .entries)))
-        (λ t. test (eqb (q .wValue / 256) 1) (λ u. alike-part (first (isEntry 1 (q .wValue % 256) 0) (v .entries))) (λ u. refuse 13)))
+    alike-get-descriptor = alike-described (locate v q)
 
     alike-get-configuration : Alike v T k (getConfiguration v d q) (getConfiguration v s q)
     unfolding getConfiguration
@@ -323,6 +318,19 @@ module _ (v : View) (T : Type 0) (k : ℕ) (d s : Device) (h : Near v T k d s) w
       taken : Shared → ℕ × ℕ → Shared
       taken x r = shared (withAddress (pick (eqb (r .0) 0) inDefault inAddress) (r .0) (withCommon x r d))
 
+  -- ---- the events of the whole device
+  alike-reset : Alike v T k (done (afterReset d)) (done (afterReset s))
+  alike-reset = record {
+    answer = refl;
+    near = record {
+      part = record { firm = ap (λ (x : Shared). shared (afterReset (withCommon x (rest d) d))) (h .part .firm); alternate = refl; halts = λ e p. refl; toggles = λ e p. refl };
+      still = λ t. refl;
+    };
+  }
+
+  alike-power : (source : ℕ) → Alike v T k (power d source) (power s source)
+  alike-power source = test (leb source 1) (λ p. record { answer = refl; near = near-power source }) (λ p. refuse 16)
+
 alike-setup : (v : View) (T : Type 0) (k : ℕ) (d s : Device) → Near v T k d s → SoundConfiguration (selected v d) → Sixteen d → Sixteen s
     → (q : Setup) → ((j : ℕ) → setupConcerns (selected v d) q ≡ some j → j ≡ k) → Alike v T k (answerSetup v d q) (answerSetup v s q)
 unfolding answerSetup
@@ -343,6 +351,7 @@ pub alike-event : (v : View) (T : Type 0) (k : ℕ) (d s : Device) (e : Event) �
 alike-event v T k d s (Request q) S zd zs w t h = alike-setup v T k d s h S zd zs q w
 alike-event v T k d s Malformed S zd zs w t h = refuse v T k d s h 9
 alike-event v T k d s StatusEnd S zd zs w t h = alike-status-end v T k d s h (h .still (t refl))
-alike-event v T k d s BusReset S zd zs w t h = record { answer = refl; near = record { part = self v k fresh; still = λ t. refl } }
+alike-event v T k d s BusReset S zd zs w t h = alike-reset v T k d s h
 alike-event v T k d s (Halt a) S zd zs w t h = alike-halt v T k d s h S a (all-in (selected v d) S a k w)
 alike-event v T k d s (PacketPassed a) S zd zs w t h = alike-pass v T k d s h S a (all-in (selected v d) S a k w)
+alike-event v T k d s (Power source) S zd zs w t h = alike-power v T k d s h source

@@ -16,7 +16,7 @@ use Rattle.descriptors.specs.declared.Endpoint.{Endpoint}
 use Rattle.descriptors.specs.Configuration.{hasSetting, canHalt, bitOf}
 use Rattle.sets.specs.View.{View, wakes}
 use Rattle.records.specs.declared.Device.{Device}
-use Rattle.records.specs.Device.{inDefault, inAddress, inConfigured, nothing, zeros, fresh, settled, withWaiting, withWakeup, withAddress, withConfiguration, withEndpoints, Sized}
+use Rattle.records.specs.Device.{inDefault, inAddress, inConfigured, nothing, zeros, fresh, afterReset, settled, withWaiting, withWakeup, withPower, withAddress, withConfiguration, withEndpoints, Sized}
 use Rattle.records.specs.Current.{selected, currentEndpoints}
 use Rattle.records.specs.Fits.{standsAt}
 use Rattle.events.specs.declared.Event.{Event}
@@ -26,7 +26,7 @@ use Rattle.sets.specs.Sound.{Sound}
 use Rattle.laws.proofs.Fitting.{Ranges, Stated, atDefault, atAddress, atConfigured, Common, Stands, Fitting}
 use Rattle.laws.specs.Parts.{Shared, shared, rest, withCommon}
 use Rattle.laws.proofs.Keeping.{none-stand, stand-changed, bit-below, zeros-good, set-good, set-stands, set-sized}
-use Rattle.laws.proofs.Outcomes.{Changed, wakeup, halted, unhalted, toggled, waits, applies, unconfigures, configures, sets, resets, Answered, reads, fromSet, fromSerial, changes, refusedWith, Responded, answers, leaves, becomes, refuses}
+use Rattle.laws.proofs.Outcomes.{Changed, wakeup, halted, unhalted, toggled, waits, applies, unconfigures, configures, sets, resets, powers, Answered, reads, fromSet, fromSerial, changes, refusedWith, Responded, answers, leaves, becomes, refuses}
 
 -- a record that fits a view, and has the sizes that 32 bytes give it
 pub record Fit (v : View) (d : Device) : Type 0 where
@@ -72,7 +72,7 @@ module _ (bytes : List ℕ) (v : View) (s : Sound bytes v) where
 
   pub freshFits : Fit v fresh
   freshFits = cleared fresh refl refl refl (record {
-    range = record { stated = lit≤ tt; waking = lit≤ tt; powered = refl; sleeping = refl; running = refl };
+    range = record { stated = lit≤ tt; waking = lit≤ tt; powered = lit≤ tt; sleeping = refl; running = refl };
     waiting = refl;
     state = atDefault refl refl refl;
     wakeup = refl;
@@ -106,6 +106,22 @@ module _ (bytes : List ℕ) (v : View) (s : Sound bytes v) where
       waiting = f .waiting;
       state = f .state;
       wakeup = then-if (eqb on 1) (wakes v) (λ p. w);
+    })
+
+    powered : (source : ℕ) → source ≤ 1 → Fit v (withPower source d)
+    powered source l = shares (shared (withPower source d)) (rest d) refl (record {
+      range = record { stated = f .range .stated; waking = f .range .waking; powered = l; sleeping = f .range .sleeping; running = f .range .running };
+      waiting = f .waiting;
+      state = f .state;
+      wakeup = f .wakeup;
+    })
+
+    reset : Fit v (afterReset d)
+    reset = cleared (afterReset d) refl refl refl (record {
+      range = record { stated = lit≤ tt; waking = lit≤ tt; powered = f .range .powered; sleeping = refl; running = refl };
+      waiting = refl;
+      state = atDefault refl refl refl;
+      wakeup = refl;
     })
 
     waiting : (a : ℕ) → a ≤ 127 → d .state ≤ 1 → Fit v (withWaiting a d)
@@ -203,7 +219,8 @@ module _ (bytes : List ℕ) (v : View) (s : Sound bytes v) where
     changedFits (unconfigures l) = unconfigured l
     changedFits (configures c l w m) = configured c l w m
     changedFits (sets j a h) = setting j a h
-    changedFits resets = freshFits
+    changedFits resets = reset
+    changedFits (powers source l) = powered source l
 
     answeredFits : {o : Outcome} → Answered v d o → Fit v (o .device)
     answeredFits (reads a p q) = g

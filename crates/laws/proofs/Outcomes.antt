@@ -19,7 +19,7 @@ use Rattle.descriptors.specs.declared.ConfigurationIndex.{ConfigurationIndex}
 use Rattle.sets.specs.View.{View, entryByIndex, wakes}
 use Rattle.sets.proofs.Lookups.{by-index-member}
 use Rattle.records.specs.declared.Device.{Device}
-use Rattle.records.specs.Device.{inDefault, inAddress, inConfigured, nothing, fresh, settled, withWaiting, withWakeup, withAddress, withConfiguration, withEndpoints}
+use Rattle.records.specs.Device.{inDefault, inAddress, inConfigured, nothing, afterReset, settled, withWaiting, withWakeup, withPower, withAddress, withConfiguration, withEndpoints}
 use Rattle.records.specs.Current.{selected, currentEndpoints, endpointAt}
 use Rattle.requests.specs.declared.Setup.{Setup}
 use Rattle.requests.specs.declared.Row.{Row}
@@ -28,10 +28,12 @@ use Rattle.requests.specs.Table.{table, rowOf, inState, fieldsFit, refusalAt, r
 use Rattle.events.specs.declared.Answer.{Answer}
 use Rattle.events.specs.declared.Answer.the-variants.{Done, SetPart, SerialPart}
 use Rattle.events.specs.declared.Event.{Event}
-use Rattle.events.specs.declared.Event.the-variants.{Request, Malformed, StatusEnd, BusReset, Halt, PacketPassed}
+use Rattle.events.specs.declared.Event.the-variants.{Request, Malformed, StatusEnd, BusReset, Halt, PacketPassed, Power}
+use Rattle.events.specs.declared.facts.Located.{Located}
+use Rattle.events.specs.declared.facts.Located.the-variants.{Body, Serial, Nowhere}
 use Rattle.events.specs.declared.Outcome.{Outcome}
 use Rattle.events.specs.Answer.{numberOf, partOf, gives, done, refused}
-use Rattle.events.specs.Requests.{byRecipient, isEndpointZero, deviceFeature, interfaceFeature, endpointFeature, endpointStatus, haltFeature, clearHalt, setHalt, setPart, isEntry, languageFor, withSetting, getStatus, clearFeature, setFeature, setAddress, getDescriptor, getConfiguration, setConfiguration, getInterface, setInterface}
+use Rattle.events.specs.Requests.{byRecipient, isEndpointZero, deviceFeature, interfaceFeature, endpointFeature, endpointStatus, haltFeature, clearHalt, setHalt, isEntry, bodyAt, languageFor, locateString, locate, describe, withSetting, getStatus, clearFeature, setFeature, setAddress, getDescriptor, getConfiguration, setConfiguration, getInterface, setInterface}
 use Rattle.events.specs.Step.{request, answerSetup, statusEnd, haltAt, halt, passAt, packetPassed, respond}
 
 -- a change of a record that fits, with what is known where it comes about
@@ -47,7 +49,8 @@ pub data Changed (v : View) (d : Device) : Device → Type 0 where
   configures : (c : ℕ) → 1 ≤ d .state → d .waiting ≡ nothing → any (λ k. eqb (k .value) c) (v .configurations) ≡ true
       → Changed v d (withConfiguration inConfigured c d)
   sets : (j a : ℕ) → hasSetting (selected v d) j a ≡ true → Changed v d (withSetting v d j a)
-  resets : Changed v d fresh
+  resets : Changed v d (afterReset d)
+  powers : (source : ℕ) → source ≤ 1 → Changed v d (withPower source d)
 
 -- a setup's outcome, on the record d that it has settled
 pub data Answered (v : View) (d : Device) : Outcome → Type 0 where
@@ -57,11 +60,12 @@ pub data Answered (v : View) (d : Device) : Outcome → Type 0 where
   changes : {x : Device} → Changed v d x → Answered v d (done x)
   refusedWith : (n : ℕ) → 10 ≤ n → n ≤ 14 → Answered v d (refused n d)
 
--- the refusals of an event that settles nothing: "not 8 bytes" 9, a function event 16
+-- the refusals of an event that settles nothing: "not 8 bytes" 9, a function event or a power event 16
 pub data Refusable : Event → ℕ → Type 0 where
   malformed : Refusable Malformed 9
   noHalt : {a : ℕ} → Refusable (Halt a) 16
   noPass : {a : ℕ} → Refusable (PacketPassed a) 16
+  noPower : {source : ℕ} → Refusable (Power source) 16
 
 -- an event's outcome
 pub data Responded (v : View) (d : Device) : Event → Outcome → Type 0 where
@@ -114,6 +118,30 @@ tableRefuses state s = go (rowOf s)
     go none n = (lit≤ tt, lit≤ tt)
     go (some r) n = tests (inState r state) (fieldsFit r s) n
 
+-- ---- a descriptor lies in the body of an entry, in the serial block, or nowhere
+pub data Lies (v : View) : Located → Type 0 where
+  inBody : (e : Entry) → List·Memᴰ e (v .entries) → Lies v (Body (e .offset) (e .length))
+  inBlock : Lies v (Serial (v .serialLength))
+  nowhere : Lies v Nowhere
+
+lies : (v : View) (s : Setup) → Lies v (locate v s)
+unfolding locate
+lies v s = chosen (Lies v) (eqb (s .wValue / 256) 3) (λ e. string (s .wValue % 256) (languageFor v (s .wValue % 256) (s .wIndex)))
+    (λ e. chosen (Lies v) (eqb (s .wValue / 256) 2) (λ e. numbered (record { 0 = s .wValue % 256 }) _ refl)
+    (λ e. chosen (Lies v) (eqb (s .wValue / 256) 1) (λ e. entry (isEntry 1 (s .wValue % 256) 0) _ refl) (λ e. nowhere)))
+  where
+    numbered : (i : ConfigurationIndex) (o : Option Entry) → entryByIndex i (v .entries) ≡ o → Lies v (bodyAt o)
+    numbered i none e = nowhere
+    numbered i (some x) e = inBody x (by-index-member i (v .entries) e)
+
+    entry : (p : Entry → Bool) (o : Option Entry) → first p (v .entries) ≡ o → Lies v (bodyAt o)
+    entry p none e = nowhere
+    entry p (some x) e = inBody x (first-some p (v .entries) e .0)
+
+    string : (index language : ℕ) → Lies v (locateString v index language)
+    string index language = chosen (Lies v) (leb 1 index && eqb index (v .serialIndex))
+        (λ e. chosen (Lies v) (member language (v .languages)) (λ e. inBlock) (λ e. nowhere)) (λ e. entry (isEntry 3 index language) _ refl)
+
 -- ---- the requests, a leaf at a time
 module _ (v : View) (d : Device) (s : Setup) where
   missing : Answered v d (refused 13 d)
@@ -150,21 +178,12 @@ module _ (v : View) (d : Device) (s : Setup) where
 
   descriptors : Answered v d (getDescriptor v d s)
   unfolding getDescriptor
-  descriptors = chosen (Answered v d) (eqb (s .wValue / 256) 3)
-      (λ e. chosen (Answered v d) (leb 1 (s .wValue % 256) && eqb (s .wValue % 256) (v .serialIndex))
-      (λ e. chosen (Answered v d) (member (s .wIndex) (v .languages)) (λ e. fromSerial (s .wLength)) (λ e. missing))
-      (λ e. at 3 (s .wValue % 256) (languageFor (s .wValue % 256) (s .wIndex)) _ refl))
-      (λ e. chosen (Answered v d) (eqb (s .wValue / 256) 2) (λ e. numbered (record { 0 = s .wValue % 256 }) _ refl)
-      (λ e. chosen (Answered v d) (eqb (s .wValue / 256) 1) (λ e. at 1 (s .wValue % 256) 0 _ refl)
-      (λ e. missing)))
+  descriptors = at (lies v s)
     where
-      numbered : (i : ConfigurationIndex) (o : Option Entry) → entryByIndex i (v .entries) ≡ o → Answered v d (setPart d (s .wLength) o)
-      numbered i none e = missing
-      numbered i (some x) e = fromSet x (s .wLength) (by-index-member i (v .entries) e)
-
-      at : (kind index language : ℕ) (o : Option Entry) → first (isEntry kind index language) (v .entries) ≡ o → Answered v d (setPart d (s .wLength) o)
-      at kind index language none e = missing
-      at kind index language (some x) e = fromSet x (s .wLength) (first-some (isEntry kind index language) (v .entries) e .0)
+      at : {l : Located} → Lies v l → Answered v d (describe d (s .wLength) l)
+      at (inBody e m) = fromSet e (s .wLength) m
+      at inBlock = fromSerial (s .wLength)
+      at nowhere = missing
 
   configurations : 1 ≤ d .state → d .waiting ≡ nothing → Answered v d (setConfiguration v d s)
   unfolding setConfiguration
@@ -212,3 +231,4 @@ module _ (v : View) (d : Device) where
       at none p = refuses noPass
       at (some e) p = chosen (Responded v d (PacketPassed a)) (canHalt e && not (bit (d .halts) (bitOf (e .address))))
           (λ t. becomes (toggled e (found a p) (both (canHalt e) (not (bit (d .halts) (bitOf (e .address)))) t .0))) (λ t. refuses noPass)
+  responded (Power source) = chosen (Responded v d (Power source)) (leb source 1) (λ t. becomes (powers source (leb-true source 1 t))) (λ t. refuses noPower)

@@ -25,7 +25,7 @@ use Rattle.requests.specs.Setup.{recipient}
 use Rattle.requests.specs.Table.{refusal}
 use Rattle.events.specs.declared.Outcome.{Outcome}
 use Rattle.events.specs.declared.Event.{Event}
-use Rattle.events.specs.declared.Event.the-variants.{Request, Malformed, StatusEnd, BusReset, Halt, PacketPassed}
+use Rattle.events.specs.declared.Event.the-variants.{Request, Malformed, StatusEnd, BusReset, Halt, PacketPassed, Power}
 use Rattle.events.specs.Requests.{getStatus, endpointStatus, isEndpointZero, interfaceFeature, haltFeature, endpointFeature, clearHalt, setHalt, clearFeature, setFeature, getInterface, withSetting, setInterface}
 use Rattle.events.specs.Step.{request, answerSetup, haltAt, halt, passAt, packetPassed, respond}
 use Rattle.events.specs.Concerns.{listedBy, setupConcerns, eventConcerns}
@@ -205,3 +205,4 @@ touch-event v j d S StatusEnd c = absurd (let z : _≡_ {A = ℕ} 0 1 = cc in om
 touch-event v j d S BusReset c = absurd (let z : _≡_ {A = ℕ} 0 1 = cc in omega arith)
 touch-event v j d S (Halt a) c = touch-halt v j d S a (all-in (selected v d) S a j (λ i m. Option·some-injective i j (sym m ∙ c)))
 touch-event v j d S (PacketPassed a) c = touch-pass v j d S a (all-in (selected v d) S a j (λ i m. Option·some-injective i j (sym m ∙ c)))
+touch-event v j d S (Power source) c = absurd (let z : _≡_ {A = ℕ} 0 1 = cc in omega arith)

@@ -17,12 +17,13 @@ use Rattle.sets.specs.declared.Entry.{Entry}
 use Rattle.sets.specs.Contents.{entryOf, entries, bodyOf, bodies, isKind, count}
 use Rattle.sets.proofs.Entries.{rest, rest-start, next-entry, no-entry, every-cons}
 use Rattle.listing.specs.Listing.{decimal, fields, line, endpointLine, interfaceLines, configurationLines}
-use Rattle.listing.specs.Written.{Room, interfaceLine, descriptorLine, lineAt, descriptorLines, entryLines, goodListed}
+use Rattle.writing.specs.Written.{Room}
+use Rattle.listing.specs.Written.{interfaceLine, descriptorLine, lineAt, descriptorLines, entryLines, goodListed}
 use Rattle.descriptors.specs.declared.Stand.{Stand}
 use Rattle.descriptors.specs.declared.Step.{Step}
 use Rattle.descriptors.proofs.Walk.{spanned}
 use Rattle.descriptors.proofs.Ahead.{Begun, Turn, ahead, ahead-end}
-use Rattle.listing.proofs.Written.{Going, begun, one-more}
+use Rattle.writing.proofs.Written.{Going, begun, one-more}
 
 -- ---- the fields of a line
 fields-more : (x : ℕ) (xs : List ℕ) → fields (x ∷ xs) ≡ 32 ∷ decimal x ++ fields xs

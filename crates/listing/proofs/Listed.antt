@@ -17,8 +17,8 @@ use Rattle.sets.specs.Opening.{Board}
 use Rattle.sets.specs.View.{openingOf}
 use Rattle.sets.proofs.Groups.{groups}
 use Rattle.listing.specs.Listing.{line, refusedWord, acceptedLines, listing}
+use Rattle.writing.specs.Written.{Room, Wrote}
 use Rattle.listing.specs.Listed.{room, Listed}
-use Rattle.listing.specs.Written.{Room, Wrote}
 use Rattle.listing.proofs.Bound.{good-bodies, listing-length}
 
 -- n is what opening answered

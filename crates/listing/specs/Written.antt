@@ -4,7 +4,6 @@ use mathlib.Core.Path.{_≡_}
 use mathlib.Core.List.{List, [], _∷_, flatMap}
 use mathlib.Core.Bool.{Bool}
 use lib.ListN.{length}
-use lib.Seq.{sets}
 use lib.Dec.{leb}
 use Rattle.octets.specs.Sentences.{pick, _⇒_}
 use Rattle.descriptors.specs.declared.Setting.{Setting}
@@ -18,15 +17,6 @@ use Rattle.descriptors.specs.Descriptor.{isInterface, isEndpoint, bNumEndpoints
 use Rattle.descriptors.specs.Interfaces.{begunBy}
 use Rattle.descriptors.specs.Walk.{settingAt}
 use Rattle.listing.specs.Listing.{line, endpointLine, configurationLines}
-
--- a buffer has room for a text at a place
-abbrev pub Room : List ℕ → ℕ → List ℕ → Type 0
-Room out at text = at + length text ≤ length out
-
--- a text was written at a place: the buffer after it, every other byte as it was, and where the text ends
-pub record Wrote (out : List ℕ) (at : ℕ) (text : List ℕ) (after : List ℕ) (end : ℕ) : Type 0 where
-  pub bytes : after ≡ sets out at text
-  pub place : end ≡ at + length text
 
 -- a digit before the last: a number has it from this power of ten on
 abbrev pub lead : ℕ → ℕ → List ℕ

@@ -4,9 +4,11 @@ use sets::Entry;
 use sets::contents::body_of;
 use sets::contents::count_of;
 use sets::contents::entry_at;
+use writing::put;
+use writing::put_bytes;
 ghost use mathlib.Core.Path.{_≡_};
 ghost use mathlib.Core.Bool.{true};
-ghost use mathlib.Core.List.{[], _∷_, flatMap};
+ghost use mathlib.Core.List.{flatMap};
 ghost use Prim.Native.Nat.{_≤_};
 ghost use lib.ListN.{length};
 ghost use Rattle.octets.specs.Sentences.{every};
@@ -16,35 +18,13 @@ ghost use Rattle.descriptors.specs.Configuration.{goodConfiguration};
 ghost use Rattle.descriptors.specs.Walk.{settingAt};
 ghost use Rattle.sets.specs.Contents.{bodies};
 ghost use Rattle.sets.specs.Opening.{lent};
+ghost use Rattle.writing.specs.Written.{Room, Wrote};
 ghost use Rattle.listing.specs.Listing.{decimal, fields, line, endpointLine, configurationLines, acceptedLines};
 ghost use Rattle.listing.specs.Listed.{room, Listed};
-ghost use Rattle.listing.specs.Written.{Room, Wrote, lead, interfaceLine, lineAt, descriptorLines, entryLines, goodListed};
+ghost use Rattle.listing.specs.Written.{lead, interfaceLine, lineAt, descriptorLines, entryLines, goodListed};
 
 // The length of a buffer in which the text of any set has room.
 pub const ROOM: usize = 49152;
-
-// One byte.
-fn put(out: &mut [u8], at: usize, byte: u8) -> usize
-    requires { ⌜ Room (now out) at (byte ∷ []) ⌝ }
-    ensures { λ r. ⌜ Wrote (now (out .entry)) at (byte ∷ []) (now (out .exit)) r ⌝ }
-{
-    out[at] = byte;
-    at + 1
-}
-
-// A word: a fixed string of bytes.
-fn put_word(out: &mut [u8], at: usize, word: &[u8]) -> usize
-    requires { ⌜ Room (now out) at (now word) ⌝ }
-    ensures { λ r. ⌜ Wrote (now (out .entry)) at (now (word .entry)) (now (out .exit)) r ⌝ }
-{
-    let mut next = at;
-    let mut i = 0;
-    while i < word.len() {
-        next = put(out, next, word[i]);
-        i += 1;
-    }
-    next
-}
 
 // The digit of a power of ten, from the first that is not zero on.
 fn put_lead(out: &mut [u8], at: usize, x: u16, power: u16) -> usize
@@ -90,7 +70,7 @@ fn put_line(out: &mut [u8], at: usize, word: &[u8], numbers: &[u16]) -> usize
     requires { ⌜ Room (now out) at (line (now word) (now numbers)) ⌝ }
     ensures { λ r. ⌜ Wrote (now (out .entry)) at (line (now (word .entry)) (now (numbers .entry))) (now (out .exit)) r ⌝ }
 {
-    let next = put_word(out, at, word);
+    let next = put_bytes(out, at, word);
     put_fields(out, next, numbers)
 }
 

@@ -13,7 +13,7 @@ use Rattle.sets.specs.View.{viewOf}
 use Rattle.records.specs.Image.{fourBytes, bytesOfFour, deviceOf, imageOf}
 use Rattle.records.specs.Fits.{fits}
 use Rattle.requests.specs.Table.{refusal}
-use Rattle.events.specs.Requests.{getStatus, clearFeature, setFeature, setAddress, getDescriptor, getConfiguration, setConfiguration, getInterface, setInterface}
+use Rattle.events.specs.Requests.{getStatus, clearFeature, setFeature, setAddress, locate, getDescriptor, getConfiguration, setConfiguration, getInterface, setInterface}
 use Rattle.events.specs.Step.{request, answerSetup, statusEnd, halt, packetPassed, step, event, opened}
 use Rattle.events.specs.Concerns.{concerns}
 use Rattle.packets.specs.Packets.{packet}
@@ -78,7 +78,7 @@ string text = (2 + length text) ∷ 3 ∷ text
 
 -- a statement that says `unfolding computed` computes with all the definitions
 unfoldable pub computed : ℕ
-unfolding every any only first pairs neighbours below from cutAfter descriptorsOf wellCut grouped endpointsOf endsAt goodDescriptors goodConfiguration groupsOf configurationOf configurationReferences cleared entriesFrom goodFrame endToEnd goodContents words languages references goodStrings goodDevices numberedFrom goodConfigurations goodBlock opening viewOf fourBytes bytesOfFour deviceOf imageOf fits refusal getStatus clearFeature setFeature setAddress getDescriptor getConfiguration setConfiguration getInterface setInterface request answerSetup statusEnd halt packetPassed step event opened concerns packet digits fields listing flatMap entriesAt
+unfolding every any only first pairs neighbours below from cutAfter descriptorsOf wellCut grouped endpointsOf endsAt goodDescriptors goodConfiguration groupsOf configurationOf configurationReferences cleared entriesFrom goodFrame endToEnd goodContents words languages references goodStrings goodDevices numberedFrom goodConfigurations goodBlock opening viewOf fourBytes bytesOfFour deviceOf imageOf fits refusal getStatus clearFeature setFeature setAddress locate getDescriptor getConfiguration setConfiguration getInterface setInterface request answerSetup statusEnd halt packetPassed step event opened concerns packet digits fields listing flatMap entriesAt
 computed = 0
 
 -- ---- the bench set S, byte for byte as document 01 prints it

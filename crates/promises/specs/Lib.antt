@@ -3,6 +3,7 @@ pub mod Bench
 pub mod Sound
 pub mod Opening
 pub mod Rules
+pub mod Later
 pub mod Mistakes
 pub mod Packets
 pub mod Refusal

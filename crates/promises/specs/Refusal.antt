@@ -12,7 +12,7 @@ use Rattle.records.specs.Device.{settled}
 use Rattle.records.specs.Image.{deviceOf, settledImage}
 use Rattle.records.specs.Fits.{fitsOn}
 use Rattle.events.specs.declared.Event.{Event}
-use Rattle.events.specs.declared.Event.the-variants.{Request, Malformed, StatusEnd, BusReset, Halt, PacketPassed}
+use Rattle.events.specs.declared.Event.the-variants.{Request, Malformed, StatusEnd, BusReset, Halt, PacketPassed, Power}
 use Rattle.events.specs.Answer.{ofSet, Part}
 
 -- "10 .. drops a waiting address only", 11 to 14 "as 10": the refusals of a setup that has settled
@@ -23,7 +23,7 @@ afterSettling n = leb 10 n && leb n 14
 abbrev pub leftBy : ℕ → Device → Device
 leftBy n d = pick (afterSettling n) (settled d) d
 
--- an event's own refusals: "for a setup 9 to 14, for a function event 16"; a status end and a bus reset have none
+-- an event's own refusals: "for a setup 9 to 14, for a function event 16"; "a power event with a value above 1 gets 16" (L2); a status end and a bus reset have none
 abbrev pub refuses : Event → ℕ → Bool
 refuses (Request s) n = afterSettling n
 refuses Malformed n = eqb n 9
@@ -31,6 +31,7 @@ refuses StatusEnd n = false
 refuses BusReset n = false
 refuses (Halt a) n = eqb n 16
 refuses (PacketPassed a) n = eqb n 16
+refuses (Power source) n = eqb n 16
 
 -- "Order: 7, 8, then for a setup 9 to 14, for a function event 16"; 0 is done
 abbrev pub allows : Board → Device → Event → ℕ → Bool

@@ -29,7 +29,7 @@ use Rattle.events.specs.Step.{step, event, opened}
 use Rattle.octets.specs.Octets.{Bytes}
 use Rattle.promises.specs.Refusal.{afterSettling, leftBy, refuses, allows, emptyPart, allowsImage, imageLeftBy, opens}
 use Rattle.sets.proofs.Groups.{groups}
-use Rattle.laws.proofs.Outcomes.{Refusable, malformed, noHalt, noPass, responded}
+use Rattle.laws.proofs.Outcomes.{Refusable, malformed, noHalt, noPass, noPower, responded}
 use Rattle.laws.proofs.Refusing.{Numbered, notRefused, refusedSetup, refusedOther, numbered, placed, nothing-settled, left-image, opening-number}
 
 -- ---- over the step
@@ -47,6 +47,7 @@ settlesNothing : {e : Event} {n : ℕ} → Refusable e n → (refuses e n ≡ tr
 settlesNothing malformed = (refl, refl)
 settlesNothing noHalt = (refl, refl)
 settlesNothing noPass = (refl, refl)
+settlesNothing noPower = (refl, refl)
 
 ownNumber : {d : Device} {e : Event} {o : Outcome} → Numbered d e o → (eqb (numberOf (o .answer)) 0 || refuses e (numberOf (o .answer))) ≡ true
 ownNumber {e} {o} (notRefused z) = or-left (refuses e (numberOf (o .answer))) (eq-eqb _ 0 z)

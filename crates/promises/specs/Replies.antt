@@ -1,5 +1,5 @@
 -- No reply is longer than its setup asked for, and an accepted set's bMaxPacketSize0 is a size that can be cut: so every reply can be. No axiom.
-use Prim.Native.Nat.{ℕ, _+_, _≤_, _/_, _%_}
+use Prim.Native.Nat.{ℕ, _+_, _≤_}
 use native.Mathlib.Omega.{arith}
 use mathlib.Core.Path.{_≡_, refl, _∙_}
 use mathlib.Core.List.{List, [], _∷_}
@@ -9,7 +9,7 @@ use lib.ListN.{length}
 use lib.Dec.{eqb, leb}
 use borrow.Author.Tests.{eq-eqb, eqb-true, leb-true, le-leb}
 use Rattle.octets.specs.Octets.{byte}
-use Rattle.octets.specs.Sentences.{pick, _⇒_, any, every, first, member}
+use Rattle.octets.specs.Sentences.{pick, _⇒_, any, every}
 use Rattle.octets.proofs.Sentences.{cases, if-then, both, joined, conjunct}
 use Rattle.descriptors.specs.declared.Endpoint.{Endpoint}
 use Rattle.descriptors.specs.Configuration.{hasInterface, hasSetting, canHalt}
@@ -18,9 +18,9 @@ use Rattle.sets.specs.declared.Entry.{Entry}
 use Rattle.sets.specs.Contents.{bodyOf, entriesOf}
 use Rattle.sets.specs.Device.{bMaxPacketSize0, goodDevice, goodDeviceEntries, headBody, deviceBody}
 use Rattle.sets.specs.Opening.{Board, goodDevices, opening}
-use Rattle.sets.specs.View.{View, viewOf, entryByIndex, accepted, wakes}
+use Rattle.sets.specs.View.{View, viewOf, accepted, wakes}
 use Rattle.records.specs.declared.Device.{Device}
-use Rattle.records.specs.Device.{nothing, withWaiting}
+use Rattle.records.specs.Device.{settled}
 use Rattle.records.specs.Current.{selected, endpointAt}
 use Rattle.records.specs.Image.{deviceOf}
 use Rattle.records.specs.Fits.{fitsOn}
@@ -29,9 +29,11 @@ use Rattle.requests.specs.Setup.{recipient, setupOf}
 use Rattle.requests.specs.Table.{table, refusal, largestIndex}
 use Rattle.events.specs.declared.Event.{Event}
 use Rattle.events.specs.declared.Event.the-variants.{Request, Malformed}
+use Rattle.events.specs.declared.facts.Located.{Located}
+use Rattle.events.specs.declared.facts.Located.the-variants.{Body, Serial, Nowhere}
 use Rattle.events.specs.declared.Outcome.{Outcome}
 use Rattle.events.specs.Answer.{numberOf, bytesOf, partOf, refused}
-use Rattle.events.specs.Requests.{byRecipient, isEndpointZero, deviceFeature, interfaceFeature, endpointFeature, endpointStatus, haltFeature, clearHalt, setHalt, setPart, isEntry, languageFor, getStatus, clearFeature, setFeature, setAddress, getDescriptor, getConfiguration, setConfiguration, getInterface, setInterface}
+use Rattle.events.specs.Requests.{byRecipient, isEndpointZero, deviceFeature, interfaceFeature, endpointFeature, endpointStatus, haltFeature, clearHalt, setHalt, locate, describe, getStatus, clearFeature, setFeature, setAddress, getDescriptor, getConfiguration, setConfiguration, getInterface, setInterface}
 use Rattle.events.specs.Step.{request, answerSetup, step, event, setupEvent}
 use Rattle.packets.specs.Packets.{canCut}
 use Rattle.sets.proofs.Groups.{groups}
@@ -81,16 +83,12 @@ module _ (v : View) (d : Device) (s : Setup) where
 
   descriptor : Fine (getDescriptor v d s)
   unfolding getDescriptor
-  descriptor = chosen Fine (eqb (s .wValue / 256) 3)
-      (λ e. chosen Fine (leb 1 (s .wValue % 256) && eqb (s .wValue % 256) (v .serialIndex))
-      (λ e. chosen Fine (member (s .wIndex) (v .languages)) (λ e. omega arith) (λ e. no 13))
-      (λ e. at (first (isEntry 3 (s .wValue % 256) (languageFor (s .wValue % 256) (s .wIndex))) (v .entries))))
-      (λ e. chosen Fine (eqb (s .wValue / 256) 2) (λ e. at (entryByIndex (record { 0 = s .wValue % 256 }) (v .entries)))
-      (λ e. chosen Fine (eqb (s .wValue / 256) 1) (λ e. at (first (isEntry 1 (s .wValue % 256) 0) (v .entries))) (λ e. no 13)))
+  descriptor = at (locate v s)
     where
-      at : (o : Option Entry) → Fine (setPart d (s .wLength) o)
-      at none = no 13
-      at (some x) = omega arith
+      at : (l : Located) → Fine (describe d (s .wLength) l)
+      at (Body offset size) = omega arith
+      at (Serial size) = omega arith
+      at Nowhere = no 13
 
   configuration : Fine (setConfiguration v d s)
   unfolding setConfiguration
@@ -117,7 +115,7 @@ unfolding step answerSetup
 replyWithin b d s = chosen (Within (s .wLength)) (accepted b)
     (λ p. chosen (Within (s .wLength)) (fitsOn b d)
     (λ q. chosen (Within (s .wLength)) (eqb (refusal (d .state) s) 0)
-    (λ r. within (viewOf b) (withWaiting nothing d) s (d .state) (eqb-true _ 0 r)) (λ r. omega arith))
+    (λ r. within (viewOf b) (settled d) s (d .state) (eqb-true _ 0 r)) (λ r. omega arith))
     (λ q. omega arith))
     (λ p. omega arith)
 

@@ -33,6 +33,13 @@ withWaiting w d = record { state = d .state; address = d .address; waiting = w; 
 abbrev pub withWakeup : ℕ → Device → Device
 withWakeup w d = record { state = d .state; address = d .address; waiting = d .waiting; configuration = d .configuration; wakeup = w; power = d .power; suspended = d .suspended; speed = d .speed; alternates = d .alternates; halts = d .halts; toggles = d .toggles }
 
+abbrev pub withPower : ℕ → Device → Device
+withPower p d = record { state = d .state; address = d .address; waiting = d .waiting; configuration = d .configuration; wakeup = d .wakeup; power = p; suspended = d .suspended; speed = d .speed; alternates = d .alternates; halts = d .halts; toggles = d .toggles }
+
+-- a bus reset leads to the fresh record, but "Bus reset keeps it", the power source (L2)
+abbrev pub afterReset : Device → Device
+afterReset d = withPower (d .power) fresh
+
 -- what a setup settles, past 7 to 9: it "first drops any waiting address". The step, the refusals and the order of events cite this
 abbrev pub settled : Device → Device
 settled d = withWaiting nothing d

@@ -12,7 +12,7 @@ use octets::table::join;
 ghost use mathlib.Core.Path.{_≡_};
 ghost use Prim.Native.Nat.{ℕ, _<_};
 ghost use mathlib.Core.Bool.{_&&_, _||_};
-ghost use lib.ListN.{drop};
+ghost use lib.ListN.{drop, getD};
 ghost use lib.Dec.{eqb};
 ghost use Rattle.octets.specs.Sentences.{any, every, member};
 ghost use Rattle.sets.specs.Contents.{entriesOf};
@@ -72,6 +72,17 @@ pub fn language_listed(set: &[u8], language: u16) -> bool
     ensures { λ r. ⌜ r ≡ member language (languages (now (set .entry))) ⌝ }
 {
     lists(string_zero(set), language)
+}
+
+// The first language that a set lists; 0 if it lists none.
+pub fn first_language(set: &[u8]) -> u16
+    ensures { λ r. ⌜ r ≡ getD (languages (now (set .entry))) 0 0 ⌝ }
+{
+    let zero = string_zero(set);
+    if 3 < zero.len() {
+        return octets::word(zero, 2);
+    }
+    0
 }
 
 // Whether an entry is a string in a language and its index in a table; the table is asked last, since few entries come so far.

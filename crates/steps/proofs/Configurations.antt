@@ -15,22 +15,22 @@ use Rattle.descriptors.specs.declared.Limits.{Limits}
 use Rattle.descriptors.specs.Limits.{fullSpeed}
 use Rattle.descriptors.specs.Cut.{cut, cutAfter, descriptorsOf, wellCut}
 use Rattle.descriptors.specs.Interfaces.{grouped, endpointsOf}
-use Rattle.descriptors.specs.Configuration.{Configuration, hasInterface, bConfigurationValue, configurationAttributes, goodDescriptors, goodConfiguration, groupsOf, configurationOf}
+use Rattle.descriptors.specs.Configuration.{Configuration, hasInterface, bConfigurationValue, goodDescriptors, goodConfiguration, groupsOf, configurationOf}
 use Rattle.descriptors.specs.Survey.{TellsInterfaces}
 use Rattle.sets.specs.declared.Entry.{Entry}
 use Rattle.sets.specs.declared.EntryFound.{EntryFound}
 use Rattle.sets.specs.declared.EntryFound.the-variants.{At, Nothing}
-use Rattle.sets.specs.Contents.{bodyOf, bodies, entries, entriesOf}
+use Rattle.sets.specs.Contents.{bodyOf, bodies, entriesOf}
 use Rattle.sets.specs.Opening.{Board, numberedFrom, goodConfigurations}
 use Rattle.sets.specs.Found.{found, valued, configurationFound}
-use Rattle.sets.specs.View.{entryByIndex, byIndex, byValue, openingOf}
+use Rattle.sets.specs.View.{byValue, openingOf}
 use Rattle.octets.specs.Octets.{Bytes}
 use Rattle.sets.proofs.Groups.{Groups, groups}
 use Rattle.sets.proofs.Bodies.{bytes-part, soundConfiguration}
 use Rattle.sets.proofs.Strings.{found-some}
-use Rattle.sets.proofs.Lookups.{value-found, index-found}
-use Rattle.steps.specs.Gathering.{configurationsIn, bodyFound, selectedBody, firstBody, Usable, located}
-use Rattle.events.specs.Facts.{bodyAt}
+use Rattle.sets.proofs.Lookups.{value-found}
+use Rattle.steps.specs.Gathering.{configurationsIn, bodyFound, selectedBody, Usable, located}
+use Rattle.events.specs.Requests.{bodyAt}
 
 -- ---- an entry that was looked up
 pub located-found : (o : Option Entry) → located (found o) ≡ bodyAt o
@@ -51,10 +51,6 @@ among {c = c} {existing = existing} few tells n = go (ltb n 16) refl (hasInterfa
     go false p true q = absurd (omega (arith, ltb-false n 16 p, few n q))
     go false p false q = sym q
 
-pub attributes-of : (body : List ℕ) → configurationOf body .attributes ≡ configurationAttributes body
-unfolding configurationOf
-attributes-of body = refl
-
 module _ (set : List ℕ) where
   body-found : (f : EntryFound) → configurationOf (bodyFound set f) ≡ configurationFound set f
   unfolding configurationOf groupsOf grouped cutAfter descriptorsOf endpointsOf
@@ -63,9 +59,6 @@ module _ (set : List ℕ) where
 
   pub selected-by-value : (value : ℕ) → configurationOf (selectedBody set value) ≡ byValue (record { 0 = value }) (configurationsIn set)
   selected-by-value value = body-found (found (first (valued set value) (entriesOf 2 set))) ∙ sym (value-found set (record { 0 = value }))
-
-  pub first-by-index : byIndex (record { 0 = 0 }) (configurationsIn set) ≡ configurationOf (firstBody set)
-  first-by-index = index-found set (record { 0 = 0 }) ∙ sym (body-found (found (entryByIndex (record { 0 = 0 }) (entries set))))
 
 -- ---- the selected configuration's body of an accepted board
 module _ (limits : Limits) (b : Board) (h : Bytes (b .set)) (g : Groups limits b) (value : ℕ) where

@@ -38,11 +38,11 @@ pub is-selected : (b : Board) (d : Device) {body : List ℕ} → body ≡ select
 unfolding viewOf
 is-selected b d p = ap configurationOf p ∙ selected-by-value (b .set) (d .configuration)
 
--- a record that fits has a wakeup of 0 or 1
-pub wakeup-small : (v : View) (d : Device) → fits v d ≡ true → d .wakeup < 2
+-- a record that fits has a wakeup and a power source of 0 or 1
+pub bits-small : (v : View) (d : Device) → fits v d ≡ true → (d .wakeup < 2) × (d .power < 2)
 unfolding fits
-wakeup-small v d p =
+bits-small v d p =
     let es = currentEndpoints v d in
     let range = conjunct 0 (inRange d ∷ goodWaiting d ∷ goodState v d ∷ goodAlternates (selected v d) d ∷ standsAt es (d .halts) ∷ standsAt es (d .toggles) ∷ (eqb (d .wakeup) 1 ⇒ wakes v) ∷ []) p in
-    let small = conjunct 1 (leb (d .state) 2 ∷ leb (d .wakeup) 1 ∷ eqb (d .power) 0 ∷ eqb (d .suspended) 0 ∷ eqb (d .speed) 0 ∷ []) range in
-    omega (arith, leb-true (d .wakeup) 1 small)
+    let ranges = leb (d .state) 2 ∷ leb (d .wakeup) 1 ∷ leb (d .power) 1 ∷ eqb (d .suspended) 0 ∷ eqb (d .speed) 0 ∷ [] in
+    (omega (arith, leb-true (d .wakeup) 1 (conjunct 1 ranges range)), omega (arith, leb-true (d .power) 1 (conjunct 2 ranges range)))

@@ -10,9 +10,8 @@ use Rattle.descriptors.specs.declared.endpoints.DescriptorFound.{DescriptorFoun
 use Rattle.descriptors.specs.declared.endpoints.DescriptorFound.the-variants.{At as Standing, Nothing as Missing}
 use Rattle.sets.specs.declared.EntryFound.{EntryFound}
 use Rattle.sets.specs.declared.EntryFound.the-variants.{At, Nothing}
-use Rattle.sets.specs.Contents.{bodyOf, bodies, entries, entriesOf}
+use Rattle.sets.specs.Contents.{bodyOf, bodies, entriesOf}
 use Rattle.sets.specs.Found.{found, valued}
-use Rattle.sets.specs.View.{entryByIndex}
 use Rattle.events.specs.declared.Answer.{Answer}
 use Rattle.events.specs.declared.Answer.the-variants.{SetPart, Refused}
 use Rattle.events.specs.declared.facts.Located.{Located}
@@ -31,12 +30,9 @@ abbrev pub located : EntryFound → Located
 located Nothing = Nowhere
 located (At e) = Body (e .offset) (e .length)
 
--- the body of the configuration with a value, and of the one at index 0
+-- the body of the configuration with a value
 abbrev pub selectedBody : List ℕ → ℕ → List ℕ
 selectedBody set value = bodyFound set (found (first (valued set value) (entriesOf 2 set)))
-
-abbrev pub firstBody : List ℕ → List ℕ
-firstBody set = bodyFound set (found (entryByIndex (record { 0 = 0 }) (entries set)))
 
 -- what a configuration's body is in an accepted set: well cut, and its numbers are small
 pub record Usable (body : List ℕ) : Type 0 where

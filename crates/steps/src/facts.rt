@@ -12,18 +12,17 @@ use sets::configuration;
 use sets::contents;
 ghost use mathlib.Core.Path.{_≡_};
 ghost use mathlib.Core.Bool.{false};
-ghost use Prim.Native.Nat.{_<_};
+ghost use mathlib.Core.List.{List};
+ghost use Prim.Native.Nat.{ℕ, _<_};
 ghost use lib.Dec.{ltb};
 ghost use Rattle.octets.specs.Bit.{bit};
 ghost use Rattle.octets.specs.Sentences.{pick};
-ghost use Rattle.descriptors.specs.Configuration.{configurationOf, configurationAttributes};
 ghost use Rattle.sets.specs.Opening.{lent};
 ghost use Rattle.sets.specs.Found.{isFound};
-ghost use Rattle.sets.specs.View.{View, viewOf, openingOf, hasValue};
-ghost use Rattle.records.specs.Current.{selected};
-ghost use Rattle.events.specs.Requests.{powering, languageFor};
-ghost use Rattle.events.specs.Facts.{naming, questionOf, locateString, locate, Tells};
-ghost use Rattle.steps.specs.Gathering.{configurationsIn, bodyFound, firstBody, located};
+ghost use Rattle.sets.specs.View.{viewOf, openingOf, hasValue};
+ghost use Rattle.events.specs.Requests.{languageFor, locateString, locate};
+ghost use Rattle.events.specs.Facts.{naming, questionOf, Tells};
+ghost use Rattle.steps.specs.Gathering.{configurationsIn, bodyFound, located};
 
 // The question of a function event, or of one that asks nothing.
 fn naming(address: u8) -> Setup
@@ -49,6 +48,7 @@ fn question_of(event: Event) -> Setup
         Event::BusReset => naming(0),
         Event::Halt(address) => naming(address),
         Event::PacketPassed(address) => naming(address),
+        Event::Power(_) => naming(0),
     }
 }
 
@@ -83,24 +83,6 @@ fn place(entry: EntryFound) -> Located
     }
 }
 
-// Whether a configuration is powered by itself: bit 6 of its attributes.
-fn is_powered(body: &[u8]) -> bool
-    ensures { λ r. ⌜ r ≡ bit (configurationAttributes (now (body .entry))) 6 ⌝ }
-{
-    octets::peek(body, 7) / 64 % 2 == 1
-}
-
-// Whether the device is powered by itself, by the selected configuration, whose body is given, or in Address by the one at index 0.
-fn powered(set: &[u8], body: &[u8], device: Device) -> bool
-    ensures { λ r. ⌜ ((v : View) → v .configurations ≡ configurationsIn (now (set .entry)) → configurationOf (now (body .entry)) ≡ selected v device
-        → r ≡ bit (powering v device .attributes) 6) ⌝ }
-{
-    if device.state == 1 {
-        return is_powered(body_found(set, configuration::by_index(set, ConfigurationIndex(0))));
-    }
-    is_powered(body)
-}
-
 // Whether an interface is among those of a word; none has a number past 15.
 fn is_among(existing: u32, number: u16) -> bool
     ensures { λ r. ⌜ r ≡ pick (ltb number 16) (bit existing number) false ⌝ }
@@ -122,14 +104,17 @@ fn has_asked(set: &[u8], setup: Setup) -> bool
     false
 }
 
-// The language in which a string is asked for: string 0 is given for any.
-fn language_for(index: u8, asked: u16) -> u16
-    ensures { λ r. ⌜ r ≡ languageFor index asked ⌝ }
+// The language in which a string is given: string 0 is given for any, and the first listed one stands in for one that is not listed.
+fn language_for(set: &[u8], index: u8, asked: u16) -> u16
+    ensures { λ r. ⌜ ((serial : List ℕ) → r ≡ languageFor (viewOf (lent (now (set .entry)) serial)) index asked) ⌝ }
 {
     if index == 0 {
         return 0;
     }
-    asked
+    if sets::string::language_listed(set, asked) {
+        return asked;
+    }
+    sets::string::first_language(set)
 }
 
 // Where the string with an index lies, in a language.
@@ -144,7 +129,7 @@ fn locate_string(set: &[u8], serial: &[u8], index: u8, language: u16) -> Located
         }
         return Located::Nowhere;
     }
-    place(contents::find_entry(set, 3, index, language_for(index, language)))
+    place(contents::find_entry(set, 3, index, language))
 }
 
 // Where the descriptor lies that GET_DESCRIPTOR asks for: a configuration by its index, a device or a string by its entry.
@@ -157,7 +142,7 @@ fn locate(set: &[u8], serial: &[u8], setup: Setup) -> Located
         return Located::Nowhere;
     }
     if kind == 3 {
-        return locate_string(set, serial, index, setup.wIndex);
+        return locate_string(set, serial, index, language_for(set, index, setup.wIndex));
     }
     if kind == 2 {
         return place(configuration::by_index(set, ConfigurationIndex(index)));
@@ -177,17 +162,17 @@ pub fn gather(set: &[u8], serial: &[u8], device: Device, event: Event) -> Facts
     let selected = configuration::by_value(set, ConfigurationValue(device.configuration));
     let body = body_found(set, selected);
     let alternates = device.alternates;
+    let index = question.wIndex;
     let asked = survey::Asked {
-        address: question.wIndex,
-        interface: question.wIndex,
+        address: index,
+        interface: index,
         alternate: question.wValue,
     };
     let survey = survey::walk(body, alternates, asked);
     Facts {
         configured: is_found(selected),
         waking: configuration::wakes(set),
-        powered: powered(set, body, device),
-        interface: is_among(survey.existing, question.wIndex),
+        interface: is_among(survey.existing, index),
         survey,
         configuration: has_asked(set, question),
         located: locate(set, serial, question),

@@ -1,24 +1,54 @@
 //! One call at the C boundary, and the reference's answer to it.
 
+use crate::dumps;
 use crate::events::{Block, Event, Lent, Outcome, Part};
 use crate::fault::Fault;
 use crate::octets::hex;
 use crate::packets;
+use crate::record::IMAGE_LENGTH;
+use crate::writer;
 
+/// `Numbered` names any event by its number, on a record of 32 bytes that stands aligned.
 #[derive(Clone, PartialEq, Eq, Debug)]
 pub enum Call {
     Open { image: Vec<u8> },
     Event { image: Vec<u8>, event: Event },
+    Numbered { record: Vec<u8>, number: u8, value: u8, setup: Vec<u8> },
     Packet { reply_length: usize, asked: u16, size: u32, packet: u32 },
+    Write { pieces: Vec<u8>, buffer: Vec<u8> },
+    Import { dump: Vec<u8>, buffer: Vec<u8> },
+    Export { buffer: Vec<u8> },
 }
 
 impl Call {
+    /// The event by its number; on an image of another length there is no such call.
+    pub fn numbered(record: &[u8], event: &Event) -> Option<Call> {
+        let (number, value, setup) = event.numbered();
+        let record = record.to_vec();
+        (record.len() == IMAGE_LENGTH).then(|| Call::Numbered { record, number, value, setup: setup.to_vec() })
+    }
+
+    /// The call for the event; for a number that is no event's there is none.
+    pub fn event(image: &[u8], event: &Event) -> Option<Call> {
+        let has_call = !matches!(event, Event::Other { .. });
+        has_call.then(|| Call::Event { image: image.to_vec(), event: event.clone() })
+    }
+
     pub fn answer(&self, lent: &Lent) -> Outcome {
         match self {
             Call::Open { image } => lent.open(image),
             Call::Event { image, event } => lent.event(image, event),
+            Call::Numbered { record, number, value, setup } => {
+                lent.event(record, &Event::of_number(*number, *value, setup))
+            }
             Call::Packet { reply_length, asked, size, packet } => {
                 cut(packets::packet(*reply_length, *asked, *size, *packet, lent.fault))
+            }
+            Call::Write { pieces, buffer } => writer::write(pieces, &lent.serial, buffer, lent.fault),
+            Call::Import { dump, buffer } => dumps::import(dump, buffer, lent.fault),
+            Call::Export { buffer } => {
+                let opened = lent.opened.as_ref().map_err(|rule| rule.group());
+                dumps::export(&lent.set, opened, buffer, lent.fault)
             }
         }
     }
@@ -28,17 +58,23 @@ impl Call {
         match self {
             Call::Open { .. } => "open".to_string(),
             Call::Event { event, .. } => format!("event {}", event_words(event)),
+            Call::Numbered { number, value, setup, .. } => {
+                format!("event {}", event_words(&Event::of_number(*number, *value, setup)))
+            }
             Call::Packet { reply_length, asked, size, packet } => {
                 format!("packet {reply_length} {asked} {size} {packet}")
             }
+            Call::Write { pieces, buffer } => format!("write {} {}", hex(pieces), hex(buffer)),
+            Call::Import { dump, buffer } => format!("import {} {}", hex(dump), hex(buffer)),
+            Call::Export { buffer } => format!("export {}", hex(buffer)),
         }
     }
 
-    /// The image that is lent; packets need none.
+    /// The image that is lent; packets and the makers' calls need none.
     pub fn image(&self) -> &[u8] {
         match self {
-            Call::Open { image } | Call::Event { image, .. } => image,
-            Call::Packet { .. } => &[],
+            Call::Open { image } | Call::Event { image, .. } | Call::Numbered { record: image, .. } => image,
+            _ => &[],
         }
     }
 
@@ -47,10 +83,15 @@ impl Call {
         let Outcome { number, bytes, part, image } = outcome;
         match self {
             Call::Open { .. } => format!("{number} {}", hex(image)),
-            Call::Event { .. } => format!("{number} {} {} {}", hex(bytes), part_words(*part), hex(image)),
+            Call::Event { .. } | Call::Numbered { .. } => {
+                format!("{number} {} {} {}", hex(bytes), part_words(*part), hex(image))
+            }
             Call::Packet { .. } => {
                 let (offset, length) = part.map_or((0, 0), |part| (part.offset, part.length));
                 format!("{number} {offset} {length}")
+            }
+            Call::Write { .. } | Call::Import { .. } | Call::Export { .. } => {
+                format!("{number} {} {}", part.map_or(0, |part| part.length), hex(image))
             }
         }
     }
@@ -60,9 +101,11 @@ fn event_words(event: &Event) -> String {
     match event {
         Event::Setup(bytes) => format!("setup {}", hex(bytes)),
         Event::StatusEnd => "status".to_string(),
-        Event::BusReset => "reset".to_string(),
+        Event::BusReset => "reset 00".to_string(),
         Event::Halt(address) => format!("halt {address:02x}"),
         Event::PacketPassed(address) => format!("passed {address:02x}"),
+        Event::Power(source) => format!("power {source:02x}"),
+        Event::Other { number, value, setup } => format!("other {number:02x} {value:02x} {}", hex(setup)),
     }
 }
 

@@ -9,6 +9,7 @@ use crate::compare::{Comparison, Findings};
 use crate::events::Lent;
 use crate::fault::{self, Fault};
 use crate::files;
+use crate::makers;
 use crate::octets::kebab;
 use crate::runs;
 use crate::serve::serve;
@@ -16,6 +17,8 @@ use crate::vectors;
 
 const DEFAULT_SETS: usize = 100_000;
 const DEFAULT_CALLS: usize = 200_000;
+const DEFAULT_WRITES: usize = 50_000;
+const DEFAULT_DUMPS: usize = 50_000;
 
 /// So many differences are enough to choose the smallest from.
 const PATIENCE: usize = 1_000;
@@ -24,8 +27,8 @@ pub const USAGE: &str = "\
 reference vectors [--least N] FILE..            answers every question of the files, at least N (1) in each, and compares
 reference run-vectors --program CMD [--least N] FILE..
                                                 the same, and through a harness
-reference compare --program CMD [--sets N] [--calls N] [--seed S] [--fault NAME]
-                                                sets through opening, calls over the whole boundary; or both;
+reference compare --program CMD [--sets N] [--calls N] [--writes N] [--dumps N] [--seed S] [--fault NAME]
+                                                sets through opening, calls over the whole boundary, or both; streams of pieces; dumps;
                                                 from 100,000 sets and 200,000 calls on each rule and number must be reached
 reference faults --program CMD [--seed S]       every planted fault must be noticed
 reference serve [--fault NAME]                  the reference in a harness's place
@@ -155,8 +158,16 @@ fn agrees(what: &str, findings: &Findings) -> bool {
 
 fn compare(arguments: &Arguments) -> Verdict {
     let (sets, calls) = (arguments.number("sets")?, arguments.number("calls")?);
-    let both = sets.is_none() && calls.is_none();
+    let writes = arguments.number("writes")?;
+    let dumps = arguments.number("dumps")?;
+    let both = sets.is_none() && calls.is_none() && writes.is_none() && dumps.is_none();
     let mut right = true;
+    if let Some(writes) = writes {
+        right &= compare_writer(arguments, writes)?;
+    }
+    if let Some(dumps) = dumps {
+        right &= compare_dumps(arguments, dumps)?;
+    }
     if sets.is_some() || both {
         right &= compare_opening(arguments, sets.unwrap_or(DEFAULT_SETS))?;
     }
@@ -185,7 +196,24 @@ fn compare_whole(arguments: &Arguments, calls: usize) -> Verdict {
     if let Some(unlike) = &unlike {
         println!("{unlike}");
     }
-    Ok(same & unlike.is_none() & reached(&numbered(&numbers), calls >= DEFAULT_CALLS))
+    Ok(same & unlike.is_none() & reached(&numbered(&numbers[..=16]), calls >= DEFAULT_CALLS))
+}
+
+fn compare_writer(arguments: &Arguments, calls: usize) -> Verdict {
+    let mut comparison = Comparison::start(arguments.program()?, PATIENCE).map_err(told)?;
+    makers::writing(&mut comparison, calls, arguments.seed()?, arguments.fault()?);
+    let numbers = comparison.numbers;
+    let same = ended(comparison, "writer", "streams")?;
+    Ok(same & reached(&[0, 20, 21, 22].map(|number| (format!("number {number}"), numbers[number])), calls >= DEFAULT_WRITES))
+}
+
+fn compare_dumps(arguments: &Arguments, calls: usize) -> Verdict {
+    let mut comparison = Comparison::start(arguments.program()?, PATIENCE).map_err(told)?;
+    makers::dumping(&mut comparison, calls, arguments.seed()?, arguments.fault()?);
+    let numbers = comparison.numbers;
+    let same = ended(comparison, "dumps", "dumps and sets")?;
+    let given = [0, 1, 2, 3, 4, 5, 6, 21, 22, 23];
+    Ok(same & reached(&given.map(|number| (format!("number {number}"), numbers[number])), calls >= DEFAULT_DUMPS))
 }
 
 /// Tells how a comparison went and how long it took.
@@ -216,6 +244,10 @@ fn faults(arguments: &Arguments) -> Verdict {
         let mut comparison = Comparison::start(program, 1).map_err(told)?;
         if fault::OPENING.contains(&fault) {
             runs::opening(&mut comparison, DEFAULT_SETS, seed, fault);
+        } else if fault::WRITER.contains(&fault) {
+            makers::writing(&mut comparison, DEFAULT_CALLS, seed, fault);
+        } else if fault::DUMPS.contains(&fault) {
+            makers::dumping(&mut comparison, DEFAULT_CALLS, seed, fault);
         } else {
             runs::whole(&mut comparison, DEFAULT_CALLS, seed, fault);
         }

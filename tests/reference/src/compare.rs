@@ -42,7 +42,7 @@ pub struct Comparison {
     placement: Random,
     pub start: Instant,
     pub calls: usize,
-    pub numbers: [usize; 17],
+    pub numbers: [usize; 24],
 }
 
 impl Comparison {
@@ -72,7 +72,7 @@ impl Comparison {
             placement,
             start,
             calls: 0,
-            numbers: [0; 17],
+            numbers: [0; 24],
         })
     }
 

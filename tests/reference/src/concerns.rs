@@ -25,6 +25,6 @@ pub fn concerned(board: &Board, record: &Record, event: &Event) -> Option<u8> {
             }
         }
         Event::Halt(address) | Event::PacketPassed(address) => lists(*address),
-        Event::StatusEnd | Event::BusReset => None,
+        Event::StatusEnd | Event::BusReset | Event::Power(_) | Event::Other { .. } => None,
     }
 }

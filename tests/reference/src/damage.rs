@@ -26,22 +26,7 @@ enum Damage {
 /// The set and the serial block of a draft, damaged in one place, seldom in two.
 pub fn damaged(mut draft: Draft, random: &mut Random) -> (Vec<u8>, Vec<u8>) {
     let damages = chosen_damages(random);
-    for damage in &damages {
-        damage_draft(&mut draft, *damage, random);
-    }
-    for damage in &damages {
-        match damage {
-            Damage::Cut(change) => change(any_configuration(&mut draft, random), random),
-            Damage::CutDevice(change) => change(&mut draft.device),
-            _ => {}
-        }
-    }
-    let mut entries = draft.entries();
-    for damage in &damages {
-        if let Damage::Entries(change) = damage {
-            change(&mut entries, random);
-        }
-    }
+    let entries = damage_entries(&mut draft, &damages, random);
     let mut set = lay_out(&entries);
     for damage in &damages {
         if let Damage::Bytes(change) = damage {
@@ -49,6 +34,33 @@ pub fn damaged(mut draft: Draft, random: &mut Random) -> (Vec<u8>, Vec<u8>) {
         }
     }
     (set, draft.serial)
+}
+
+/// The same before it is laid out, with no damage to what the laying out makes.
+pub fn damaged_entries(mut draft: Draft, random: &mut Random) -> (Vec<DraftEntry>, Vec<u8>) {
+    let damages = chosen_damages(random);
+    let entries = damage_entries(&mut draft, &damages, random);
+    (entries, draft.serial)
+}
+
+fn damage_entries(draft: &mut Draft, damages: &[Damage], random: &mut Random) -> Vec<DraftEntry> {
+    for damage in damages {
+        damage_draft(draft, *damage, random);
+    }
+    for damage in damages {
+        match damage {
+            Damage::Cut(change) => change(any_configuration(draft, random), random),
+            Damage::CutDevice(change) => change(&mut draft.device),
+            _ => {}
+        }
+    }
+    let mut entries = draft.entries();
+    for damage in damages {
+        if let Damage::Entries(change) = damage {
+            change(&mut entries, random);
+        }
+    }
+    entries
 }
 
 /// A set with some of its bytes, or its serial block's, changed anywhere.

@@ -14,6 +14,47 @@ pub enum Event {
     BusReset,
     Halt(u8),
     PacketPassed(u8),
+    /// The power source: 0 the bus, 1 its own supply.
+    Power(u8),
+    /// A number that is no event's, with the value and the setup passed beside it.
+    Other {
+        number: u8,
+        value: u8,
+        setup: Vec<u8>,
+    },
+}
+
+impl Event {
+    /// The event that a call by number names; what it does not read is not looked at.
+    pub fn of_number(number: u8, value: u8, setup: &[u8]) -> Event {
+        match number {
+            0 => Event::Setup(setup.to_vec()),
+            1 => Event::StatusEnd,
+            2 => Event::BusReset,
+            3 => Event::Halt(value),
+            4 => Event::PacketPassed(value),
+            5 => Event::Power(value),
+            _ => Event::Other { number, value, setup: setup.to_vec() },
+        }
+    }
+
+    /// The number, the value and the setup that name the event.
+    pub fn numbered(&self) -> (u8, u8, &[u8]) {
+        match self {
+            Event::Setup(setup) => (0, 0, setup),
+            Event::StatusEnd => (1, 0, &[]),
+            Event::BusReset => (2, 0, &[]),
+            Event::Halt(address) => (3, *address, &[]),
+            Event::PacketPassed(address) => (4, *address, &[]),
+            Event::Power(source) => (5, *source, &[]),
+            Event::Other { number, value, setup } => (*number, *value, setup),
+        }
+    }
+
+    /// Whether a call by number looks at the value.
+    pub fn reads_value(&self) -> bool {
+        matches!(self, Event::BusReset | Event::Halt(_) | Event::PacketPassed(_) | Event::Power(_))
+    }
 }
 
 #[derive(Clone, Copy, PartialEq, Eq, Debug)]
@@ -80,7 +121,11 @@ impl Lent {
         if number > 0 && self.fault == Fault::RefusedOpeningKeepsImage {
             return Outcome::new(number, image.to_vec());
         }
-        Outcome::new(number, Record::fresh().image())
+        let mut fresh = Record::fresh();
+        if self.fault == Fault::OpeningKeepsPower {
+            fresh.power = image[5];
+        }
+        Outcome::new(number, fresh.image())
     }
 
     /// "Order: 7, 8, then for a setup 9 to 14, for a function event 16."
@@ -126,6 +171,8 @@ impl Step<'_> {
             Event::BusReset => self.bus_reset(),
             Event::Halt(address) => self.halt(*address),
             Event::PacketPassed(address) => self.packet_passed(*address),
+            Event::Power(source) => self.power(*source),
+            Event::Other { setup, .. } => self.unknown_event(setup),
         };
         let mut outcome = Outcome::new(0, self.record.image());
         match answer {
@@ -189,13 +236,14 @@ impl Step<'_> {
         }
     }
 
-    /// D0 is bit 6 of the selected configuration, of index 0 in Address; D1 is wakeup.
+    /// D0 is the power source in every state; D1 is wakeup.
     fn get_status_device(&self) -> Answer {
-        let selected = match self.record.selected(self.board) {
-            Some(selected) if !self.has_fault(Fault::SelfPoweredFromFirstConfiguration) => selected,
-            _ => &self.board.configurations[0],
+        let selected = self.record.selected(self.board).unwrap_or(&self.board.configurations[0]);
+        let self_powered = match self.board.fault {
+            Fault::SelfPoweredFromConfiguration => selected.attributes >> 6 & 1,
+            Fault::SelfPoweredInConfiguredOnly if self.record.state != CONFIGURED => 0,
+            _ => self.record.power,
         };
-        let self_powered = selected.attributes >> 6 & 1;
         let wakeup = if self.has_fault(Fault::WakeupNotReported) { 0 } else { self.record.wakeup };
         Ok(Reply::Bytes(vec![self_powered | wakeup << 1, 0]))
     }
@@ -341,20 +389,35 @@ impl Step<'_> {
         Ok(Part { block: Block::Set, offset: entry.offset, length: entry.length })
     }
 
-    /// String 0 for any wIndex; others need a listed language; the serial index is answered from the serial block.
-    fn string(&self, index: u8, language: u16) -> Result<Part, u8> {
-        let listed = self.board.languages.contains(&language);
+    /// String 0 for any wIndex; others in one listed language; the serial index is answered from the serial block.
+    fn string(&self, index: u8, asked: u16) -> Result<Part, u8> {
+        let listed = self.board.languages.contains(&asked);
         if index == 0 && (listed || !self.has_fault(Fault::StringZeroNeedsListedLanguage)) {
             return self.body_in_set(STRING, 0, 0);
         }
+        let language = self.language_for(index, asked).ok_or(13)?;
         let is_serial = index != 0 && index == self.board.serial_index;
-        if is_serial && (listed || self.has_fault(Fault::SerialInAnyLanguage)) {
+        if is_serial && (listed || !self.has_fault(Fault::SerialNeedsListedLanguage)) {
             return Ok(Part { block: Block::Serial, offset: 0, length: self.board.serial_length });
         }
-        if !listed {
-            return Err(13);
-        }
         self.body_in_set(STRING, index, language)
+    }
+
+    /// "In the first listed language when the asked one is not listed."
+    fn language_for(&self, index: u8, asked: u16) -> Option<u16> {
+        let languages = &self.board.languages;
+        let stands_in = |language: &&u16| self.board.entry(STRING, index, **language).is_some();
+        let needs_entry = self.has_fault(Fault::FallsBackThoughLanguageListed);
+        if languages.contains(&asked) && (!needs_entry || stands_in(&&asked)) {
+            return Some(asked);
+        }
+        match self.board.fault {
+            Fault::UnlistedLanguageDoesNotExist => None,
+            Fault::LanguageZeroDoesNotExist if asked == 0 => None,
+            Fault::FallsBackToLastLanguage => languages.last().copied(),
+            Fault::FallsBackToAnyLanguage => languages.iter().find(stands_in).or(languages.first()).copied(),
+            _ => languages.first().copied(),
+        }
     }
 
     /// "0 leads to Address. Either way alternates, halts and toggles become 0, also for the same value again."
@@ -380,6 +443,9 @@ impl Step<'_> {
         }
         if self.has_fault(Fault::ConfigurationClearsWakeup) {
             self.record.wakeup = 0;
+        }
+        if self.has_fault(Fault::ConfigurationSetsPower) {
+            self.record.power = self.record.selected(self.board).map_or(0, |selected| selected.attributes >> 6 & 1);
         }
         Ok(Reply::Nothing)
     }
@@ -420,9 +486,11 @@ impl Step<'_> {
         settings.flat_map(|setting| &setting.endpoints).fold(0, |bits, endpoint| bits | bit(endpoint.address))
     }
 
+    /// The fresh record; the power source stays.
     fn bus_reset(&mut self) -> Answer {
         let wakeup = if self.has_fault(Fault::BusResetKeepsWakeup) { self.record.wakeup } else { 0 };
-        self.record = Record { wakeup, ..Record::fresh() };
+        let power = if self.has_fault(Fault::BusResetClearsPower) { 0 } else { self.record.power };
+        self.record = Record { wakeup, power, ..Record::fresh() };
         Ok(Reply::Nothing)
     }
 
@@ -452,6 +520,37 @@ impl Step<'_> {
             }
             _ => self.unfit_endpoint(),
         }
+    }
+
+    /// Leaves every other byte; "a power event with a value above 1 gets 16".
+    fn power(&mut self, source: u8) -> Answer {
+        let source = if self.has_fault(Fault::PowerByLowBit) { source & 1 } else { source };
+        let taken = source <= 1 && !(self.has_fault(Fault::PowerInDefaultIsNotTaken) && self.record.state == DEFAULT);
+        if taken || self.has_fault(Fault::RefusedPowerIsTaken) {
+            self.record.power = source.min(1);
+        }
+        if self.has_fault(Fault::PowerEventDropsWaitingAddress) {
+            self.record.waiting = NOTHING_WAITS;
+        }
+        if self.has_fault(Fault::PowerEventClearsWakeup) {
+            self.record.wakeup = 0;
+        }
+        if source <= 1 {
+            Ok(Reply::Nothing)
+        } else {
+            Err(16)
+        }
+    }
+
+    /// "Any other number .. is answered as a setup that is not 8 bytes", whatever setup is passed.
+    fn unknown_event(&mut self, setup: &[u8]) -> Answer {
+        match self.board.fault {
+            Fault::UnknownEventReadsSetup => return self.setup(setup),
+            Fault::UnknownEventIsDone => return Ok(Reply::Nothing),
+            Fault::UnknownEventDropsWaitingAddress => self.record.waiting = NOTHING_WAITS,
+            _ => {}
+        }
+        Err(9)
     }
 
     fn unfit_endpoint(&mut self) -> Answer {

@@ -4,7 +4,7 @@ use crate::octets::kebab;
 
 macro_rules! faults {
     ($($part:ident { $($fault:ident)* })*) => {
-        /// A deviation from document 01, or none.
+        /// A deviation from documents 01 and 02, or none.
         #[derive(Clone, Copy, PartialEq, Eq, Debug)]
         pub enum Fault { None, $($($fault,)*)* }
 
@@ -40,9 +40,11 @@ faults! {
         AddressZeroWaitsAsNone AddressZeroLeadsToAddress StatusEndKeepsWaitingAddress StatusEndClearsWakeup
         LongerImagePasses LongerSetupPasses FieldsBeforeState FeatureBeforeExistence RecordBeforeSet SetupLengthBeforeRecord
         HighestAddressOneMore HighestAddressOneLess LargeConfigurationValueDoesNotExist
-        StringNeedsIndexZero StringZeroNeedsListedLanguage SerialInAnyLanguage OtherTypesAllowAnyIndex
+        StringNeedsIndexZero StringZeroNeedsListedLanguage SerialNeedsListedLanguage OtherTypesAllowAnyIndex
+        UnlistedLanguageDoesNotExist LanguageZeroDoesNotExist FallsBackThoughLanguageListed FallsBackToLastLanguage
+        FallsBackToAnyLanguage
         DescriptorLongerThanAsked AskedLengthZeroRefused EmptyPartStartsAtSet DeviceIndexIgnored
-        SelfPoweredFromFirstConfiguration WakeupNotReported WakeupOfSelectedConfigurationOnly
+        SelfPoweredFromConfiguration SelfPoweredInConfiguredOnly WakeupNotReported WakeupOfSelectedConfigurationOnly
         ConfigurationClearsWakeup SameConfigurationKeepsSettings ConfigurationZeroKeepsToggles
         InterfaceClearsNewSettingOnly InterfaceClearsEveryInterface InterfaceClearsHaltsOnly
         InterfaceByLowByte AlternateByLowByte FeatureByLowByte EndpointByLowByte
@@ -52,11 +54,25 @@ faults! {
         WaitingInConfiguredFits WakeupWithoutSupportFits IsochronousToggleFits AbsentInterfaceAlternateFits
         ZeroBytesIgnored HaltOfOtherSettingFits Waiting128Fits AddressInDefaultFits
         BusResetMendsRecord BusResetKeepsWakeup
+        BusResetClearsPower OpeningKeepsPower PowerEventDropsWaitingAddress PowerEventClearsWakeup
+        PowerByLowBit RefusedPowerIsTaken PowerInDefaultIsNotTaken PowerTwoFits OwnSupplyDoesNotFit
+        OwnSupplyFitsSelfPoweredOnly ConfigurationSetsPower UnknownEventReadsSetup UnknownEventIsDone
+        UnknownEventDropsWaitingAddress
     }
     PACKETS {
         EmptyLastPacketMissing EmptyPacketWhenEqual EmptyReplyAlwaysHasPacket PacketSize128Passes
         PacketSize24Passes ReplyLongerThanAskedPasses PacketNumberOneMore LastPacketWhole
         EmptyPacketStartsAtReply ReplyLengthSixteenBits PacketNumberSixteenBits
+    }
+    WRITER {
+        LanguagesComparedAsBytes PieceTwicePasses ShortBufferBeforeRefusal BytePastSetWritten OffsetsFromTheBodies
+        SixtyFourthPieceRefused LongestWrittenOneLess SizeBeforeWholeStream LastPieceMayBeCut RoomForOneMore
+        WrittenWithoutSerial RefusalTouchesBuffer
+    }
+    DUMPS {
+        BodyOfEightBytesSplits LastBodyMayBeCut DeviceAloneSplits SerialReferenceStays ConfigurationReferenceStays
+        AlternateReferenceStays FunctionReferenceZeroed LongDumpBeforeSplit ConfigurationsFromOne ImportRoomBeforeRefusal
+        ExportRoomBeforeOpening StringsExported ExportZeroesReferences ExportNeedsOneMore
     }
     LISTER {
         AttributesInsteadOfTransferType PacketSizeByLowByte IndexInsteadOfValue FirstSettingsOnly
@@ -67,7 +83,7 @@ faults! {
 impl Fault {
     /// All that show at the C boundary.
     pub fn at_boundary() -> impl Iterator<Item = Fault> {
-        [OPENING, EVENTS, PACKETS].into_iter().flatten().copied()
+        [OPENING, EVENTS, PACKETS, WRITER, DUMPS].into_iter().flatten().copied()
     }
 
     pub fn name(self) -> String {

@@ -1,4 +1,4 @@
-//! An implementation of document 01 that shares no line with the proved library, and the tests that it makes possible.
+//! An implementation of documents 01 and 02 that shares no line with the proved library, and the tests that it makes possible.
 
 mod call;
 mod commands;
@@ -7,10 +7,12 @@ mod concerns;
 mod damage;
 mod descriptors;
 mod draft;
+mod dumps;
 mod events;
 mod fault;
 mod files;
 mod lister;
+mod makers;
 mod octets;
 mod opening;
 mod packets;
@@ -23,6 +25,7 @@ mod rule;
 mod runs;
 mod serve;
 mod vectors;
+mod writer;
 
 use std::process::ExitCode;
 

@@ -74,6 +74,11 @@ impl Board {
         self.entries.iter().find(|entry| (entry.descriptor_type, entry.index, entry.language) == asked)
     }
 
+    /// Some configuration says that it runs on its own supply: no rule asks this, some faults do.
+    pub fn promises_own_supply(&self) -> bool {
+        self.configurations.iter().any(|configuration| configuration.attributes & 0x40 != 0)
+    }
+
     /// Remote wakeup is supported when some configuration says so.
     pub fn supports_wakeup(&self) -> bool {
         self.configurations.iter().any(|configuration| configuration.attributes & 0x20 != 0)

@@ -7,7 +7,10 @@
 //!     o image                hk_open                       s image setup  hk_setup
 //!     e image                hk_status_end                 r image        hk_bus_reset
 //!     h endpoint(1) image    hk_halt                       p endpoint(1) image   hk_packet_passed
+//!     P source(1) image      hk_power                      v event(1) value(1) record setup   hk_record_event
 //!     k reply_length(4) asked(2) size(4) number(4)         hk_packet
+//!     w pieces buffer        hk_write: length is what was written, the image is the buffer
+//!     i dump buffer          hk_import, in the same way    x buffer       hk_export
 //!
 //! Each call is answered with error(1) number(1) count(1) bytes(2) block(1) offset(4) length(4) and the image as a block.
 
@@ -112,12 +115,19 @@ impl Command {
             Command::Serial(_) => b'U',
             Command::Call(Call::Open { .. }) => b'o',
             Command::Call(Call::Packet { .. }) => b'k',
+            Command::Call(Call::Write { .. }) => b'w',
+            Command::Call(Call::Import { .. }) => b'i',
+            Command::Call(Call::Export { .. }) => b'x',
+            Command::Call(Call::Numbered { .. }) => b'v',
             Command::Call(Call::Event { event, .. }) => match event {
                 Event::Setup(_) => b's',
                 Event::StatusEnd => b'e',
                 Event::BusReset => b'r',
                 Event::Halt(_) => b'h',
                 Event::PacketPassed(_) => b'p',
+                Event::Power(_) => b'P',
+                // has no call of its own, and no command
+                Event::Other { .. } => return Err(io::ErrorKind::InvalidInput.into()),
             },
         };
         stream.write_all(&[operation, flags])?;
@@ -151,18 +161,28 @@ fn write_call(call: &Call, stream: &mut impl Write) -> io::Result<()> {
                 write_block(stream, image)?;
                 write_block(stream, setup)
             }
-            Event::StatusEnd | Event::BusReset => write_block(stream, image),
-            Event::Halt(address) | Event::PacketPassed(address) => {
-                stream.write_all(&[*address])?;
+            Event::StatusEnd | Event::BusReset | Event::Other { .. } => write_block(stream, image),
+            Event::Halt(value) | Event::PacketPassed(value) | Event::Power(value) => {
+                stream.write_all(&[*value])?;
                 write_block(stream, image)
             }
         },
+        Call::Numbered { record, number, value, setup } => {
+            stream.write_all(&[*number, *value])?;
+            write_block(stream, record)?;
+            write_block(stream, setup)
+        }
         Call::Packet { reply_length, asked, size, packet } => {
             stream.write_all(&(*reply_length as u32).to_le_bytes())?;
             stream.write_all(&asked.to_le_bytes())?;
             stream.write_all(&size.to_le_bytes())?;
             stream.write_all(&packet.to_le_bytes())
         }
+        Call::Write { pieces: given, buffer } | Call::Import { dump: given, buffer } => {
+            write_block(stream, given)?;
+            write_block(stream, buffer)
+        }
+        Call::Export { buffer } => write_block(stream, buffer),
     }
 }
 
@@ -170,6 +190,13 @@ fn read_call(operation: u8, stream: &mut impl Read) -> io::Result<Call> {
     let event = match operation {
         b'o' => return Ok(Call::Open { image: read_block(stream)? }),
         b'k' => return read_packet(stream),
+        b'w' => return Ok(Call::Write { pieces: read_block(stream)?, buffer: read_block(stream)? }),
+        b'i' => return Ok(Call::Import { dump: read_block(stream)?, buffer: read_block(stream)? }),
+        b'x' => return Ok(Call::Export { buffer: read_block(stream)? }),
+        b'v' => {
+            let [number, value] = read_array(stream)?;
+            return Ok(Call::Numbered { record: read_block(stream)?, number, value, setup: read_block(stream)? });
+        }
         b's' => {
             let image = read_block(stream)?;
             return Ok(Call::Event { image, event: Event::Setup(read_block(stream)?) });
@@ -178,6 +205,7 @@ fn read_call(operation: u8, stream: &mut impl Read) -> io::Result<Call> {
         b'r' => Event::BusReset,
         b'h' => Event::Halt(read_array::<1>(stream)?[0]),
         b'p' => Event::PacketPassed(read_array::<1>(stream)?[0]),
+        b'P' => Event::Power(read_array::<1>(stream)?[0]),
         _ => return Err(io::ErrorKind::InvalidData.into()),
     };
     Ok(Call::Event { image: read_block(stream)?, event })

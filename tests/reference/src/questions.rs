@@ -10,6 +10,8 @@ use crate::random::Random;
 use crate::record::{bit, Record, ADDRESS, CONFIGURED, DEFAULT, IMAGE_LENGTH};
 use crate::requests::{self, Row, Setup, TABLE};
 
+const FIRST_OTHER_EVENT: u8 = 6;
+
 /// A record that fits, in any state.
 pub fn fitting(board: &Board, random: &mut Random) -> Record {
     let mut record = Record::fresh();
@@ -23,6 +25,7 @@ pub fn fitting(board: &Board, random: &mut Random) -> Record {
     if board.supports_wakeup() && random.percent(50) {
         record.wakeup = 1;
     }
+    record.power = random.below(2) as u8;
     if record.state == CONFIGURED {
         let configuration = &board.configurations[random.below(board.configurations.len())];
         record.configuration = configuration.value;
@@ -58,13 +61,14 @@ pub fn nearly_fitting(board: &Board, random: &mut Random) -> Record {
     let mut record = fitting(board, random);
     let any_bit = 1 << random.below(32);
     let listed_bit = any_listed(board, &record, random).map_or(any_bit, bit);
-    match random.below(12) {
+    match random.below(13) {
         0 => record.state = random.pick(&[0, 1, 2, 3, 255]),
         1 => record.address = random.pick(&[0, 1, 127, 128, 255]),
         2 => record.waiting = random.pick(&[0, 5, 127, 128, 254, 255]),
         3 => record.configuration = random.pick(&[0, 1, 2, 255, record.configuration.wrapping_add(1)]),
         4 => record.wakeup = random.pick(&[0, 1, 1, 1, 2, 255]),
-        5 => record.zeros[random.below(3)] = random.pick(&[1, 255]),
+        5 => record.zeros[random.below(2)] = random.pick(&[1, 255]),
+        12 => record.power = random.pick(&[0, 1, 2, 255]),
         6 => record.alternates[random.below(16)] = random.pick(&[0, 1, 2, 15, 16, 255]),
         7 => {
             let at = random.below(usize::from(record.selected(board).map_or(16, |selected| selected.interface_count)));
@@ -144,14 +148,43 @@ fn interface_number(board: &Board, record: &Record, random: &mut Random) -> u16 
 
 /// Any event.
 pub fn event(board: &Board, record: &Record, random: &mut Random) -> Event {
-    match random.below(20) {
+    match random.below(22) {
         0 | 1 => Event::StatusEnd,
         2 => Event::BusReset,
         3 | 4 => Event::Halt(endpoint_address(board, record, random)),
         5..=7 => Event::PacketPassed(endpoint_address(board, record, random)),
         8 => Event::Setup(of_wrong_length(setup(board, record, random).bytes(), random)),
+        9 => Event::Power(power_source(random)),
+        10 => other_event(setup(board, record, random).bytes(), random),
         _ => Event::Setup(setup(board, record, random).bytes()),
     }
+}
+
+pub fn power_source(random: &mut Random) -> u8 {
+    let any = random.byte();
+    random.pick(&[0, 1, 0, 1, 2, 255, any])
+}
+
+/// A number that is no event's; the setup beside it would be answered.
+pub fn other_event(setup: Vec<u8>, random: &mut Random) -> Event {
+    let any = random.between(usize::from(FIRST_OTHER_EVENT), 255) as u8;
+    let number = random.pick(&[FIRST_OTHER_EVENT, FIRST_OTHER_EVENT + 1, 255, any]);
+    Event::Other { number, value: random.byte(), setup }
+}
+
+/// The event by its number, with a value and a setup that it does not read.
+pub fn numbered(record: &[u8], event: &Event, random: &mut Random) -> Option<Call> {
+    let mut call = Call::numbered(record, event)?;
+    if let Call::Numbered { number, value, setup, .. } = &mut call {
+        if !event.reads_value() {
+            *value = random.byte();
+        }
+        if *number != 0 && random.percent(50) {
+            let length = random.pick(&[1, 7, 8, 9]);
+            *setup = random.bytes(length);
+        }
+    }
+    Some(call)
 }
 
 /// GET_DESCRIPTOR, SET_CONFIGURATION and SET_INTERFACE have more to get wrong than one try in fifteen would show.
@@ -240,10 +273,18 @@ fn alternate(interface: u16, board: &Board, record: &Record, random: &mut Random
     random.pick(&[inside, inside, inside, inside, current, settings as u16, inside | 0x0100])
 }
 
+/// Such a string shows which language it was looked up in.
+fn misses_a_language(board: &Board, index: u8) -> bool {
+    board.languages.iter().any(|&language| board.entry(STRING, index, language).is_none())
+}
+
 fn ask_descriptor(setup: &mut Setup, board: &Board, random: &mut Random) {
     let descriptor_type =
         random.pick(&[DEVICE, CONFIGURATION, CONFIGURATION, STRING, STRING, STRING, STRING, 0, 4, 6, 7]);
-    let of_type: Vec<_> = board.entries.iter().filter(|entry| entry.descriptor_type == descriptor_type).collect();
+    let mut of_type: Vec<_> = board.entries.iter().filter(|entry| entry.descriptor_type == descriptor_type).collect();
+    if descriptor_type == STRING && random.percent(25) {
+        of_type.retain(|entry| entry.index != 0 && misses_a_language(board, entry.index));
+    }
     let (index, language, length) = match of_type.is_empty() {
         true => (random.pick(&[0, 1]), 0, 0),
         false => {

@@ -19,7 +19,9 @@ pub struct Record {
     pub waiting: u8,
     pub configuration: u8,
     pub wakeup: u8,
-    pub zeros: [u8; 3],
+    /// 0 the bus, 1 its own supply.
+    pub power: u8,
+    pub zeros: [u8; 2],
     pub alternates: [u8; 16],
     pub halts: u32,
     pub toggles: u32,
@@ -39,7 +41,8 @@ impl Record {
             waiting: NOTHING_WAITS,
             configuration: 0,
             wakeup: 0,
-            zeros: [0; 3],
+            power: 0,
+            zeros: [0; 2],
             alternates: [0; 16],
             halts: 0,
             toggles: 0,
@@ -57,7 +60,8 @@ impl Record {
             waiting: image[2],
             configuration: image[3],
             wakeup: image[4],
-            zeros: [image[5], image[6], image[7]],
+            power: image[5],
+            zeros: [image[6], image[7]],
             alternates,
             halts: wide_number(image, 24),
             toggles: wide_number(image, 28),
@@ -65,7 +69,7 @@ impl Record {
     }
 
     pub fn image(&self) -> Vec<u8> {
-        let mut image = vec![self.state, self.address, self.waiting, self.configuration, self.wakeup];
+        let mut image = vec![self.state, self.address, self.waiting, self.configuration, self.wakeup, self.power];
         image.extend(self.zeros);
         image.extend(self.alternates);
         image.extend(self.halts.to_le_bytes());
@@ -77,7 +81,8 @@ impl Record {
         self.state_fits(board)
             && self.waiting_fits(board.fault)
             && (self.wakeup == 0 || self.wakeup == 1 && wakeup_fits(board))
-            && (self.zeros == [0; 3] || board.fault == Fault::ZeroBytesIgnored)
+            && self.power_fits(board)
+            && (self.zeros == [0; 2] || board.fault == Fault::ZeroBytesIgnored)
             && (0..16).all(|interface| self.alternate_fits(board, interface))
             && self.halts & !self.bits_that_may_stand(board, Fault::HaltOfOtherSettingFits) == 0
             && self.toggles & !self.bits_that_may_stand(board, Fault::IsochronousToggleFits) == 0
@@ -97,6 +102,16 @@ impl Record {
         let highest = if fault == Fault::Waiting128Fits { 128 } else { 127 };
         let may_wait = self.state != CONFIGURED || fault == Fault::WaitingInConfiguredFits;
         self.waiting == NOTHING_WAITS || may_wait && self.waiting <= highest
+    }
+
+    /// "Fitting a record now allows 0 or 1 there", whatever the configurations promise.
+    fn power_fits(&self, board: &Board) -> bool {
+        match board.fault {
+            Fault::PowerTwoFits => self.power <= 2,
+            Fault::OwnSupplyDoesNotFit => self.power == 0,
+            Fault::OwnSupplyFitsSelfPoweredOnly => self.power == 0 || self.power == 1 && board.promises_own_supply(),
+            _ => self.power <= 1,
+        }
     }
 
     fn alternate_fits(&self, board: &Board, interface: u8) -> bool {

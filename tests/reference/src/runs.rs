@@ -90,8 +90,14 @@ impl Asker<'_> {
         self.packets();
     }
 
+    /// By the call for the event or by its number; where there is neither, a setup of no bytes stands in.
     fn send(&mut self, lent: &Arc<Lent>, image: &[u8], event: &Event) -> Outcome {
-        self.comparison.ask(lent, Call::Event { image: image.to_vec(), event: event.clone() })
+        let by_number = questions::numbered(image, event, &mut self.random);
+        let call = match Call::event(image, event) {
+            Some(call) if by_number.is_none() || self.random.percent(70) => call,
+            _ => by_number.unwrap_or(Call::Event { image: image.to_vec(), event: Event::Setup(Vec::new()) }),
+        };
+        self.comparison.ask(lent, call)
     }
 
     /// Enumerated as a host does, mostly, and then whatever comes.
@@ -124,7 +130,15 @@ impl Asker<'_> {
             let address = self.random.byte();
             let length = self.random.pick(&[0, 7, 8, 8, 9]);
             let setup = Event::Setup(self.random.bytes(length));
-            let kinds = [Event::StatusEnd, Event::BusReset, Event::Halt(address), Event::PacketPassed(address), setup];
+            let kinds = [
+                Event::StatusEnd,
+                Event::BusReset,
+                Event::Halt(address),
+                Event::PacketPassed(address),
+                Event::Power(questions::power_source(&mut self.random)),
+                questions::other_event(Vec::new(), &mut self.random),
+                setup,
+            ];
             let event = &kinds[self.random.below(kinds.len())];
             self.send(lent, &image, event);
         }

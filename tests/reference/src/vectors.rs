@@ -9,10 +9,17 @@ use crate::octets::{from_hex, hex};
 use crate::packets;
 use crate::record::Record;
 
+/// The requests of document 02 that change old answers and have landed.
+const LANDED: [&str; 2] = ["l2", "l6"];
+
 /// What is lent from now on, and the record for the next question.
 struct Script {
     lent: Lent,
     record: Vec<u8>,
+    /// A record left is lent to the next question; not in a file that names its rules.
+    carries_over: bool,
+    /// The rules that the file names have all landed: only then may it ask of a board. The makers' calls do not go by them.
+    landed: bool,
 }
 
 /// An answer in the file's words, with the calls that the C boundary must answer alike.
@@ -29,7 +36,8 @@ pub struct Tally {
 
 /// Answers every question; `ask` is handed the calls that a program must answer alike.
 pub fn run(text: &str, ask: &mut dyn FnMut(&Lent, &Call)) -> Tally {
-    let mut script = Script { lent: Lent::new(Vec::new(), Vec::new(), Fault::None), record: Vec::new() };
+    let lent = Lent::new(Vec::new(), Vec::new(), Fault::None);
+    let mut script = Script { lent, record: Vec::new(), carries_over: true, landed: true };
     let mut tally = Tally { questions: 0, disagreements: Vec::new() };
     for (at, line) in text.lines().enumerate() {
         let Some((question, expected)) = line.split_once(" -> ") else {
@@ -55,10 +63,19 @@ pub fn run(text: &str, ask: &mut dyn FnMut(&Lent, &Call)) -> Tally {
 }
 
 impl Script {
-    /// A line that lends: set, serial or record.
+    /// A line that lends: set, serial or record; or one that says by which rules.
     fn lend(&mut self, line: &str) -> Option<()> {
-        let (what, bytes) = line.split_once(' ')?;
-        let bytes = from_hex(bytes)?;
+        let (what, rest) = line.split_once(' ')?;
+        match (what, rest) {
+            ("#", _) | ("high", "none") => return Some(()),
+            ("rules", _) => {
+                self.carries_over = false;
+                self.landed = rest.split(' ').all(|rule| LANDED.contains(&rule));
+                return Some(());
+            }
+            _ => {}
+        }
+        let bytes = from_hex(rest)?;
         match what {
             "set" => self.lent = Lent::new(bytes, self.lent.serial.clone(), Fault::None),
             "serial" => self.lent = Lent::new(self.lent.set.clone(), bytes, Fault::None),
@@ -73,30 +90,42 @@ impl Script {
         let told = |text: String| Some(Told { text, calls: Vec::new() });
         match words[0] {
             "open" => Some(self.tell_call(Call::Open { image: self.record.clone() })),
-            "event" => {
-                let event = event(&words[1..])?;
-                Some(self.tell_call(Call::Event { image: self.record.clone(), event }))
-            }
+            "event" if self.landed => Some(self.tell_event(&event(&words[1..])?)),
             "packet" => {
                 let numbers = numbers(&words[1..])?;
                 Some(self.tell_call(packet_call(numbers.get(..3)?, *numbers.get(3)?)?))
             }
+            "write" => {
+                let (pieces, buffer) = (from_hex(words.get(1)?)?, from_hex(words.get(2)?)?);
+                Some(self.tell_call(Call::Write { pieces, buffer }))
+            }
+            "import" => {
+                let (dump, buffer) = (from_hex(words.get(1)?)?, from_hex(words.get(2)?)?);
+                Some(self.tell_call(Call::Import { dump, buffer }))
+            }
+            "export" => Some(self.tell_call(Call::Export { buffer: from_hex(words.get(1)?)? })),
             "count" => tell_count(&numbers(&words[1..])?),
             "list" => told(hex(list(&self.lent.set, &self.lent.serial, Fault::None).as_bytes())),
-            "fits" => told(u8::from(self.fits()).to_string()),
-            "concerns" => told(self.concerned(&event(&words[1..])?)),
+            "fits" if self.landed => told(u8::from(self.fits()).to_string()),
+            "concerns" if self.landed => told(self.concerned(&event(&words[1..])?)),
             _ => None,
         }
     }
 
-    /// What the call leaves is lent to the next question.
     fn tell_call(&mut self, call: Call) -> Told {
         let outcome = call.answer(&self.lent);
         let text = call.answer_words(&outcome);
-        if !matches!(call, Call::Packet { .. }) {
+        if self.carries_over && matches!(call, Call::Open { .. } | Call::Event { .. } | Call::Numbered { .. }) {
             self.record = outcome.image;
         }
         Told { text, calls: vec![call] }
+    }
+
+    /// By every call that there is for it.
+    fn tell_event(&mut self, event: &Event) -> Told {
+        let calls = [Call::event(&self.record, event), Call::numbered(&self.record, event)];
+        let told = self.tell_call(Call::Event { image: self.record.clone(), event: event.clone() });
+        Told { calls: calls.into_iter().flatten().collect(), ..told }
     }
 
     fn fits(&self) -> bool {
@@ -116,13 +145,15 @@ impl Script {
 }
 
 fn event(words: &[&str]) -> Option<Event> {
-    let address = || u8::from_str_radix(words.get(1)?, 16).ok();
+    let byte = |at: usize| u8::from_str_radix(words.get(at)?, 16).ok();
     match *words.first()? {
         "setup" => Some(Event::Setup(from_hex(words.get(1)?)?)),
         "status" => Some(Event::StatusEnd),
-        "reset" => Some(Event::BusReset),
-        "halt" => Some(Event::Halt(address()?)),
-        "passed" => Some(Event::PacketPassed(address()?)),
+        "reset" => (words.len() == 1 || byte(1)? == 0).then_some(Event::BusReset),
+        "halt" => Some(Event::Halt(byte(1)?)),
+        "passed" => Some(Event::PacketPassed(byte(1)?)),
+        "power" => Some(Event::Power(byte(1)?)),
+        "other" => Some(Event::Other { number: byte(1)?, value: byte(2)?, setup: from_hex(words.get(3)?)? }),
         _ => None,
     }
 }

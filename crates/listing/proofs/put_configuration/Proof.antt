@@ -1,6 +1,7 @@
 -- `listing::put_configuration` meets its contract: its own line, and those of its descriptors. No axiom.
-use Rattle.listing.specs.Written.{Wrote, descriptorLines}
-use Rattle.listing.proofs.Written.{begun, room-for, next, wrote-both}
+use Rattle.writing.specs.Written.{Wrote}
+use Rattle.listing.specs.Written.{descriptorLines}
+use Rattle.writing.proofs.Written.{begun, room-for, next, wrote-both}
 use Rattle.listing.proofs.Lines.{headLine, good-cut, configuration-lines}
 use borrow.Author.Needs.{needs}
 use Rattle.listing.proofs.put_configuration.Statement.{statement}

@@ -7,7 +7,7 @@ use borrow.Author.Needs.{needs}
 use Rattle.descriptors.proofs.Walk.{spanned}
 use Rattle.descriptors.proofs.Ahead.{Place, Turn, ahead, at-first, steps, turn}
 use Rattle.listing.specs.Written.{descriptorLine, lineAt, descriptorLines}
-use Rattle.listing.proofs.Written.{Going, room-for, next, done, same}
+use Rattle.writing.proofs.Written.{Going, room-for, next, done, same}
 use Rattle.listing.proofs.Lines.{lines-begin, next-lines, no-lines}
 use Rattle.listing.proofs.put_descriptors.Statement.{statement}
 use Rattle.listing.proofs.put_descriptors.Tie as tie

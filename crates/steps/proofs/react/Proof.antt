@@ -6,7 +6,7 @@ use borrow.Author.Tests.{not-true, not-false, eq-eqb, ne-eqb}
 use Rattle.sets.specs.View.{viewOf}
 use Rattle.sets.specs.Opening.{lent}
 use Rattle.events.specs.Facts.{questionOf, askedBy}
-use Rattle.steps.proofs.Steps.{set-refused, record-refused, responds, wakeup-small}
+use Rattle.steps.proofs.Steps.{set-refused, record-refused, responds, bits-small}
 use Rattle.steps.proofs.react.Tie as tie
 use Rattle.steps.proofs.react.Statement.{statement}
 
@@ -41,7 +41,7 @@ respond-requires c κs = let a = c .before .before .before .before .before .befo
     let opens = eq-eqb _ _ (sym (c .before .before .before .before .before .before .before .pre) ∙ c .before .before .before .before .if1 .left) in
     let t = c .before .before .before .gather .ensures in
     let fit = c .before .fits2 .ensures (viewOf b) (askedBy (questionOf (a .event))) (t .surveyed) (t .configured) (t .waking) in
-    wakeup-small (viewOf b) (a .device) (sym fit ∙ not-false _ (c .if2 .left))
+    bits-small (viewOf b) (a .device) (sym fit ∙ not-false _ (c .if2 .left))
 
 returns-3 : tie.Need-returns-3
 returns-3 c = let a = c .before .before .before .before .before .before .before .before .args in

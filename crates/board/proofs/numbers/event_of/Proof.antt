@@ -23,11 +23,14 @@ returns-5 : tie.Need-returns-5
 returns-5 c = rw (c .match .keys5)
 
 returns-6 : tie.Need-returns-6
-returns-6 c =
+returns-6 c = rw (c .match .keys6)
+
+returns-7 : tie.Need-returns-7
+returns-7 c =
     let no = c .match .rest in
-    simp (ne-eqb _ _ (no .0 .0 .0 .0 .1), ne-eqb _ _ (no .0 .0 .0 .1), ne-eqb _ _ (no .0 .0 .1), ne-eqb _ _ (no .0 .1), ne-eqb _ _ (no .1))
+    simp (ne-eqb _ _ (no .0 .0 .0 .0 .0 .1), ne-eqb _ _ (no .0 .0 .0 .0 .1), ne-eqb _ _ (no .0 .0 .0 .1), ne-eqb _ _ (no .0 .0 .1), ne-eqb _ _ (no .0 .1), ne-eqb _ _ (no .1))
 
 pub event-of-spec : {M : Type 1} → statement M
 event-of-spec =
     tie.close
-    (tie.spec setup-event-requires returns returns-2 returns-3 returns-4 returns-5 returns-6)
+    (tie.spec setup-event-requires returns returns-2 returns-3 returns-4 returns-5 returns-6 returns-7)

@@ -39,6 +39,12 @@ enum-told-5 c = search needs
 packet-passed-requires : tie.Need-packet-passed-requires
 packet-passed-requires c κs = search needs
 
+enum-known-event-2 : tie.Need-enum-known-event-2
+enum-known-event-2 c = search needs
+
+power-requires : tie.Need-power-requires
+power-requires c κs = search needs
+
 returns : tie.Need-returns
 returns c = λ v t. rw (c .before .before .event .given .1) (c .answer-setup .ensures v (rw (c .before .before .event .given .1) at t))
 
@@ -49,13 +55,16 @@ returns-3 : tie.Need-returns-3
 returns-3 c = λ v t. rw (c .before .enum-told2 .given .1) (c .status-end .ensures)
 
 returns-4 : tie.Need-returns-4
-returns-4 c = λ v t. rw (c .before .enum-told3 .given .1) (c .bus-reset .ensures (c .before .before .before .before .args .device))
+returns-4 c = λ v t. rw (c .before .enum-told3 .given .1) (c .bus-reset .ensures)
 
 returns-5 : tie.Need-returns-5
 returns-5 c = λ v t. rw (c .before .enum-told4 .given .1) (c .halt .ensures v (c .before .enum-told4 .given .0 .0) (rw (c .before .enum-told4 .given .1) at (t .surveyed .asked)))
 
 returns-6 : tie.Need-returns-6
 returns-6 c = λ v t. rw (c .before .enum-told5 .given .1) (c .packet-passed .ensures v (c .before .enum-told5 .given .0 .0) (rw (c .before .enum-told5 .given .1) at (t .surveyed .asked)))
+
+returns-7 : tie.Need-returns-7
+returns-7 c = λ v t. rw (c .before .before .event2 .given .1) (c .power .ensures)
 
 pub respond-spec : {M : Type 1} → statement M
 respond-spec =
@@ -73,9 +82,12 @@ respond-spec =
     halt-requires
     enum-told-5
     packet-passed-requires
+    enum-known-event-2
+    power-requires
     returns
     returns-2
     returns-3
     returns-4
     returns-5
-    returns-6)
+    returns-6
+    returns-7)

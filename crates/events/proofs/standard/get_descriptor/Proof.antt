@@ -1,6 +1,6 @@
 -- `events::standard::get_descriptor` meets its contract: by where the descriptor lies. No axiom.
 use borrow.Author.Needs.{needs}
-use Rattle.events.proofs.Lookups.{described}
+use Rattle.events.specs.Requests.{getDescriptor}
 use Rattle.events.proofs.standard.get_descriptor.Statement.{statement}
 use Rattle.events.proofs.standard.get_descriptor.Tie as tie
 
@@ -29,13 +29,16 @@ refused-requires : tie.Need-refused-requires
 refused-requires c κs = search needs
 
 returns : tie.Need-returns
-returns c = λ v e. rw (c .gives .ensures, c .before .least .ensures, described v, ← e, c .before .before .before .located .given .1)
+unfolding getDescriptor
+returns c = λ v e. rw (c .gives .ensures, c .before .least .ensures, ← e, c .before .before .before .located .given .1)
 
 returns-2 : tie.Need-returns-2
-returns-2 c = λ v e. rw (c .gives2 .ensures, c .before .least2 .ensures, described v, ← e, c .before .before .before .located2 .given .1)
+unfolding getDescriptor
+returns-2 c = λ v e. rw (c .gives2 .ensures, c .before .least2 .ensures, ← e, c .before .before .before .located2 .given .1)
 
 returns-3 : tie.Need-returns-3
-returns-3 c = λ v e. rw (c .refused .ensures, described v, ← e, c .before .enum-told .given .1)
+unfolding getDescriptor
+returns-3 c = λ v e. rw (c .refused .ensures, ← e, c .before .enum-told .given .1)
 
 pub get-descriptor-spec : {M : Type 1} → statement M
 get-descriptor-spec =

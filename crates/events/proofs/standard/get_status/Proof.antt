@@ -5,25 +5,22 @@ use borrow.Author.Tests.{eq-eqb, ne-eqb}
 use mathlib.Core.Path.{sym, _∙_}
 use Rattle.events.specs.Requests.{getStatus}
 use Rattle.records.specs.Current.{endpointAt}
-use Rattle.events.proofs.Lookups.{is-there, is-nowhere, digit-small}
+use Rattle.events.proofs.Lookups.{is-there, is-nowhere}
 use Rattle.events.proofs.standard.get_status.Tie as tie
 use Rattle.events.proofs.standard.get_status.Statement.{statement}
 
-cast-t9 : tie.Need-cast-t9
-cast-t9 c = search needs
+mul-t9 : tie.Need-mul-t9
+mul-t9 c = search needs
 
-mul-t10 : tie.Need-mul-t10
-mul-t10 c = search needs
-
-add-t11 : tie.Need-add-t11
-add-t11 c = omega (arith, digit-small (c .before .before .before .before .args .facts .powered))
+add-t10 : tie.Need-add-t10
+add-t10 c = search needs
 
 gives-requires : tie.Need-gives-requires
 gives-requires c κs = search needs
 
 returns : tie.Need-returns
 unfolding getStatus
-returns c = λ v t. rw (c .gives .ensures, eq-eqb _ _ (c .before .before .before .if1 .taken), ← t .powered)
+returns c = λ v t. rw (c .gives .ensures, eq-eqb _ _ (c .before .before .before .if1 .taken))
 
 gives-requires-2 : tie.Need-gives-requires-2
 gives-requires-2 c κs = search needs
@@ -61,8 +58,8 @@ enum-known-asked c = search needs
 is-halted-requires : tie.Need-is-halted-requires
 is-halted-requires c κs = search needs
 
-cast-t19 : tie.Need-cast-t19
-cast-t19 c = search needs
+cast-t18 : tie.Need-cast-t18
+cast-t18 c = search needs
 
 gives-requires-4 : tie.Need-gives-requires-4
 gives-requires-4 c κs = search needs
@@ -79,9 +76,8 @@ pub get-status-spec : {M : Type 1} → statement M
 get-status-spec =
     tie.close
     (tie.spec
-    cast-t9
-    mul-t10
-    add-t11
+    mul-t9
+    add-t10
     gives-requires
     returns
     gives-requires-2
@@ -95,7 +91,7 @@ get-status-spec =
     refused-requires-2
     enum-known-asked
     is-halted-requires
-    cast-t19
+    cast-t18
     gives-requires-4
     returns-5
     returns-6)

@@ -31,9 +31,6 @@ is-found-requires c κs = search needs
 wakes-requires : tie.Need-wakes-requires
 wakes-requires c κs = search needs
 
-powered-requires : tie.Need-powered-requires
-powered-requires c κs = search needs
-
 is-among-requires : tie.Need-is-among-requires
 is-among-requires c κs = search needs
 
@@ -45,18 +42,17 @@ locate-requires c κs = search needs
 
 returns : tie.Need-returns
 unfolding viewOf
-returns c = let a = c .before .before .before .before .before .before .before .before .before .before .before .before .before .args in
+returns c = let a = c .before .before .before .before .before .before .before .before .before .before .before .before .args in
     let b = lent (a .set .now) (a .serial .now) in
-    let usable = usable (lent (a .set .now) (a .serial .now)) (λ i. omega (arith, c .before .before .before .before .before .before .before .before .before .before .before .before .shared-slice-known .given i)) (c .before .before .before .before .before .before .before .before .before .before .before .before .before .pre) (a .device .configuration) in
-    let body = c .before .before .before .before .before .before .before .before .body-found .ensures ∙ ap (bodyFound (a .set .now)) (c .before .before .before .before .before .before .before .before .before .by-value .ensures) in
+    let usable = usable (lent (a .set .now) (a .serial .now)) (λ i. omega (arith, c .before .before .before .before .before .before .before .before .before .before .before .shared-slice-known .given i)) (c .before .before .before .before .before .before .before .before .before .before .before .before .pre) (a .device .configuration) in
+    let body = c .before .before .before .before .before .before .before .body-found .ensures ∙ ap (bodyFound (a .set .now)) (c .before .before .before .before .before .before .before .before .by-value .ensures) in
     let here = is-selected b (a .device) body in
-    let asked = c .before .before .before .before .before .before .before .before .before .before .question-of .ensures in
-    let seen = rw (here, asked) at (c .before .before .before .before .before .before .walk .ensures) in
-    let in-use : Usable (c .before .before .before .before .before .before .before .before .body-found .result .now) = rw body usable in
+    let asked = c .before .before .before .before .before .before .before .before .before .question-of .ensures in
+    let seen = rw (here, asked) at (c .before .before .before .before .before .walk .ensures) in
+    let in-use : Usable (c .before .before .before .before .before .before .before .body-found .result .now) = rw body usable in
     record {
-      configured = rw (c .before .before .before .before .before .is-found .ensures, c .before .before .before .before .before .before .before .before .before .by-value .ensures, value-there (a .set .now) (a .device .configuration));
-      waking = c .before .before .before .before .wakes .ensures ∙ sym (wakes-found (a .set .now));
-      powered = c .before .before .before .powered .ensures (viewOf b) refl here;
+      configured = rw (c .before .before .before .before .is-found .ensures, c .before .before .before .before .before .before .before .before .by-value .ensures, value-there (a .set .now) (a .device .configuration));
+      waking = c .before .before .before .wakes .ensures ∙ sym (wakes-found (a .set .now));
       surveyed = seen;
       interface = rw (c .before .before .is-among .ensures, asked) (among (rw here at (in-use .few)) (seen .interfaces) (questionOf (a .event) .wIndex));
       small = (rw here at (in-use .small)) (questionOf (a .event) .wIndex) (questionOf (a .event) .wValue);
@@ -74,7 +70,6 @@ gather-spec =
     walk-requires
     is-found-requires
     wakes-requires
-    powered-requires
     is-among-requires
     has-asked-requires
     locate-requires

@@ -2,6 +2,7 @@
 use borrow.Author.Tests.{eq-eqb, ne-eqb}
 use borrow.Author.Needs.{needs}
 use Rattle.sets.specs.View.{viewOf}
+use Rattle.events.specs.Requests.{locate}
 use Rattle.steps.proofs.Configurations.{located-found}
 use Rattle.steps.proofs.facts.locate.Tie as tie
 use Rattle.steps.proofs.facts.locate.Statement.{statement}
@@ -13,15 +14,20 @@ cast-index : tie.Need-cast-index
 cast-index c = search needs
 
 returns : tie.Need-returns
-unfolding viewOf
+unfolding viewOf locate
 returns c = λ p. absurd (c .if1 .taken p)
+
+language-for-requires : tie.Need-language-for-requires
+language-for-requires c κs = search needs
 
 locate-string-requires : tie.Need-locate-string-requires
 locate-string-requires c κs = search needs
 
 returns-2 : tie.Need-returns-2
-unfolding viewOf
-returns-2 c = λ p. rw (c .locate-string .ensures, eq-eqb _ _ (c .before .if2 .taken))
+unfolding viewOf locate
+returns-2 c =
+    let a = c .before .before .before .before .before .before .before .before .before .args in
+    λ p. rw (c .locate-string .ensures, c .before .language-for .ensures (a .serial .now), eq-eqb _ _ (c .before .before .if2 .taken))
 
 by-index-requires : tie.Need-by-index-requires
 by-index-requires c κs = search needs
@@ -30,7 +36,7 @@ place-requires : tie.Need-place-requires
 place-requires c κs = search needs
 
 returns-3 : tie.Need-returns-3
-unfolding viewOf
+unfolding viewOf locate
 returns-3 c = λ p. rw (c .place .ensures, c .before .by-index .ensures, ne-eqb _ _ (c .before .before .before .if2 .left), eq-eqb _ _ (c .before .before .if3 .taken), located-found)
 
 find-entry-requires : tie.Need-find-entry-requires
@@ -40,11 +46,11 @@ place-requires-2 : tie.Need-place-requires-2
 place-requires-2 c κs = search needs
 
 returns-4 : tie.Need-returns-4
-unfolding viewOf
+unfolding viewOf locate
 returns-4 c = λ p. rw (c .place2 .ensures, c .before .find-entry .ensures, ne-eqb _ _ (c .before .before .before .before .if2 .left), ne-eqb _ _ (c .before .before .before .if3 .left), eq-eqb _ _ (c .before .before .if4 .taken), located-found)
 
 returns-5 : tie.Need-returns-5
-unfolding viewOf
+unfolding viewOf locate
 returns-5 c = λ p. rw (ne-eqb _ _ (c .before .before .if2 .left), ne-eqb _ _ (c .before .if3 .left), ne-eqb _ _ (c .if4 .left))
 
 pub locate-spec : {M : Type 1} → statement M
@@ -54,6 +60,7 @@ locate-spec =
     cast-kind
     cast-index
     returns
+    language-for-requires
     locate-string-requires
     returns-2
     by-index-requires

@@ -1,6 +1,6 @@
 -- `steps::facts::locate_string` meets its contract: by the serial number's index, its languages, or the entry. No axiom.
 use borrow.Author.Needs.{needs}
-use Rattle.events.specs.Requests.{isEntry, languageFor}
+use Rattle.events.specs.Requests.{isEntry}
 use Rattle.octets.specs.Sentences.{first}
 use Rattle.sets.specs.View.{viewOf}
 use Rattle.sets.specs.Contents.{entries}
@@ -22,9 +22,6 @@ returns-2 : tie.Need-returns-2
 unfolding viewOf
 returns-2 c = rw (← c .before .before .before .serial-index .ensures, c .before .before .if1 .taken, ← c .before .language-listed .ensures, c .if2 .left)
 
-language-for-requires : tie.Need-language-for-requires
-language-for-requires c κs = search needs
-
 find-entry-requires : tie.Need-find-entry-requires
 find-entry-requires c κs = search needs
 
@@ -33,8 +30,8 @@ place-requires c κs = search needs
 
 returns-3 : tie.Need-returns-3
 unfolding viewOf
-returns-3 c = let a = c .before .before .before .before .before .before .before .args in
-    rw (c .place .ensures, c .before .find-entry .ensures, c .before .before .language-for .ensures, ← c .before .before .before .before .serial-index .ensures, c .before .before .before .if1 .left, located-found (first (isEntry 3 (a .index) (languageFor (a .index) (a .language))) (entries (a .set .now))))
+returns-3 c = let a = c .before .before .before .before .before .before .args in
+    rw (c .place .ensures, c .before .find-entry .ensures, ← c .before .before .before .serial-index .ensures, c .before .before .if1 .left, located-found (first (isEntry 3 (a .index) (a .language)) (entries (a .set .now))))
 
 pub locate-string-spec : {M : Type 1} → statement M
 locate-string-spec =
@@ -44,7 +41,6 @@ locate-string-spec =
     language-listed-requires
     returns
     returns-2
-    language-for-requires
     find-entry-requires
     place-requires
     returns-3)

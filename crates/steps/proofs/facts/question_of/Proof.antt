@@ -36,6 +36,12 @@ enum-known-event-3 c = search needs
 naming-requires-5 : tie.Need-naming-requires-5
 naming-requires-5 c κs = search needs
 
+enum-told-4 : tie.Need-enum-told-4
+enum-told-4 c = search needs
+
+naming-requires-6 : tie.Need-naming-requires-6
+naming-requires-6 c κs = search needs
+
 returns : tie.Need-returns
 returns c = search needs
 
@@ -54,6 +60,9 @@ returns-5 c = rw (c .naming4 .ensures, c .before .before .event2 .given .1)
 returns-6 : tie.Need-returns-6
 returns-6 c = rw (c .naming5 .ensures, c .before .before .event3 .given .1)
 
+returns-7 : tie.Need-returns-7
+returns-7 c = rw (c .naming6 .ensures, c .before .enum-told4 .given .1)
+
 pub question-of-spec : {M : Type 1} → statement M
 question-of-spec =
     tie.close
@@ -69,9 +78,12 @@ question-of-spec =
     naming-requires-4
     enum-known-event-3
     naming-requires-5
+    enum-told-4
+    naming-requires-6
     returns
     returns-2
     returns-3
     returns-4
     returns-5
-    returns-6)
+    returns-6
+    returns-7)

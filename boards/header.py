@@ -1,0 +1,93 @@
+"""The header's prototypes: held to the module's functions, and turned into the shim that joins the two on a 32-bit processor.
+
+The header says size_t, which is 32 bits wide there; the module takes lengths of 64 bits, and a part as a pointer and a 64-bit length in 16 bytes. The shim widens
+the one and narrows the other, for each prototype alike. It is compiled with the header, so that C's own rules hold it to the prototypes.
+"""
+import re, sys
+
+from module import Unexpected
+
+# C's types of parameters, as the module has them.
+TYPES = {"uint8_t": "i8", "uint16_t": "i16", "uint32_t": "i32", "size_t": "i64"}
+MAKERS = "HK_MAKERS"
+
+BEGINNING = """\
+/* The library's exports on a 32-bit processor: size_t outside, the module's 64-bit lengths inside. */
+#include "heideklonk.h"
+
+typedef struct { const uint8_t *start; uint64_t length; } wide_part;
+_Static_assert(sizeof(size_t) == 4 && sizeof(void *) == 4, "a 32-bit processor");
+_Static_assert(sizeof(wide_part) == 16 && __builtin_offsetof(wide_part, length) == 8 && _Alignof(wide_part) == 8, "a slice as the module has it");
+_Static_assert(sizeof(hk_record) == 32 && _Alignof(hk_record) == 4, "a record as the module has it");
+
+#if defined(__arm__)
+/* Tag_ABI_VFP_args: nothing here is a floating-point number, so it links with firmware of either convention. */
+__asm__(".eabi_attribute 28, 3");
+#endif
+"""
+
+
+class Prototype:
+    def __init__(self, text):
+        found = re.match(rf"({MAKERS}\s+)?(\w+)\s+(hk_\w+)\s*\((.*)\)$", text, re.S)
+        if not found:
+            raise Unexpected(f"include/heideklonk.h has a prototype of another form: {text}")
+        self.for_makers, self.result, self.name = bool(found[1]), found[2], found[3]
+        self.parameters = [self.parameter(" ".join(word.split())) for word in found[4].split(",")]
+
+    def parameter(self, text):
+        """A parameter's type and name; an array of bytes is a pointer."""
+        found = re.match(r"((?:const )?\w+ ?\*?) ?(\w+)(\[\d+\])?$", text)
+        if not found:
+            raise Unexpected(f"include/heideklonk.h: {self.name} has a parameter of another form: {text}")
+        return found[1].strip() + (" *" if found[3] else ""), found[2]
+
+    def signature(self):
+        """Result and parameters as the module has them."""
+        kinds = ["ptr" if "*" in kind else TYPES.get(kind) for kind, _ in self.parameters]
+        return TYPES.get(self.result), kinds
+
+    def shim(self):
+        """The wide function's prototype, and the export that calls it."""
+        wide = [(kind.replace("size_t", "uint64_t").replace("hk_part", "wide_part"), name) for kind, name in self.parameters]
+        parts = [name for kind, name in self.parameters if kind == "hk_part *"]
+        name = self.name.removeprefix("hk_")
+        lines = [f"\n{self.result} wide_{name}({', '.join(f'{kind} {word}' for kind, word in wide)});"]
+        lines.append(f"{self.result} {self.name}({', '.join(f'{kind} {word}' for kind, word in self.parameters)}) {{")
+        lines += [f"    wide_part found_{part} = {{{part}->start, {part}->length}};" for part in parts]
+        lines.append(f"    {self.result} result = wide_{name}({', '.join(f'&found_{word}' if word in parts else word for _, word in self.parameters)});")
+        lines += [f"    {part}->start = found_{part}.start;\n    {part}->length = (size_t)found_{part}.length;" for part in parts]
+        return "\n".join([*lines, "    return result;", "}", ""])
+
+
+def prototypes(text):
+    """All of the header's, in its order."""
+    text = re.sub(r"/\*.*?\*/", "", text, flags=re.S)
+    return [Prototype(word) for word in re.findall(rf"^((?:{MAKERS}\s+)?\w+\s+hk_\w+\s*\([^;]*\));", text, re.M)]
+
+
+def hold(found, exports):
+    """The header's prototypes and the module's exports are the same, name by name and type by type."""
+    names = {prototype.name for prototype in found}
+    if names != exports.keys():
+        raise Unexpected("include/heideklonk.h and the module have different functions: " + " ".join(sorted(names ^ exports.keys())))
+    for prototype in found:
+        if prototype.signature() != exports[prototype.name]:
+            raise Unexpected(f"include/heideklonk.h: {prototype.name} takes or gives other types than the module's function")
+
+
+def shim(found):
+    return BEGINNING + "".join(prototype.shim() for prototype in found)
+
+
+def whole_registers(text):
+    """The header for tests on a bare machine: a result is the whole register that it comes in, and goes through `a_byte`, which tells if it is none."""
+    found = prototypes(text)
+    for prototype in found:
+        text = re.sub(rf"^(?:{MAKERS}\s+)?{prototype.result}(\s+{prototype.name}\b)", r"unsigned long\1", text, flags=re.M)
+    macros = "".join(f"#define {prototype.name}(...) a_byte({prototype.name}(__VA_ARGS__))\n" for prototype in found)
+    return f"{text}\nuint8_t a_byte(unsigned long whole_register);\n{macros}"
+
+
+if __name__ == "__main__":
+    sys.stdout.write(whole_registers(sys.stdin.read()))

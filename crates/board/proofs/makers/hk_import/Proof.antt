@@ -1,0 +1,25 @@
+-- `board::makers::hk_import` meets its contract: import's own, and the set's length. No axiom.
+use mathlib.Core.Path.{_∙_}
+use borrow.Author.Needs.{needs}
+use Rattle.dumps.specs.Imported.{piecesFor}
+use Rattle.set_writer.proofs.Writing.{counted}
+use Rattle.board.proofs.makers.hk_import.Statement.{statement}
+use Rattle.board.proofs.makers.hk_import.Tie as tie
+
+import-requires : tie.Need-import-requires
+import-requires c κs = search needs
+
+length-written-requires : tie.Need-length-written-requires
+length-written-requires c κs = search needs
+
+same-length : tie.Need-same-length
+same-length c = search needs
+
+returns : tie.Need-returns
+returns c =
+    let s = c .before .before .before .before .before .before .before .before in
+    let w = c .before .before .before .before .import .ensures .fills in
+    record { fills = w; counts = c .length-written .ensures ∙ counted (piecesFor (s .args .dump .now)) w }
+
+pub hk-import-spec : {M : Type 1} → statement M
+hk-import-spec = tie.close (tie.spec import-requires length-written-requires same-length returns)

@@ -1,0 +1,33 @@
+// The calls for makers, on a bench computer: these may use an array of a set's length in their frame.
+ghost use Rattle.descriptors.specs.Limits.{fullSpeed};
+ghost use Rattle.board.specs.Makers.{Writes, Takes, Dumps};
+
+// Pieces end to end, in any order, become a set at the buffer's start.
+#[no_mangle]
+pub extern "C" fn hk_write(pieces: &[u8], serial: &[u8], buffer: &mut [u8], written: &mut u16) -> u8
+    ensures { λ r. ⌜ Writes fullSpeed (now (pieces .entry)) (now (serial .entry)) (now (buffer .entry)) r (now (buffer .exit)) (now (written .exit)) ⌝ }
+{
+    let report = set_writer::write(pieces, serial, descriptors::full_speed(), buffer);
+    *written = set_writer::length_written(report.number, buffer);
+    report.number
+}
+
+// A dump, the file that Linux shows for a device, becomes a set without strings at the buffer's start.
+#[no_mangle]
+pub extern "C" fn hk_import(dump: &[u8], buffer: &mut [u8], written: &mut u16) -> u8
+    ensures { λ r. ⌜ Takes (now (dump .entry)) (now (buffer .entry)) r (now (buffer .exit)) (now (written .exit)) ⌝ }
+{
+    let report = importing::import(dump, buffer);
+    *written = set_writer::length_written(report.number, buffer);
+    report.number
+}
+
+// The device and the configurations of a set become a dump at the buffer's start. This one needs no array in its frame.
+#[no_mangle]
+pub extern "C" fn hk_export(set: &[u8], serial: &[u8], buffer: &mut [u8], written: &mut u16) -> u8
+    ensures { λ r. ⌜ Dumps (now (set .entry)) (now (serial .entry)) (now (buffer .entry)) r (now (buffer .exit)) (now (written .exit)) ⌝ }
+{
+    let dumped = exporting::export(set, serial, buffer);
+    *written = dumped.written;
+    dumped.number
+}

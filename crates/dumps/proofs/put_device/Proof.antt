@@ -1,0 +1,32 @@
+-- `dumps::put_device` meets its contract: written, and three places blanked. No axiom.
+use mathlib.Core.Bool.{true}
+use mathlib.Core.List.{[], _∷_}
+use Rattle.dumps.proofs.Blanking.{begun, one, over}
+use borrow.Author.Needs.{needs}
+use Rattle.dumps.proofs.put_device.Statement.{statement}
+use Rattle.dumps.proofs.put_device.Tie as tie
+
+put-bytes-requires : tie.Need-put-bytes-requires
+put-bytes-requires c κs = search needs
+
+blank-requires : tie.Need-blank-requires
+blank-requires c κs = search needs
+
+blank-requires-2 : tie.Need-blank-requires-2
+blank-requires-2 c κs = search needs
+
+blank-requires-3 : tie.Need-blank-requires-3
+blank-requires-3 c κs = search needs
+
+same-length : tie.Need-same-length
+same-length c = search needs
+
+returns : tie.Need-returns
+returns c =
+    let b = begun (14 ∷ 15 ∷ 16 ∷ []) (c .before .before .before .before .before .before .before .before .before .before .before .before .before .before .put-bytes .ensures) in
+    over (c .before .before .before .before .before .before .before .before .before .before .before .before .before .before .put-bytes .ensures .place) (one 16 true (c .before .before .blank3 .ensures) (one 15 true (c .before .before .before .before .before .before .blank2 .ensures) (one 14 true (c .before .before .before .before .before .before .before .before .before .before .blank .ensures) b)))
+
+pub put-device-spec : {M : Type 1} → statement M
+put-device-spec =
+    tie.close
+    (tie.spec put-bytes-requires blank-requires blank-requires-2 blank-requires-3 same-length returns)

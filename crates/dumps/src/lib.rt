@@ -1,0 +1,150 @@
+// A dump: a device descriptor and configuration bodies end to end. Splitting it, and its bodies with their string references zeroed, as a stream of pieces.
+ghost use mathlib.Core.Path.{_≡_};
+ghost use mathlib.Core.Bool.{true, _&&_};
+ghost use mathlib.Core.List.{map};
+ghost use Prim.Native.Nat.{_+_, _-_, _<_, _≤_};
+ghost use lib.ListN.{length, set, take, drop};
+ghost use lib.Dec.{ltb};
+ghost use Rattle.octets.specs.Octets.{word};
+ghost use Rattle.octets.specs.Sentences.{pick};
+ghost use Rattle.writing.specs.Written.{Room, Wrote};
+ghost use Rattle.dumps.specs.Dump.{splits, splitOf, configurationsIn};
+ghost use Rattle.dumps.specs.Zeroed.{hasName, zeroedDevice, zeroedConfiguration};
+ghost use Rattle.dumps.specs.Imported.{numbered, piecesFor, headed};
+ghost use Rattle.pieces.specs.Pieces.{streamOf};
+
+// What splitting finds: how many configuration bodies.
+pub enum Shape {
+    Broken,
+    Bodies(usize),
+}
+
+// How many bytes the configuration body at a place says it has.
+fn size_at(dump: &[u8], at: usize) -> usize
+    ensures { λ r. ⌜ (r ≡ word (drop at (now (dump .entry))) 2) × (r < 65536) ⌝ }
+{
+    octets::word(pieces::tail(dump, at), 2) as usize
+}
+
+pub fn split(dump: &[u8]) -> Shape
+    ensures { λ r. ⌜ r ≡ splitOf (now (dump .entry)) ⌝ }
+{
+    if dump.len() <= 18 {
+        return Shape::Broken;
+    }
+    let mut n = 0;
+    let mut at = 18;
+    while at < dump.len() {
+        let size = size_at(dump, at);
+        if size < 9 {
+            return Shape::Broken;
+        }
+        if dump.len() - at < size {
+            return Shape::Broken;
+        }
+        at += size;
+        n += 1;
+    }
+    Shape::Bodies(n)
+}
+
+// A byte of a body that stands at `from` becomes 0, if that is wanted and it has that byte.
+fn blank(out: &mut [u8], from: usize, size: usize, place: usize, wanted: bool)
+    requires { ⌜ from + size ≤ length (now out) ⌝ }
+    ensures { λ _. ⌜ now (out .exit) ≡ pick (wanted && ltb place size) (set (now (out .entry)) (from + place) 0) (now (out .entry)) ⌝ }
+{
+    if wanted & (place < size) {
+        out[from + place] = 0;
+    }
+}
+
+// The device descriptor, its three references zeroed.
+fn put_device(out: &mut [u8], from: usize, body: &[u8]) -> usize
+    requires { ⌜ Room (now out) from (now body) ⌝ }
+    ensures { λ r. ⌜ Wrote (now (out .entry)) from (zeroedDevice (now (body .entry))) (now (out .exit)) r ⌝ }
+{
+    let end = writing::put_bytes(out, from, body);
+    blank(out, from, body.len(), 14, true);
+    blank(out, from, body.len(), 15, true);
+    blank(out, from, body.len(), 16, true);
+    end
+}
+
+// Whether the bytes from a place on are a type 4 descriptor that has an iInterface.
+fn has_name(body: &[u8], at: usize, size: u8) -> bool
+    ensures { λ r. ⌜ r ≡ hasName (drop at (now (body .entry))) size ⌝ }
+{
+    (octets::peek(pieces::tail(body, at), 1) == 4) & (9 <= size)
+}
+
+// From one descriptor to the next; from a bLength of 0 to the next byte.
+fn stride(size: u8) -> usize
+    ensures { λ r. ⌜ (r ≡ 1 + (size - 1)) × (r ≤ 256) ⌝ }
+{
+    if size == 0 {
+        return 1;
+    }
+    size as usize
+}
+
+// A configuration body, its references zeroed.
+fn put_configuration(out: &mut [u8], from: usize, body: &[u8]) -> usize
+    requires { ⌜ Room (now out) from (now body) ⌝ }
+    ensures { λ r. ⌜ Wrote (now (out .entry)) from (zeroedConfiguration (now (body .entry))) (now (out .exit)) r ⌝ }
+{
+    let end = writing::put_bytes(out, from, body);
+    blank(out, from, body.len(), 6, true);
+    let mut at = 0;
+    while at < body.len() {
+        let size = body[at];
+        let wanted = has_name(body, at, size);
+        blank(out, from, body.len(), at + 8, wanted);
+        at += stride(size);
+    }
+    end
+}
+
+// What stands before a piece's body.
+fn put_head(out: &mut [u8], at: usize, kind: u8, index: u8, size: usize) -> usize
+    requires { ⌜ Room (now out) at (headed kind index size) ⌝ }
+    requires { ⌜ size < 65536 ⌝ }
+    ensures { λ r. ⌜ Wrote (now (out .entry)) at (headed kind index size) (now (out .exit)) r ⌝ }
+{
+    writing::put_bytes(
+        out,
+        at,
+        &[kind, index, 0, 0, (size % 256) as u8, (size / 256) as u8],
+    )
+}
+
+// The configurations, as pieces.
+fn put_configurations(out: &mut [u8], at: usize, dump: &[u8]) -> usize
+    requires { ⌜ splits (now dump) ≡ true ⌝ }
+    requires { ⌜ length (configurationsIn (now dump)) < 256 ⌝ }
+    requires { ⌜ Room (now out) at (streamOf (numbered 0 (map zeroedConfiguration (configurationsIn (now dump))))) ⌝ }
+    ensures { λ r. ⌜ Wrote (now (out .entry)) at (streamOf (numbered 0 (map zeroedConfiguration (configurationsIn (now (dump .entry)))))) (now (out .exit)) r ⌝ }
+{
+    let mut next = at;
+    let mut from = 18;
+    let mut index: u8 = 0;
+    while from < dump.len() {
+        let size = size_at(dump, from);
+        let here = put_head(out, next, 2, index, size);
+        next = put_configuration(out, here, pieces::head(pieces::tail(dump, from), size));
+        from += size;
+        index += 1;
+    }
+    next
+}
+
+// The whole dump as a stream of pieces.
+pub fn put_stream(out: &mut [u8], dump: &[u8]) -> usize
+    requires { ⌜ splits (now dump) ≡ true ⌝ }
+    requires { ⌜ length (configurationsIn (now dump)) < 256 ⌝ }
+    requires { ⌜ Room (now out) 0 (streamOf (piecesFor (now dump))) ⌝ }
+    ensures { λ r. ⌜ Wrote (now (out .entry)) 0 (streamOf (piecesFor (now (dump .entry)))) (now (out .exit)) r ⌝ }
+{
+    let from = put_head(out, 0, 1, 0, 18);
+    let at = put_device(out, from, pieces::head(dump, 18));
+    put_configurations(out, at, dump)
+}

@@ -1,0 +1,13 @@
+pub mod Stream
+pub mod Laid
+pub mod Sizes
+pub mod Placing
+pub mod Shuffled
+pub mod Ascending
+pub mod Precedes
+pub mod Order
+pub mod ReadBack
+pub mod Canonical
+pub mod Bytewise
+pub mod LaidOut
+pub mod InPieces

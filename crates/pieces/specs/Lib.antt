@@ -1,0 +1,6 @@
+pub mod Pieces
+pub mod Held
+pub mod Sorted
+pub mod Laid
+pub mod Shuffled
+pub mod Places

@@ -1,0 +1,28 @@
+-- `sets::string::first_language` meets its contract: the first word behind string 0's head. No axiom.
+use Prim.Native.Nat.{ℕ}
+use mathlib.Core.Path.{sym, ap, _∙_}
+use mathlib.Core.List.{List}
+use lib.ListN.{getD}
+use borrow.Author.Needs.{needs}
+use Rattle.sets.proofs.Strings.{words-more, words-end}
+use Rattle.sets.proofs.string.first_language.Statement.{statement}
+use Rattle.sets.proofs.string.first_language.Tie as tie
+
+string-zero-requires : tie.Need-string-zero-requires
+string-zero-requires c κs = search needs
+
+word-requires : tie.Need-word-requires
+word-requires c κs = search needs
+
+returns : tie.Need-returns
+returns c =
+    let zero = c .before .before .string-zero in
+    c .word .ensures ∙ sym (ap (λ (ls : List ℕ). getD ls 0 0) (sym (zero .ensures) ∙ words-more (zero .result .now) 2 (c .before .if1 .taken)))
+
+returns-2 : tie.Need-returns-2
+returns-2 c =
+    let zero = c .before .string-zero in
+    sym (ap (λ (ls : List ℕ). getD ls 0 0) (sym (zero .ensures) ∙ words-end (zero .result .now) 2 (c .if1 .left)))
+
+pub first-language-spec : {M : Type 1} → statement M
+first-language-spec = tie.close (tie.spec string-zero-requires word-requires returns returns-2)

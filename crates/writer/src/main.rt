@@ -1,0 +1,24 @@
+// The writer: reads pieces.bin and unit.bin where it is run and writes set.bin, or says which piece stands in the way.
+mod told;
+
+fn write(stream: &[u8], serial: &[u8]) {
+    let mut set = [0u8; 16384];
+    let report = set_writer::write(stream, serial, descriptors::full_speed(), &mut set);
+    if report.number == 0 {
+        let size = set_writer::length_written(report.number, &set) as usize;
+        return files::write(b"set.bin", pieces::head(&set, size));
+    }
+    told::refused(stream, report.number, report.opening);
+}
+
+fn main() {
+    // Four times what the longest set takes: of a longer file nothing is told.
+    let mut stream = [0u8; 65535];
+    let mut serial = [0u8; 255];
+    let size = files::read(b"pieces.bin", &mut stream);
+    let serial_size = files::read(b"unit.bin", &mut serial);
+    if size == 65535 {
+        return files::say(b"pieces.bin is too long: a set has at most 16,384 bytes\n");
+    }
+    write(&stream[..size], &serial[..serial_size]);
+}
