@@ -5,16 +5,39 @@ use crate::events::{Block, Event, Lent, Outcome, Part};
 use crate::fault::Fault;
 use crate::octets::hex;
 use crate::packets;
+use crate::trim;
 use crate::writer;
 
 #[derive(Clone, PartialEq, Eq, Debug)]
 pub enum Call {
-    Open { image: Vec<u8> },
-    Event { image: Vec<u8>, event: Event },
-    Packet { reply_length: usize, asked: u16, size: u32, packet: u32 },
-    Write { pieces: Vec<u8>, buffer: Vec<u8> },
-    Import { dump: Vec<u8>, buffer: Vec<u8> },
-    Export { buffer: Vec<u8> },
+    Open {
+        image: Vec<u8>,
+    },
+    Event {
+        image: Vec<u8>,
+        event: Event,
+    },
+    Packet {
+        reply_length: usize,
+        asked: u16,
+        size: u32,
+        packet: u32,
+    },
+    Write {
+        pieces: Vec<u8>,
+        buffer: Vec<u8>,
+    },
+    Import {
+        dump: Vec<u8>,
+        buffer: Vec<u8>,
+    },
+    Export {
+        buffer: Vec<u8>,
+    },
+    /// The set that is lent, in a buffer of its own.
+    Trim {
+        set: Vec<u8>,
+    },
 }
 
 impl Call {
@@ -31,6 +54,7 @@ impl Call {
                 let opened = lent.opened.as_ref().map_err(|rule| rule.group());
                 dumps::export(&lent.set, opened, buffer, lent.fault)
             }
+            Call::Trim { set } => trim::trim(set, lent.opened.as_ref().map_err(|rule| rule.group()), lent.fault),
         }
     }
 
@@ -45,6 +69,7 @@ impl Call {
             Call::Write { pieces, buffer } => format!("write {} {}", hex(pieces), hex(buffer)),
             Call::Import { dump, buffer } => format!("import {} {}", hex(dump), hex(buffer)),
             Call::Export { buffer } => format!("export {}", hex(buffer)),
+            Call::Trim { .. } => "trim".to_string(),
         }
     }
 
@@ -66,7 +91,7 @@ impl Call {
                 let (offset, length) = part.map_or((0, 0), |part| (part.offset, part.length));
                 format!("{number} {offset} {length}")
             }
-            Call::Write { .. } | Call::Import { .. } | Call::Export { .. } => {
+            Call::Write { .. } | Call::Import { .. } | Call::Export { .. } | Call::Trim { .. } => {
                 format!("{number} {} {}", part.map_or(0, |part| part.length), hex(image))
             }
         }

@@ -24,8 +24,8 @@ const PATIENCE: usize = 1_000;
 pub const USAGE: &str = "\
 reference vectors FILE..                        answers every question of the files and compares
 reference run-vectors --program CMD FILE..      the same, and through a harness
-reference compare --program CMD [--sets N] [--calls N] [--writes N] [--dumps N] [--seed S] [--fault NAME]
-                                                sets through opening, calls over the whole boundary, or both; streams of pieces; dumps
+reference compare --program CMD [--sets N] [--calls N] [--writes N] [--dumps N] [--trims N] [--seed S] [--fault NAME]
+                                                sets through opening, calls over the whole boundary, or both; streams of pieces; dumps; sets to trim
 reference faults --program CMD [--seed S]       every planted fault must be noticed
 reference serve [--fault NAME]                  the reference in a harness's place
 reference list SET SERIAL [--fault NAME]        the lister's text for two files
@@ -150,12 +150,17 @@ fn compare(arguments: &Arguments) -> Verdict {
     let writes = arguments.number("writes")?;
     let dumps = arguments.number("dumps")?;
     let both = sets.is_none() && calls.is_none() && writes.is_none() && dumps.is_none();
+    let trims = arguments.number("trims")?;
+    let both = both && trims.is_none();
     let mut right = true;
     if let Some(writes) = writes {
         right &= compare_writer(arguments, writes)?;
     }
     if let Some(dumps) = dumps {
         right &= compare_dumps(arguments, dumps)?;
+    }
+    if let Some(trims) = trims {
+        right &= compare_trims(arguments, trims)?;
     }
     if sets.is_some() || both {
         right &= compare_opening(arguments, sets.unwrap_or(DEFAULT_SETS))?;
@@ -204,6 +209,17 @@ fn compare_dumps(arguments: &Arguments, calls: usize) -> Verdict {
     Ok(same & none_zero(&reached.map(|number| (format!("number {number}"), numbers[number]))))
 }
 
+fn compare_trims(arguments: &Arguments, calls: usize) -> Verdict {
+    let mut comparison = Comparison::start(arguments.program()?, PATIENCE).map_err(told)?;
+    let freed = makers::trimming(&mut comparison, calls, arguments.seed()?, arguments.fault()?);
+    let numbers = comparison.numbers;
+    let same = ended(comparison, "trim", "sets")?;
+    let reached =
+        [("nothing freed", freed.nothing), ("strings freed", freed.strings), ("string 0 freed too", freed.zero)];
+    let reached = reached.map(|(name, count)| (name.to_string(), count));
+    Ok(same & none_zero(&numbered(&numbers[..=6])) & none_zero(&reached))
+}
+
 /// Tells how a comparison went and how long it took.
 fn ended(comparison: Comparison, part: &str, unit: &str) -> Verdict {
     let (start, calls) = (comparison.start, comparison.calls);
@@ -235,6 +251,8 @@ fn faults(arguments: &Arguments) -> Verdict {
             makers::writing(&mut comparison, DEFAULT_CALLS, seed, fault);
         } else if fault::DUMPS.contains(&fault) {
             makers::dumping(&mut comparison, DEFAULT_CALLS, seed, fault);
+        } else if fault::TRIM.contains(&fault) {
+            makers::trimming(&mut comparison, DEFAULT_CALLS, seed, fault);
         } else {
             runs::whole(&mut comparison, DEFAULT_CALLS, seed, fault);
         }
