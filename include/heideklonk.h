@@ -230,6 +230,16 @@ HK_MAKERS uint8_t hk_import(const uint8_t *dump, size_t dump_length, uint8_t *bu
 HK_MAKERS uint8_t hk_export(const uint8_t *set, size_t set_length, const uint8_t *serial, size_t serial_length, uint8_t *buffer,
                   size_t buffer_length, uint16_t *written);
 
+/* Drops the strings that nothing names, in the set's own buffer, which is exactly as long as the set: a string stays if
+ * iManufacturer, iProduct, iSerialNumber, an iConfiguration or an iInterface of any setting is its number. String 0 stays
+ * if another string does or iSerialNumber is not 0. A string that only a class descriptor or an association names goes.
+ *
+ * HK_DONE: the set is the buffer's first *total bytes, and the freed bytes behind it are 0; it opens with the same serial
+ * block, and answers every request as before but those for a dropped string. Lend its first *total bytes from now on: the
+ * whole buffer is refused with HK_FRAME_BROKEN if anything was freed. HK_FRAME_BROKEN to HK_SERIAL_BROKEN: hk_open would
+ * refuse the set or the serial block; the buffer is as it was, and *total is 0. This call has 516 bytes in its frame. */
+HK_MAKERS uint8_t hk_trim(uint8_t *set, size_t set_length, const uint8_t *serial, size_t serial_length, uint16_t *total);
+
 #ifdef __cplusplus
 }
 #endif

@@ -329,6 +329,18 @@ static void call_maker(uint8_t operation, uint8_t flags) {
     respond_with_image();
 }
 
+/* The set is the buffer: it is lent as the image is. */
+static void call_trim(uint8_t flags) {
+    static const uint8_t no_answer[2];
+    take_block(&image, flags);
+    place_unwritten(&written, sizeof(uint16_t), flags, sizeof(uint16_t));
+    uint16_t *total = (uint16_t *)(void *)(written.room + written.start);
+    uint8_t number = hk_trim(lent(&image, flags), image.length, lent(&serial, flags), serial.length, total);
+    int kept = lent_blocks_kept() && guards_unchanged(&written);
+    respond(kept ? 0 : BYTES_CHANGED, number, no_answer, 0, 0, 0, *total);
+    respond_with_image();
+}
+
 int main(void) {
     block *blocks[] = {&set, &serial, &image, &setup, &bytes, &count, &part, &reply, &pieces, &written};
     int stopping[] = {SIGSEGV, SIGBUS, SIGILL, SIGTRAP, SIGFPE, SIGABRT};
@@ -350,6 +362,9 @@ int main(void) {
             break;
         case 'k':
             call_packet(flags);
+            break;
+        case 't':
+            call_trim(flags);
             break;
         case 'w': case 'i': case 'x':
             call_maker(operation, flags);

@@ -10,6 +10,7 @@ use Rattle.set_writer.specs.Writer.{setOf, writing, Filled}
 use Rattle.dumps.specs.Imported.{imported}
 use Rattle.importing.specs.Import.{importing}
 use Rattle.exporting.specs.Export.{exported, exporting}
+use Rattle.trimming.specs.Trim.{trimmed, padded, Trims}
 
 -- hk_write: its number, the buffer left, and the set's length, 0 after a refusal
 pub record Writes (limits : Limits) (pieces serial buffer : List ℕ) (answer : ℕ) (left : List ℕ) (written : ℕ) : Type 0 where
@@ -25,6 +26,11 @@ pub record Takes (dump buffer : List ℕ) (answer : ℕ) (left : List ℕ) (writ
 pub record Dumps (set serial buffer : List ℕ) (answer : ℕ) (left : List ℕ) (written : ℕ) : Type 0 where
   pub fills : Filled (exported set) buffer left (exporting set serial (length buffer)) answer
   pub counts : written ≡ pick (eqb answer 0) (length (exported set)) 0
+
+-- hk_trim: its number, what it leaves of the set's buffer, and the trimmed set's length, 0 after a refusal
+pub record Shortens (limits : Limits) (set serial : List ℕ) (answer : ℕ) (left : List ℕ) (total : ℕ) : Type 0 where
+  pub trims : Trims limits set serial left answer
+  pub counts : total ≡ pick (eqb answer 0) (length (trimmed set)) 0
 
 -- ---- any two results that meet a statement are equal. Assumes nothing
 pub filled : {text buffer after also : List ℕ} {asked n m : ℕ} → Filled text buffer after asked n → Filled text buffer also asked m → (n ≡ m) × (after ≡ also)
@@ -47,3 +53,9 @@ takes {dump} p q = let (e, f) = filled (p .fills) (q .fills) in (e, f, counted (
 pub dumps : {set serial buffer : List ℕ} {n m : ℕ} {left other : List ℕ} {written also : ℕ}
     → Dumps set serial buffer n left written → Dumps set serial buffer m other also → (n ≡ m) × (left ≡ other) × (written ≡ also)
 dumps {set} p q = let (e, f) = filled (p .fills) (q .fills) in (e, f, counted (exported set) e (p .counts) (q .counts))
+
+pub shortens : {limits : Limits} {set serial : List ℕ} {n m : ℕ} {left other : List ℕ} {total also : ℕ}
+    → Shortens limits set serial n left total → Shortens limits set serial m other also → (n ≡ m) × (left ≡ other) × (total ≡ also)
+shortens {set = set} p q =
+    let e = p .trims .number ∙ sym (q .trims .number) in
+    (e, p .trims .bytes ∙ ap (λ (k : ℕ). pick (eqb k 0) (padded (trimmed set) (length set)) set) e ∙ sym (q .trims .bytes), counted (trimmed set) e (p .counts) (q .counts))

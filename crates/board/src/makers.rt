@@ -1,6 +1,6 @@
 // The calls for makers, on a bench computer: these may use an array of a set's length in their frame.
 ghost use Rattle.descriptors.specs.Limits.{fullSpeed};
-ghost use Rattle.board.specs.Makers.{Writes, Takes, Dumps};
+ghost use Rattle.board.specs.Makers.{Writes, Takes, Dumps, Shortens};
 
 // Pieces end to end, in any order, become a set at the buffer's start.
 #[no_mangle]
@@ -30,4 +30,14 @@ pub extern "C" fn hk_export(set: &[u8], serial: &[u8], buffer: &mut [u8], writte
     let dumped = exporting::export(set, serial, buffer);
     *written = dumped.written;
     dumped.number
+}
+
+// The strings that nothing names are dropped, in the set's own buffer; what is freed becomes zero. This one needs 516 bytes in its frame.
+#[no_mangle]
+pub extern "C" fn hk_trim(set: &mut [u8], serial: &[u8], total: &mut u16) -> u8
+    ensures { λ r. ⌜ Shortens fullSpeed (now (set .entry)) (now (serial .entry)) r (now (set .exit)) (now (total .exit)) ⌝ }
+{
+    let number = trimming::trim(set, serial, descriptors::full_speed());
+    *total = set_writer::length_written(number, set);
+    number
 }

@@ -97,7 +97,7 @@ module _ (stream : List ℕ) where
           record { fills = rw (p, few, small) (w .fills); why = rw (p, few, small) (w .why) }
 
 -- ---- the length of what was written
-laid-word : (ps : List Piece) (rest : List ℕ) → word (laid ps ++ rest) 0 ≡ length (laid ps)
+pub laid-word : (ps : List Piece) (rest : List ℕ) → word (laid ps ++ rest) 0 ≡ length (laid ps)
 laid-word ps rest = rw (laid-parts ps) (two-bytes (total ps)) ∙ sym (laid-length ps)
 
 pub counted : {buffer after : List ℕ} {asked n : ℕ} (ps : List Piece) → Filled (laid ps) buffer after asked n → lengthWritten n after ≡ pick (eqb n 0) (length (laid ps)) 0

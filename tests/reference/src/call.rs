@@ -6,6 +6,7 @@ use crate::fault::Fault;
 use crate::octets::hex;
 use crate::packets;
 use crate::record::IMAGE_LENGTH;
+use crate::trim;
 use crate::writer;
 
 /// `Numbered` names any event by its number, on a record of 32 bytes that stands aligned.
@@ -18,6 +19,8 @@ pub enum Call {
     Write { pieces: Vec<u8>, buffer: Vec<u8> },
     Import { dump: Vec<u8>, buffer: Vec<u8> },
     Export { buffer: Vec<u8> },
+    /// The set that is lent, in a buffer of its own.
+    Trim { set: Vec<u8> },
 }
 
 impl Call {
@@ -50,6 +53,7 @@ impl Call {
                 let opened = lent.opened.as_ref().map_err(|rule| rule.group());
                 dumps::export(&lent.set, opened, buffer, lent.fault)
             }
+            Call::Trim { set } => trim::trim(set, lent.opened.as_ref().map_err(|rule| rule.group()), lent.fault),
         }
     }
 
@@ -67,6 +71,7 @@ impl Call {
             Call::Write { pieces, buffer } => format!("write {} {}", hex(pieces), hex(buffer)),
             Call::Import { dump, buffer } => format!("import {} {}", hex(dump), hex(buffer)),
             Call::Export { buffer } => format!("export {}", hex(buffer)),
+            Call::Trim { .. } => "trim".to_string(),
         }
     }
 
@@ -90,7 +95,7 @@ impl Call {
                 let (offset, length) = part.map_or((0, 0), |part| (part.offset, part.length));
                 format!("{number} {offset} {length}")
             }
-            Call::Write { .. } | Call::Import { .. } | Call::Export { .. } => {
+            Call::Write { .. } | Call::Import { .. } | Call::Export { .. } | Call::Trim { .. } => {
                 format!("{number} {} {}", part.map_or(0, |part| part.length), hex(image))
             }
         }

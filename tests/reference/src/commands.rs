@@ -19,6 +19,7 @@ const DEFAULT_SETS: usize = 100_000;
 const DEFAULT_CALLS: usize = 200_000;
 const DEFAULT_WRITES: usize = 50_000;
 const DEFAULT_DUMPS: usize = 50_000;
+const DEFAULT_TRIMS: usize = 50_000;
 
 /// So many differences are enough to choose the smallest from.
 const PATIENCE: usize = 1_000;
@@ -27,8 +28,8 @@ pub const USAGE: &str = "\
 reference vectors [--least N] FILE..            answers every question of the files, at least N (1) in each, and compares
 reference run-vectors --program CMD [--least N] FILE..
                                                 the same, and through a harness
-reference compare --program CMD [--sets N] [--calls N] [--writes N] [--dumps N] [--seed S] [--fault NAME]
-                                                sets through opening, calls over the whole boundary, or both; streams of pieces; dumps;
+reference compare --program CMD [--sets N] [--calls N] [--writes N] [--dumps N] [--trims N] [--seed S] [--fault NAME]
+                                                sets through opening, calls over the whole boundary, or both; streams of pieces; dumps; sets to trim;
                                                 from 100,000 sets and 200,000 calls on each rule and number must be reached
 reference faults --program CMD [--seed S]       every planted fault must be noticed
 reference serve [--fault NAME]                  the reference in a harness's place
@@ -161,12 +162,17 @@ fn compare(arguments: &Arguments) -> Verdict {
     let writes = arguments.number("writes")?;
     let dumps = arguments.number("dumps")?;
     let both = sets.is_none() && calls.is_none() && writes.is_none() && dumps.is_none();
+    let trims = arguments.number("trims")?;
+    let both = both && trims.is_none();
     let mut right = true;
     if let Some(writes) = writes {
         right &= compare_writer(arguments, writes)?;
     }
     if let Some(dumps) = dumps {
         right &= compare_dumps(arguments, dumps)?;
+    }
+    if let Some(trims) = trims {
+        right &= compare_trims(arguments, trims)?;
     }
     if sets.is_some() || both {
         right &= compare_opening(arguments, sets.unwrap_or(DEFAULT_SETS))?;
@@ -216,6 +222,17 @@ fn compare_dumps(arguments: &Arguments, calls: usize) -> Verdict {
     Ok(same & reached(&given.map(|number| (format!("number {number}"), numbers[number])), calls >= DEFAULT_DUMPS))
 }
 
+fn compare_trims(arguments: &Arguments, calls: usize) -> Verdict {
+    let mut comparison = Comparison::start(arguments.program()?, PATIENCE).map_err(told)?;
+    let freed = makers::trimming(&mut comparison, calls, arguments.seed()?, arguments.fault()?);
+    let numbers = comparison.numbers;
+    let same = ended(comparison, "trim", "sets")?;
+    let kinds = [("nothing freed", freed.nothing), ("strings freed", freed.strings), ("string 0 freed too", freed.zero)];
+    let kinds = kinds.map(|(name, count)| (name.to_string(), count));
+    let demanded = calls >= DEFAULT_TRIMS;
+    Ok(same & reached(&numbered(&numbers[..=6]), demanded) & reached(&kinds, demanded))
+}
+
 /// Tells how a comparison went and how long it took.
 fn ended(comparison: Comparison, part: &str, unit: &str) -> Verdict {
     let (start, calls) = (comparison.start, comparison.calls);
@@ -248,6 +265,8 @@ fn faults(arguments: &Arguments) -> Verdict {
             makers::writing(&mut comparison, DEFAULT_CALLS, seed, fault);
         } else if fault::DUMPS.contains(&fault) {
             makers::dumping(&mut comparison, DEFAULT_CALLS, seed, fault);
+        } else if fault::TRIM.contains(&fault) {
+            makers::trimming(&mut comparison, DEFAULT_CALLS, seed, fault);
         } else {
             runs::whole(&mut comparison, DEFAULT_CALLS, seed, fault);
         }

@@ -74,6 +74,10 @@ faults! {
         AlternateReferenceStays FunctionReferenceZeroed LongDumpBeforeSplit ConfigurationsFromOne ImportRoomBeforeRefusal
         ExportRoomBeforeOpening StringsExported ExportZeroesReferences ExportNeedsOneMore
     }
+    TRIM {
+        ManufacturerNotCounted ConfigurationNotCounted AlternatesNotCounted FunctionCounted ZeroGoesBesideSerial
+        ZeroAlwaysStays FreedBytesStay
+    }
     LISTER {
         AttributesInsteadOfTransferType PacketSizeByLowByte IndexInsteadOfValue FirstSettingsOnly
         SettingsInsteadOfInterfaces
@@ -83,7 +87,7 @@ faults! {
 impl Fault {
     /// All that show at the C boundary.
     pub fn at_boundary() -> impl Iterator<Item = Fault> {
-        [OPENING, EVENTS, PACKETS, WRITER, DUMPS].into_iter().flatten().copied()
+        [OPENING, EVENTS, PACKETS, WRITER, DUMPS, TRIM].into_iter().flatten().copied()
     }
 
     pub fn name(self) -> String {

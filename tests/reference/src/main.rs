@@ -24,6 +24,7 @@ mod requests;
 mod rule;
 mod runs;
 mod serve;
+mod trim;
 mod vectors;
 mod writer;
 

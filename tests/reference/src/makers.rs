@@ -1,4 +1,4 @@
-//! What is asked of the makers' calls: pieces and dumps of good and damaged sets, and damage to these themselves.
+//! What is asked of the makers' calls: pieces and dumps of good and damaged sets, damage to these themselves, and sets to trim.
 
 use std::sync::Arc;
 
@@ -184,4 +184,72 @@ fn exported_length(set: &[u8]) -> usize {
     let entries = set.get(4..).unwrap_or(&[]).chunks_exact(8).take(usize::from(set.get(2).copied().unwrap_or(0)));
     let dumped = entries.filter(|entry| [DEVICE, CONFIGURATION].contains(&entry[0]));
     dumped.map(|entry| usize::from(u16::from_le_bytes([entry[6], entry[7]]))).sum::<usize>().min(40_000)
+}
+
+/// What trimming freed, in how many sets.
+#[derive(Default)]
+pub struct Freed {
+    pub nothing: usize,
+    pub strings: usize,
+    pub zero: usize,
+}
+
+/// A set with strings that nothing names: references go, or strings come.
+fn set_to_trim(random: &mut Random) -> (Vec<u8>, Vec<u8>) {
+    if random.percent(30) {
+        return any_set(random);
+    }
+    let mut draft = Draft::valid(random);
+    let all = random.percent(30);
+    for at in 14..16 {
+        if all || random.percent(30) {
+            draft.device[at] = 0;
+        }
+    }
+    for descriptor in draft.configurations.iter_mut().flatten() {
+        let place = if descriptor.get(1) == Some(&2) { 6 } else { 8 };
+        let has_name = matches!(descriptor.get(1), Some(&2) | Some(&4));
+        if has_name && (all || random.percent(30)) {
+            descriptor[place] = 0;
+        }
+    }
+    if all && random.percent(60) {
+        draft.device[16] = 0;
+        draft.serial.clear();
+    }
+    (draft.set(), draft.serial)
+}
+
+/// Trims sets, each of them twice.
+pub fn trimming(comparison: &mut Comparison, calls: usize, seed: u64, fault: Fault) -> Freed {
+    let mut random = Random::new(seed);
+    let mut freed = Freed::default();
+    while comparison.calls < calls && !comparison.stopped() {
+        let (set, mut serial) = set_to_trim(&mut random);
+        if random.percent(3) {
+            serial.push(3);
+        }
+        let had_zero = has_string_zero(&set);
+        let lent = Arc::new(Lent::new(set.clone(), serial.clone(), fault));
+        let outcome = comparison.ask(&lent, Call::Trim { set: set.clone() });
+        if outcome.number != 0 {
+            continue;
+        }
+        let total = outcome.part.map_or(0, |part| part.length);
+        let after = outcome.image[..total].to_vec();
+        match () {
+            _ if total == set.len() => freed.nothing += 1,
+            _ if had_zero && !has_string_zero(&after) => freed.zero += 1,
+            _ => freed.strings += 1,
+        }
+        let again = Arc::new(Lent::new(after.clone(), serial, fault));
+        comparison.ask(&again, Call::Trim { set: after });
+    }
+    freed
+}
+
+/// Whether a set's contents have string 0.
+fn has_string_zero(set: &[u8]) -> bool {
+    let entries = set.get(4..).unwrap_or(&[]).chunks_exact(8).take(usize::from(set.get(2).copied().unwrap_or(0)));
+    entries.into_iter().any(|entry| entry[..2] == [STRING, 0])
 }

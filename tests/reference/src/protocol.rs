@@ -11,6 +11,7 @@
 //!     k reply_length(4) asked(2) size(4) number(4)         hk_packet
 //!     w pieces buffer        hk_write: length is what was written, the image is the buffer
 //!     i dump buffer          hk_import, in the same way    x buffer       hk_export
+//!     t set                  hk_trim: length is the total, the image is the set
 //!
 //! Each call is answered with error(1) number(1) count(1) bytes(2) block(1) offset(4) length(4) and the image as a block.
 
@@ -119,6 +120,7 @@ impl Command {
             Command::Call(Call::Import { .. }) => b'i',
             Command::Call(Call::Export { .. }) => b'x',
             Command::Call(Call::Numbered { .. }) => b'v',
+            Command::Call(Call::Trim { .. }) => b't',
             Command::Call(Call::Event { event, .. }) => match event {
                 Event::Setup(_) => b's',
                 Event::StatusEnd => b'e',
@@ -182,7 +184,7 @@ fn write_call(call: &Call, stream: &mut impl Write) -> io::Result<()> {
             write_block(stream, given)?;
             write_block(stream, buffer)
         }
-        Call::Export { buffer } => write_block(stream, buffer),
+        Call::Export { buffer } | Call::Trim { set: buffer } => write_block(stream, buffer),
     }
 }
 
@@ -197,6 +199,7 @@ fn read_call(operation: u8, stream: &mut impl Read) -> io::Result<Call> {
             let [number, value] = read_array(stream)?;
             return Ok(Call::Numbered { record: read_block(stream)?, number, value, setup: read_block(stream)? });
         }
+        b't' => return Ok(Call::Trim { set: read_block(stream)? }),
         b's' => {
             let image = read_block(stream)?;
             return Ok(Call::Event { image, event: Event::Setup(read_block(stream)?) });

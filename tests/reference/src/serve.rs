@@ -2,7 +2,7 @@
 
 use std::io::{self, BufReader, BufWriter, Write};
 
-use crate::call::nothing_lent;
+use crate::call::{nothing_lent, Call};
 use crate::events::Lent;
 use crate::fault::Fault;
 use crate::protocol::{Command, Response};
@@ -20,6 +20,12 @@ pub fn serve(fault: Fault) -> io::Result<()> {
             None => return responses.flush(),
             Some(Command::Set(set)) => lent = Lent::new(set, lent.serial, fault),
             Some(Command::Serial(serial)) => lent = Lent::new(lent.set, serial, fault),
+            // the set to be trimmed comes with the call
+            Some(Command::Call(Call::Trim { set })) => {
+                let lent = Lent::new(set.clone(), lent.serial.clone(), fault);
+                let call = Call::Trim { set };
+                Response::of(&call, &call.answer(&lent)).write(&mut responses)?;
+            }
             Some(Command::Call(call)) => Response::of(&call, &call.answer(&lent)).write(&mut responses)?,
         }
     }

@@ -104,6 +104,7 @@ impl Script {
                 Some(self.tell_call(Call::Import { dump, buffer }))
             }
             "export" => Some(self.tell_call(Call::Export { buffer: from_hex(words.get(1)?)? })),
+            "trim" => Some(self.tell_call(Call::Trim { set: self.lent.set.clone() })),
             "count" => tell_count(&numbers(&words[1..])?),
             "list" => told(hex(list(&self.lent.set, &self.lent.serial, Fault::None).as_bytes())),
             "fits" if self.landed => told(u8::from(self.fits()).to_string()),

@@ -1,0 +1,29 @@
+-- `board::makers::hk_trim` meets its contract: trim's own, at full speed, and the set's length. No axiom.
+use mathlib.Core.Path.{_∙_}
+use borrow.Author.Needs.{needs}
+use Rattle.descriptors.specs.Limits.{fullSpeed}
+use Rattle.trimming.proofs.Total.{totalled}
+use Rattle.board.proofs.makers.hk_trim.Statement.{statement}
+use Rattle.board.proofs.makers.hk_trim.Tie as tie
+
+full-speed-requires : tie.Need-full-speed-requires
+full-speed-requires c κs = search needs
+
+trim-requires : tie.Need-trim-requires
+trim-requires c κs = search needs
+
+length-written-requires : tie.Need-length-written-requires
+length-written-requires c κs = search needs
+
+same-length : tie.Need-same-length
+same-length c = search needs
+
+returns : tie.Need-returns
+returns c =
+    let t = rw (c .before .before .before .before .before .full-speed .ensures) at (c .before .before .before .before .trim .ensures) in
+    record { trims = t; counts = c .length-written .ensures ∙ totalled fullSpeed t }
+
+pub hk-trim-spec : {M : Type 1} → statement M
+hk-trim-spec =
+    tie.close
+    (tie.spec full-speed-requires trim-requires length-written-requires same-length returns)

@@ -1,0 +1,4 @@
+pub mod Again
+pub mod StringsIn
+pub mod Opens
+pub mod Buffer

@@ -1,0 +1,95 @@
+-- `trimming::count_kept` meets its contract. No axiom.
+use Prim.Native.Nat.{_+_, _-_, _≤_}
+use native.Mathlib.Nat.{add-zero}
+use native.Mathlib.Omega.{arith}
+use mathlib.Core.List.{[], _∷_}
+use mathlib.Core.Path.{_≡_, sym, ap, _∙_}
+use lib.ListN.{length}
+use borrow.Author.Needs.{needs}
+use Rattle.octets.specs.Sentences.{only}
+use Rattle.sets.specs.Contents.{entries}
+use Rattle.sets.proofs.Entries.{rest, rest-start, next-entry, no-entry}
+use Rattle.keeping.specs.Keeping.{keepsBy}
+use Rattle.trimming.proofs.Moving.{stays, goes, none-left}
+use Rattle.trimming.proofs.count_kept.Statement.{statement}
+use Rattle.trimming.proofs.count_kept.Tie as tie
+
+abbrev Inv-loop : tie.InvT-loop
+Inv-loop contents names zero count n₀ i₀ n i = (n ≤ i) × (length (only (keepsBy names zero) (entries contents)) ≡ n + length (only (keepsBy names zero) (rest contents i)))
+
+abbrev μ-loop : tie.MeasureT-loop
+μ-loop contents names zero count n₀ i₀ n i = count - i
+
+-- the entries from here on, where one is left and where none is
+turn : (c : tie.After-entry-at Inv-loop μ-loop)
+    → rest (c .before .before .before .before .before .args .contents .now) (c .before .before .loop .i)
+    ≡ c .entry-at .result ∷ rest (c .before .before .before .before .before .args .contents .now) (c .before .before .loop .i + 1)
+turn c =
+    next-entry (c .before .before .before .before .before .args .contents .now) (c .before .before .before .peek .result) (c .before .before .before .peek .ensures)
+    (c .before .before .loop .i) (c .before .loop-test .taken) (c .entry-at .result) (c .entry-at .ensures)
+
+end : (c : tie.After-loop Inv-loop μ-loop) → rest (c .before .before .before .before .args .contents .now) (c .before .loop .i) ≡ []
+end c =
+    no-entry (c .before .before .before .before .args .contents .now) (c .before .before .peek .result) (c .before .before .peek .ensures) (c .before .loop .i) (c .loop-test .left)
+
+peek-requires : tie.Need-peek-requires Inv-loop μ-loop
+peek-requires c κs = search needs
+
+loop-holds : tie.Need-loop-holds Inv-loop μ-loop
+loop-holds c = let a = c .before .before .args in (omega arith, rw (← rest-start (a .contents .now)) (omega arith))
+
+entry-at-requires : tie.Need-entry-at-requires Inv-loop μ-loop
+entry-at-requires c κs = search needs
+
+add-i : tie.Need-add-i Inv-loop μ-loop
+add-i c = search needs
+
+keeps-requires : tie.Need-keeps-requires Inv-loop μ-loop
+keeps-requires c κs = search needs
+
+add-n : tie.Need-add-n Inv-loop μ-loop
+add-n c = omega (arith, c .before .before .before .before .loop .inv .0)
+
+loop-less : tie.Need-loop-less Inv-loop μ-loop
+loop-less c = search needs
+
+loop-again : tie.Need-loop-again Inv-loop μ-loop
+loop-again c =
+    let s = c .before .before in
+    let a = s .before .before .before .before .before .args in
+    let l = s .before .before .loop in
+    (omega (arith, l .inv .0), l .inv .1 ∙ rw (stays (keepsBy (a .names .now) (a .zero)) (turn s) (sym (c .before .keeps .ensures) ∙ c .if1 .taken)) (omega arith))
+
+loop-less-2 : tie.Need-loop-less-2 Inv-loop μ-loop
+loop-less-2 c = search needs
+
+loop-again-2 : tie.Need-loop-again-2 Inv-loop μ-loop
+loop-again-2 c =
+    let s = c .before .before in
+    let a = s .before .before .before .before .before .args in
+    let l = s .before .before .loop in
+    (omega (arith, l .inv .0), l .inv .1 ∙ rw (goes (keepsBy (a .names .now) (a .zero)) (turn s) (sym (c .before .keeps .ensures) ∙ c .if1 .left)))
+
+returns : tie.Need-returns Inv-loop μ-loop
+returns c =
+    let a = c .before .before .before .before .args in
+    let l = c .before .loop in
+    sym (l .inv .1 ∙ ap (λ es. l .n + length es) (none-left (keepsBy (a .names .now) (a .zero)) (end c)) ∙ add-zero (l .n))
+
+pub count-kept-spec : {M : Type 1} → statement M
+count-kept-spec =
+    tie.close
+    (tie.spec
+    Inv-loop
+    μ-loop
+    peek-requires
+    loop-holds
+    entry-at-requires
+    add-i
+    keeps-requires
+    add-n
+    loop-less
+    loop-again
+    loop-less-2
+    loop-again-2
+    returns)

@@ -1,0 +1,158 @@
+-- `trimming::put_bodies` meets its contract: what is still to be read has not been written over. No axiom.
+use Prim.Native.Nat.{_+_, _-_, _≤_}
+use native.Mathlib.Omega.{arith}
+use mathlib.Core.Bool.{true}
+use mathlib.Core.List.{[], _∷_}
+use mathlib.Core.Path.{_≡_, refl, sym, _∙_}
+use lib.ListN.{length, drop}
+use borrow.Author.Needs.{needs}
+use Rattle.octets.specs.Octets.{part}
+use Rattle.octets.specs.Sentences.{only}
+use Rattle.sets.specs.Contents.{entries, endToEnd}
+use Rattle.sets.proofs.Entries.{rest, rest-start, next-entry, no-entry}
+use Rattle.writing.proofs.Written.{Going, begun, next, done, same}
+use Rattle.keeping.specs.Keeping.{keepsBy}
+use Rattle.trimming.specs.Entries.{bodiesWith}
+use Rattle.trimming.proofs.Moving.{goes, none-left, bodies-here, bodies-end, next-body, still, moved-text, room-bodies, moved-behind}
+use Rattle.trimming.proofs.put_bodies.Statement.{statement}
+use Rattle.trimming.proofs.put_bodies.Tie as tie
+
+abbrev Inv-loop : tie.InvT-loop
+Inv-loop out₀ at contents names zero count next₀ from₀ i₀ out next from i =
+    (next ≤ from)
+    × (endToEnd from (length out₀) (rest contents i) ≡ true)
+    × (drop from out ≡ drop from out₀)
+    × Going out₀ at (bodiesWith out₀ (only (keepsBy names zero) (entries contents))) out next (bodiesWith out₀ (only (keepsBy names zero) (rest contents i)))
+
+abbrev μ-loop : tie.MeasureT-loop
+μ-loop out₀ at contents names zero count next₀ from₀ i₀ out next from i = count - i
+
+-- the entries from here on, where one is left and where none is
+turn : (c : tie.After-entry-at Inv-loop μ-loop)
+    → rest (c .before .before .before .before .before .before .args .contents .now) (c .before .before .loop .i)
+    ≡ c .entry-at .result ∷ rest (c .before .before .before .before .before .before .args .contents .now) (c .before .before .loop .i + 1)
+turn c =
+    next-entry (c .before .before .before .before .before .before .args .contents .now) (c .before .before .before .peek .result) (c .before .before .before .peek .ensures)
+    (c .before .before .loop .i) (c .before .loop-test .taken) (c .entry-at .result) (c .entry-at .ensures)
+
+end : (c : tie.After-loop Inv-loop μ-loop) → rest (c .before .before .before .before .before .args .contents .now) (c .before .loop .i) ≡ []
+end c =
+    no-entry (c .before .before .before .before .before .args .contents .now) (c .before .before .peek .result) (c .before .before .peek .ensures) (c .before .loop .i) (c .loop-test .left)
+
+peek-requires : tie.Need-peek-requires Inv-loop μ-loop
+peek-requires c κs = search needs
+
+cast-from : tie.Need-cast-from Inv-loop μ-loop
+cast-from c = search needs
+
+mul-from : tie.Need-mul-from Inv-loop μ-loop
+mul-from c = search needs
+
+add-from : tie.Need-add-from Inv-loop μ-loop
+add-from c = search needs
+
+loop-holds : tie.Need-loop-holds Inv-loop μ-loop
+loop-holds c =
+    let a = c .before .before .before .args in
+    let e = rest-start (a .contents .now) in
+    let p = c .peek .ensures in
+    (rw p (c .before .before .before .pre .0), rw (p, ← e) (c .before .before .before .pre .1), refl, rw (← e) (begun (a .out .now) (a .at) _ (room-bodies (a .out .now) (keepsBy (a .names .now) (a .zero)) _ (c .before .before .before .pre .0) (c .before .before .before .pre .1))))
+
+entry-at-requires : tie.Need-entry-at-requires Inv-loop μ-loop
+entry-at-requires c κs = search needs
+
+cast-size : tie.Need-cast-size Inv-loop μ-loop
+cast-size c = search needs
+
+add-from-2 : tie.Need-add-from-2 Inv-loop μ-loop
+add-from-2 c =
+    let s = c .before in
+    let a = s .before .before .before .before .before .before .args in
+    let l = s .before .before .loop in
+    let n = next-body (turn s) (l .inv .1) in
+    omega (arith, n .inside)
+
+add-i : tie.Need-add-i Inv-loop μ-loop
+add-i c = search needs
+
+keeps-requires : tie.Need-keeps-requires Inv-loop μ-loop
+keeps-requires c κs = search needs
+
+moved-requires : tie.Need-moved-requires Inv-loop μ-loop
+moved-requires c κs =
+    let s = c .before .before .before .before in
+    let l = s .before .before .loop in
+    let n = next-body (turn s) (l .inv .1) in
+    (l .inv .0, omega (arith, n .inside, same (l .inv .3)))
+
+add-next : tie.Need-add-next Inv-loop μ-loop
+add-next c =
+    let s = c .before .before .before .before .before .before .before in
+    let l = s .before .before .loop in
+    let n = next-body (turn s) (l .inv .1) in
+    omega (arith, n .inside, l .inv .0)
+
+loop-less : tie.Need-loop-less Inv-loop μ-loop
+loop-less c = search needs
+
+loop-again : tie.Need-loop-again Inv-loop μ-loop
+loop-again c =
+    let s = c .before .before .before .before .before .before .before in
+    let a = s .before .before .before .before .before .before .args in
+    let l = s .before .before .loop in
+    let n = next-body (turn s) (l .inv .1) in
+    let size = s .entry-at .result .length in
+    let h : l .from + size ≤ length (l .out) = omega (arith, n .inside, same (l .inv .3)) in
+    let q = bodies-here (a .out .now) (keepsBy (a .names .now) (a .zero)) (turn s) (sym (c .before .before .before .before .before .keeps .ensures) ∙ c .before .before .before .before .if1 .taken) n in
+    let m = c .before .before .moved .ensures in (
+      omega (arith, l .inv .0),
+      n .later,
+      moved-behind (a .out .now) (l .out) (l .next) (l .from) size (l .inv .2) (l .inv .0) h m,
+      next (l .inv .3) (part (a .out .now) (l .from) size) _ q (moved-text (a .out .now) (l .out) (l .next) (l .from) size (l .inv .2) (l .inv .0) h m),
+    )
+
+loop-less-2 : tie.Need-loop-less-2 Inv-loop μ-loop
+loop-less-2 c = search needs
+
+loop-again-2 : tie.Need-loop-again-2 Inv-loop μ-loop
+loop-again-2 c =
+    let s = c .before .before .before in
+    let a = s .before .before .before .before .before .before .args in
+    let l = s .before .before .loop in
+    let n = next-body (turn s) (l .inv .1) in
+    let q = goes (keepsBy (a .names .now) (a .zero)) (turn s) (sym (c .before .keeps .ensures) ∙ c .if1 .left) in
+    (omega (arith, l .inv .0), n .later, still (a .out .now) (l .out) (l .next) (l .from) (s .entry-at .result .length) (l .inv .2), rw q at (l .inv .3))
+
+same-length : tie.Need-same-length Inv-loop μ-loop
+same-length c = same (c .before .loop .inv .3)
+
+returns : tie.Need-returns Inv-loop μ-loop
+returns c =
+    let a = c .before .before .before .before .before .args in
+    let l = c .before .loop in
+    done (l .inv .3) (bodies-end (a .out .now) (none-left (keepsBy (a .names .now) (a .zero)) (end c)))
+
+pub put-bodies-spec : {M : Type 1} → statement M
+put-bodies-spec =
+    tie.close
+    (tie.spec
+    Inv-loop
+    μ-loop
+    peek-requires
+    cast-from
+    mul-from
+    add-from
+    loop-holds
+    entry-at-requires
+    cast-size
+    add-from-2
+    add-i
+    keeps-requires
+    moved-requires
+    add-next
+    loop-less
+    loop-again
+    loop-less-2
+    loop-again-2
+    same-length
+    returns)
