@@ -177,7 +177,7 @@ def hexadecimal(data):
 
 
 def descriptor_line(descriptor, counted=True):
-    """A descriptor by its fields, without those that are 0 as they would be unnamed; with the counted ones or without."""
+    """A descriptor by its fields: without those that are 0 unnamed too, but for an interface's number; with the counted ones or without."""
     word = WORDS.get(descriptor[1]) if len(descriptor) > 1 and descriptor[0] == len(descriptor) else None
     fields = FIELDS[word][1] if word else []
     end = 2 + sum(size for _, size, _ in fields)
@@ -187,7 +187,7 @@ def descriptor_line(descriptor, counted=True):
     for name, size, default in fields:
         value = int.from_bytes(descriptor[at : at + size], "little")
         at += size
-        if (counted if default is None else (value, default) != (0, 0)):
+        if (counted if default is None else (value, default) != (0, 0) or name == "bInterfaceNumber"):
             words.append(f"{name} 0x{value:0{2 * size}X}" if IN_HEXADECIMAL.match(name) else f"{name} {value}")
     return " ".join(words + (["more " + hexadecimal(descriptor[end:])] if descriptor[end:] else []))
 
@@ -240,5 +240,6 @@ def text_of(data, serial):
     for at, entry in sorted(enumerate(entries), key=lambda pair: pair[1][0] != CONFIGURATION):
         lines[at] = lines_of(entry, configurations)
         configurations += lines[at][0].startswith("configuration")
-    texts = [text for at in range(len(entries)) for text in [""] * (entries[at][0] == CONFIGURATION) + lines[at]]
+    kinds = [None] + [entry[0] for entry in entries]
+    texts = [text for at in range(len(entries)) for text in [""] * (kinds[at + 1] == CONFIGURATION or kinds[at + 1] != kinds[at]) + lines[at]]
     return "\n".join(texts + serial_lines(serial)).lstrip("\n") + "\n"

@@ -1,0 +1,138 @@
+"""The library's answers as a person reads them: numbers, records, the data of a reply."""
+import os, re
+
+import paths
+from events import REQUESTS
+from text import STRING, cut, descriptor_line, entries_of, hexadecimal, string_text
+
+IMAGE_LENGTH = 32
+STATES = ["Default", "Address", "Configured"]
+
+
+def read_numbers():
+    """The numbers given back, as include/heideklonk.h has them: name and remark."""
+    with open(os.path.join(paths.TOP, "include", "heideklonk.h"), encoding="utf-8") as file:
+        section = file.read().partition("/* The numbers given back. */")[2].partition("\n\n")[0]
+    return {int(number): (name, remark) for name, number, remark in re.findall(r"#define (\w+) +(\d+) +/\* (.*?) \*/", section)}
+
+
+NUMBERS = read_numbers()
+
+
+def number_words(number):
+    name, remark = NUMBERS.get(number, ("", "no number of the library"))
+    return f"{number} {name}" + (f": {remark}" if number else "")
+
+
+# ---- the record
+# What each byte of the record's image says, where it says something. A byte that gets a meaning gets its line changed here.
+BYTES = [
+    (0, lambda value: STATES[value] if value < len(STATES) else f"state {value}"),
+    (1, lambda value: f"address {value}"),
+    (2, lambda value: f"address {value} waits" if value != 255 else ""),
+    (3, lambda value: f"configuration {value}" if value else ""),
+    (4, lambda value: "remote wakeup on" if value == 1 else f"remote wakeup {value}" if value else ""),
+    *[(at, lambda value, at=at: f"byte {at} is {value}" if value else "") for at in (5, 6, 7)],
+    *[(8 + at, lambda value, at=at: f"interface {at} at alternate {value}" if value else "") for at in range(16)],
+]
+
+
+def endpoints(bits):
+    """The addresses whose bit is set: bit e is OUT number e, bit 16 + e is IN."""
+    number = int.from_bytes(bits, "little")
+    return [bit if bit < 16 else bit - 16 + 0x80 for bit in range(32) if number >> bit & 1]
+
+
+def record_phrases(image):
+    if len(image) != IMAGE_LENGTH:
+        return [f"a record of {len(image)} bytes"]
+    phrases = [phrase(image[at]) for at, phrase in BYTES]
+    phrases += [f"halted 0x{address:02X}" for address in endpoints(image[24:28])]
+    phrases += [f"toggle 1 at 0x{address:02X}" for address in endpoints(image[28:32])]
+    return [phrase for phrase in phrases if phrase]
+
+
+# ---- the data of a reply
+def packet_size(data):
+    """bMaxPacketSize0 of an accepted set."""
+    return next(entries_of(data))[3][7]
+
+
+def status_words(setup, data):
+    if setup[0] & 31 == 2:
+        return "halted" if data[0] & 1 else "not halted"
+    if setup[0] & 31 == 1:
+        return "an interface has no status"
+    return f"{'self-powered' if data[0] & 1 else 'bus-powered'}, remote wakeup {'on' if data[0] & 2 else 'off'}"
+
+
+def data_lines(setup, data):
+    """What the data stage says, by the request that it answers."""
+    name = next((name for name, row in REQUESTS.items() if row[1] == setup[1]), "")
+    if name == "GET_STATUS":
+        return [status_words(setup, data)]
+    if name == "GET_CONFIGURATION":
+        return [f"configuration {data[0]}"]
+    if name == "GET_INTERFACE":
+        return [f"alternate setting {data[0]}"]
+    if name == "GET_DESCRIPTOR" and setup[3] == STRING and setup[2] > 0:
+        return [string_text(data[: len(data) // 2 * 2])]
+    if name == "GET_DESCRIPTOR" and setup[3] == STRING:
+        return ["languages " + " ".join(f"0x{data[at + 1]:02X}{data[at]:02X}" for at in range(2, len(data) - 1, 2))]
+    return [descriptor_line(descriptor) for descriptor in cut(data)]
+
+
+# ---- an answer
+class Answer:
+    """What a call gave back: its number, its data and where that lies, its packets, and the record before and after."""
+
+    def __init__(self, number, data, place, packets, before, image):
+        self.number, self.data, self.place, self.packets, self.before, self.image = number, data, place, packets, before, image
+
+    def outcome(self):
+        return "done" if self.number == 0 else "stall" if NUMBERS.get(self.number, ("", ""))[1].startswith("STALL") else "refused"
+
+    def brief(self):
+        return f"{self.number}" + (f" with {hexadecimal(self.data)}" if self.data else "")
+
+    def phrases(self):
+        """All that a script may expect of this answer."""
+        data = [f"{len(self.data)} bytes", f"bytes {hexadecimal(self.data)}"] if self.data else ["no data"]
+        packets = ["packets " + " ".join(map(str, self.packets))] if self.packets else []
+        same = ["record unchanged"] if self.image == self.before else ["record changed"]
+        return [str(self.number), self.outcome(), *data, *packets, *same, f"record {hexadecimal(self.image)}", *record_phrases(self.image)]
+
+    def lines(self, setup):
+        """The answer in words and in bytes, and the record where it changed."""
+        data = f"; {len(self.data)} bytes{self.place}, packets {' '.join(map(str, self.packets))}" if self.data else ""
+        yield f"answer  {number_words(self.number)}{data}"
+        for descriptor in data_lines(setup, self.data) if self.data else []:
+            yield f"        {descriptor}"
+        if self.data:
+            yield f"        {hexadecimal(self.data)}"
+        if self.image != self.before:
+            yield f"record  {', '.join(record_phrases(self.image))}"
+            yield f"        {hexadecimal(self.image)}"
+
+
+# What may stand behind => in a script.
+EXPECTED = re.compile(
+    r"\d+|done|stall|refused|no data|\d+ bytes|bytes( [0-9A-F]{2})+|packets( \d+)+|record (unchanged|changed)|record( [0-9A-F]{2})*"
+    r"|a record of \d+ bytes|Default|Address|Configured|state \d+|address \d+( waits)?|configuration \d+|remote wakeup (on|\d+)|byte \d is \d+"
+    r"|interface \d+ at alternate \d+|(halted|toggle 1 at) 0x[0-9A-F]{2}"
+)
+EXPECTED_OF_ORDERS = re.compile(r"1 end|\d+ ends|answers alike")
+
+
+def read_expected(line, text, allowed=EXPECTED):
+    """The phrases that an answer must have, or with `not` must not have."""
+    expected = [" ".join(phrase.split()) for phrase in text.split(",")]
+    for phrase in expected:
+        if not allowed.fullmatch(phrase.removeprefix("not ")):
+            raise line.mistake(f"nothing answers with `{phrase}`: docs/BENCH.md has what can be expected")
+    return expected
+
+
+def missed(expected, phrases):
+    """Those of the expected phrases that do not hold."""
+    return [phrase for phrase in expected if (phrase.removeprefix("not ") in phrases) == phrase.startswith("not ")]
