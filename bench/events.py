@@ -1,5 +1,4 @@
 """The events of a script: the words of each, and what is carried to the library."""
-import paths  # noqa: F401
 from served import BUS_RESET, HALT, PACKET_PASSED, SETUP, STATUS_END
 
 # The events other than a setup: the words, the event's number, and what follows. NOTHING, or words that stand for a number (a number can always be

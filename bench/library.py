@@ -1,5 +1,4 @@
 """The library as the bench asks it: every answer is its own, by tests/harness.c."""
-import paths  # noqa: F401
 from pieces import a_set
 from served import SETUP, CallWentWrong, Served
 from text import Mistake, piece

@@ -2,6 +2,7 @@
 import math, random
 
 from text import Mistake
+from words import count_words, missed
 
 MOST_AT_ONCE = 20000
 
@@ -17,7 +18,8 @@ class Trial:
         """Plays a driver's next line; gives the record that it leaves."""
         call = self.drivers[driver][place]
         answer = self.library.answer(call.event, image)
-        self.answers.setdefault(call, {}).setdefault((answer.number, answer.data), (answer, order + (driver,)))
+        key = answer.number, answer.data, *missed(call.expected, answer.phrases())
+        self.answers.setdefault(call, {}).setdefault(key, (answer, order + (driver,)))
         return answer.image
 
     def end(self, image, order, count):
@@ -68,4 +70,4 @@ class Trial:
 
     def phrases(self):
         alike = all(len(answers) == 1 for answers in self.answers.values())
-        return [f"{len(self.ends)} end{'s' * (len(self.ends) != 1)}"] + ["answers alike"] * alike
+        return [count_words(len(self.ends), "end")] + ["answers alike"] * alike

@@ -1,4 +1,4 @@
-"""Where the bench finds what it shares with the makers and the tests."""
+"""Where the bench's programs find what they share with the makers and the tests; each imports this before the bench's other files."""
 import os, sys
 
 TOP = os.path.dirname(os.path.dirname(os.path.abspath(__file__)))

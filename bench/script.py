@@ -1,7 +1,6 @@
 """A script as it is read: its steps, each with its line; and the lines of several drivers that are tried in orders."""
 import os, re
 
-import paths
 from events import read_event
 from text import Line, Mistake, read_entries, read_lines
 from words import EXPECTED_OF_ORDERS, read_expected

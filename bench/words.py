@@ -19,6 +19,10 @@ def read_numbers():
 NUMBERS = read_numbers()
 
 
+def count_words(count, noun):
+    return f"{count:,} {noun}{'s' * (count != 1)}"
+
+
 def number_words(number):
     name, remark = NUMBERS.get(number, ("", "no number of the library"))
     return f"{number} {name}" + (f": {remark}" if number else "")
@@ -45,7 +49,7 @@ def endpoints(bits):
 
 def record_phrases(image):
     if len(image) != IMAGE_LENGTH:
-        return [f"a record of {len(image)} bytes"]
+        return [f"a record of {count_words(len(image), 'byte')}"]
     phrases = [phrase(image[at]) for at, phrase in BYTES]
     phrases += [f"halted 0x{address:02X}" for address in endpoints(image[24:28])]
     phrases += [f"toggle 1 at 0x{address:02X}" for address in endpoints(image[28:32])]
@@ -97,14 +101,14 @@ class Answer:
 
     def phrases(self):
         """All that a script may expect of this answer."""
-        data = [f"{len(self.data)} bytes", f"bytes {hexadecimal(self.data)}"] if self.data else ["no data"]
+        data = [count_words(len(self.data), "byte"), f"bytes {hexadecimal(self.data)}"] if self.data else ["no data"]
         packets = ["packets " + " ".join(map(str, self.packets))] if self.packets else []
         same = ["record unchanged"] if self.image == self.before else ["record changed"]
         return [str(self.number), self.outcome(), *data, *packets, *same, f"record {hexadecimal(self.image)}", *record_phrases(self.image)]
 
     def lines(self, setup):
         """The answer in words and in bytes, and the record where it changed."""
-        data = f"; {len(self.data)} bytes{self.place}, packets {' '.join(map(str, self.packets))}" if self.data else ""
+        data = f"; {count_words(len(self.data), 'byte')}{self.place}, packets {' '.join(map(str, self.packets))}" if self.data else ""
         yield f"answer  {number_words(self.number)}{data}"
         for descriptor in data_lines(setup, self.data) if self.data else []:
             yield f"        {descriptor}"
@@ -117,11 +121,11 @@ class Answer:
 
 # What may stand behind => in a script.
 EXPECTED = re.compile(
-    r"\d+|done|stall|refused|no data|\d+ bytes|bytes( [0-9A-F]{2})+|packets( \d+)+|record (unchanged|changed)|record( [0-9A-F]{2})*"
-    r"|a record of \d+ bytes|Default|Address|Configured|state \d+|address \d+( waits)?|configuration \d+|remote wakeup (on|\d+)|byte \d is \d+"
+    r"\d+|done|stall|refused|no data|[\d,]+ bytes?|bytes( [0-9A-F]{2})+|packets( \d+)+|record (unchanged|changed)|record( [0-9A-F]{2})*"
+    r"|a record of [\d,]+ bytes?|Default|Address|Configured|state \d+|address \d+( waits)?|configuration \d+|remote wakeup (on|\d+)|byte \d is \d+"
     r"|interface \d+ at alternate \d+|(halted|toggle 1 at) 0x[0-9A-F]{2}"
 )
-EXPECTED_OF_ORDERS = re.compile(r"1 end|\d+ ends|answers alike")
+EXPECTED_OF_ORDERS = re.compile(r"[\d,]+ ends?|answers alike")
 
 
 def read_expected(line, text, allowed=EXPECTED):
