@@ -1,6 +1,6 @@
 """The library as the bench asks it: every answer is its own, by tests/harness.c."""
 from pieces import a_set
-from served import SETUP, CallWentWrong, Served
+from served import SETUP, Served
 from text import Mistake, piece
 from words import Answer, packet_size
 
@@ -14,10 +14,7 @@ class Library(Served):
 
     def answer(self, event, before):
         """The answer to an event, or to opening where there is none."""
-        try:
-            number, given, (block, offset, length), image = self.open(before) if event is None else self.event(*event, before)
-        except CallWentWrong as error:
-            raise Mistake(f"the library's call went wrong: {error}") from None
+        number, given, (block, offset, length), image = self.open(before) if event is None else self.event(*event, before)
         place = ""
         if length > 0:
             given = (self.data, self.serial)[block][offset : offset + length]

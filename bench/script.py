@@ -3,7 +3,7 @@ import os, re
 
 from events import read_event
 from text import Line, Mistake, read_entries, read_lines
-from words import EXPECTED_OF_ORDERS, read_expected
+from words import EXPECTED_OF_ORDERS, count_words, read_expected
 
 
 def read_file(path):
@@ -41,7 +41,7 @@ class Lending:
         if self.at is None:
             return self.data
         if self.at + len(self.data) > len(before):
-            raise self.line.mistake(f"the {self.block} has only {len(before)} bytes")
+            raise Mistake(f"the {self.block} has only {count_words(len(before), 'byte')}")
         return before[: self.at] + self.data + before[self.at + len(self.data) :]
 
 

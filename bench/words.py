@@ -1,12 +1,11 @@
 """The library's answers as a person reads them: numbers, records, the data of a reply."""
-import os, re
+import collections, os, re
 
 import paths
 from events import REQUESTS
 from text import STRING, cut, descriptor_line, entries_of, hexadecimal, string_text
 
 IMAGE_LENGTH = 32
-STATES = ["Default", "Address", "Configured"]
 
 
 def read_numbers():
@@ -29,16 +28,18 @@ def number_words(number):
 
 
 # ---- the record
-# What each byte of the record's image says, where it says something. A byte that gets a meaning gets its line changed here.
+# What each byte of the record's image says: words for some of its values, and for the others words around the value. A byte that gets a meaning
+# gets its row here.
 BYTES = [
-    (0, lambda value: STATES[value] if value < len(STATES) else f"state {value}"),
-    (1, lambda value: f"address {value}"),
-    (2, lambda value: f"address {value} waits" if value != 255 else ""),
-    (3, lambda value: f"configuration {value}" if value else ""),
-    (4, lambda value: "remote wakeup on" if value == 1 else f"remote wakeup {value}" if value else ""),
-    *[(at, lambda value, at=at: f"byte {at} is {value}" if value else "") for at in (5, 6, 7)],
-    *[(8 + at, lambda value, at=at: f"interface {at} at alternate {value}" if value else "") for at in range(16)],
+    (0, {0: "Default", 1: "Address", 2: "Configured"}, "state {}"),
+    (1, {}, "address {}"),
+    (2, {255: ""}, "address {} waits"),
+    (3, {0: ""}, "configuration {}"),
+    (4, {0: "", 1: "remote wakeup on"}, "remote wakeup {}"),
+    *[(at, {0: ""}, f"byte {at} is {{}}") for at in (5, 6, 7)],
+    *[(8 + number, {0: ""}, f"interface {number} at alternate {{}}") for number in range(16)],
 ]
+ENDPOINTS = ["halted 0x{:02X}", "toggle 1 at 0x{:02X}"]
 
 
 def endpoints(bits):
@@ -50,9 +51,9 @@ def endpoints(bits):
 def record_phrases(image):
     if len(image) != IMAGE_LENGTH:
         return [f"a record of {count_words(len(image), 'byte')}"]
-    phrases = [phrase(image[at]) for at, phrase in BYTES]
-    phrases += [f"halted 0x{address:02X}" for address in endpoints(image[24:28])]
-    phrases += [f"toggle 1 at 0x{address:02X}" for address in endpoints(image[28:32])]
+    phrases = [words.get(image[at], template.format(image[at])) for at, words, template in BYTES]
+    for template, bits in zip(ENDPOINTS, (image[24:28], image[28:32])):
+        phrases += [template.format(address) for address in endpoints(bits)]
     return [phrase for phrase in phrases if phrase]
 
 
@@ -87,11 +88,8 @@ def data_lines(setup, data):
 
 
 # ---- an answer
-class Answer:
+class Answer(collections.namedtuple("Answer", "number data place packets before image")):
     """What a call gave back: its number, its data and where that lies, its packets, and the record before and after."""
-
-    def __init__(self, number, data, place, packets, before, image):
-        self.number, self.data, self.place, self.packets, self.before, self.image = number, data, place, packets, before, image
 
     def outcome(self):
         return "done" if self.number == 0 else "stall" if NUMBERS.get(self.number, ("", ""))[1].startswith("STALL") else "refused"
@@ -119,12 +117,15 @@ class Answer:
             yield f"        {hexadecimal(self.image)}"
 
 
-# What may stand behind => in a script.
-EXPECTED = re.compile(
-    r"\d+|done|stall|refused|no data|[\d,]+ bytes?|bytes( [0-9A-F]{2})+|packets( \d+)+|record (unchanged|changed)|record( [0-9A-F]{2})*"
-    r"|a record of [\d,]+ bytes?|Default|Address|Configured|state \d+|address \d+( waits)?|configuration \d+|remote wakeup (on|\d+)|byte \d is \d+"
-    r"|interface \d+ at alternate \d+|(halted|toggle 1 at) 0x[0-9A-F]{2}"
-)
+# What may stand behind => in a script: the phrases of an answer, as patterns.
+PATTERNS = [
+    *(r"\d+", "done|stall|refused", r"no data|[\d,]+ bytes?", "bytes( [0-9A-F]{2})+", r"packets( \d+)+"),
+    *("record (unchanged|changed)", "record( [0-9A-F]{2})*", r"a record of [\d,]+ bytes?"),
+    *[phrase for _, words, _ in BYTES for phrase in words.values() if phrase],
+    *[template.format(r"\d+") for _, _, template in BYTES],
+    *[template.replace("{:02X}", "[0-9A-F]{2}") for template in ENDPOINTS],
+]
+EXPECTED = re.compile("|".join(f"({pattern})" for pattern in PATTERNS))
 EXPECTED_OF_ORDERS = re.compile(r"[\d,]+ ends?|answers alike")
 
 

@@ -58,7 +58,7 @@ class Served:
         self.process.stdin.flush()
         head = self.process.stdout.read(18)
         if len(head) < 18 or head[0] != 0:
-            raise CallWentWrong(ERRORS[head[0]] if len(head) == 18 and head[0] < len(ERRORS) else "the program ended")
+            raise CallWentWrong(ERRORS[head[0]] if len(head) == 18 else "the program ended")
         numbers = [int.from_bytes(head[at : at + 4], "little") for at in (6, 10, 14)]
         return head[1], head[3 : 3 + head[2]], (head[5], *numbers[:2]), self.process.stdout.read(numbers[2])
 
