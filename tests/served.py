@@ -1,4 +1,5 @@
-"""The reference, asked one call after the other: for the scripts that hold a program's stored output to it."""
+"""The library in its harness, or the reference, asked one call after the other: for the bench, and for the scripts that hold a program's stored
+output to the reference."""
 import os, subprocess
 
 from pieces import word
@@ -6,18 +7,38 @@ from pieces import word
 TOP = os.path.dirname(os.path.dirname(os.path.abspath(__file__)))
 REFERENCE = os.path.join(TOP, "target", "reference", "release", "reference")
 
+# The events by their numbers in include/heideklonk.h, and the operation of each in the protocol.
 SETUP, STATUS_END, BUS_RESET, HALT, PACKET_PASSED, POWER = range(6)
+OPERATIONS = b"serhpP"
 
 
 def block(data):
     return len(data).to_bytes(4, "little") + data
 
 
-class Reference:
-    """`reference serve`, which speaks the protocol of tests/harness.c."""
+# What a response says of a call that went wrong, by its first byte.
+ERRORS = [
+    "",
+    "a byte outside the blocks, or in one that is only read, was changed",
+    "the part lies in no block that was lent, or was not written",
+    "memory outside the blocks was touched",
+    "the call stopped the program",
+    "the command was not understood",
+]
+
+
+class CallWentWrong(Exception):
+    pass
+
+
+class Served:
+    """A program that speaks the protocol of tests/reference/src/protocol.rs."""
+
+    def __init__(self, command):
+        self.command = command
 
     def __enter__(self):
-        self.process = subprocess.Popen([REFERENCE, "serve"], stdin=subprocess.PIPE, stdout=subprocess.PIPE)
+        self.process = subprocess.Popen(self.command, stdin=subprocess.PIPE, stdout=subprocess.PIPE)
         return self
 
     def __exit__(self, *_):
@@ -36,17 +57,22 @@ class Reference:
         self.say(operation, rest)
         self.process.stdin.flush()
         head = self.process.stdout.read(18)
+        if len(head) < 18 or head[0] != 0:
+            raise CallWentWrong(ERRORS[head[0]] if len(head) == 18 else "the program ended")
         numbers = [int.from_bytes(head[at : at + 4], "little") for at in (6, 10, 14)]
-        assert head[0] == 0
         return head[1], head[3 : 3 + head[2]], (head[5], *numbers[:2]), self.process.stdout.read(numbers[2])
 
     def open(self, image):
         return self.ask(b"o", block(image))
 
     def event(self, kind, carried, image):
-        if kind == SETUP:
-            return self.ask(b"s", block(image) + block(carried))
-        return self.ask(b" erhpP"[kind : kind + 1], carried + block(image))
+        operation = OPERATIONS[kind : kind + 1]
+        return self.ask(operation, block(image) + block(carried) if kind == SETUP else carried + block(image))
+
+    def write(self, pieces, size=16384):
+        """hk_write: the number, and the set that it wrote with the serial block lent."""
+        number, _, part, buffer = self.ask(b"w", block(pieces) + block(bytes(size)))
+        return number, buffer[: part[2]]
 
     def packets(self, length, asked, size):
         """The lengths of the packets."""
@@ -55,6 +81,13 @@ class Reference:
             if number != 0:
                 return
             yield part[2]
+
+
+class Reference(Served):
+    """`reference serve`."""
+
+    def __init__(self):
+        super().__init__([REFERENCE, "serve"])
 
 
 def differing(stored, expected):

@@ -1,0 +1,100 @@
+"""A script as it is read: its steps, each with its line; and the lines of several drivers that are tried in orders."""
+import os, re
+
+from events import read_event
+from text import Line, Mistake, read_entries, read_lines
+from words import EXPECTED_OF_ORDERS, count_words, read_expected
+
+
+def read_file(path):
+    with open(path, "rb") as file:
+        return file.read()
+
+
+class Lending:
+    """A set, as its file has it or of its text; or a serial block; or a record, or some bytes of one of them."""
+
+    def __init__(self, line, folder):
+        self.line, self.block, self.text, self.at, self.data = line, line.word, None, None, b""
+        found = re.fullmatch(r"(\d+): *(.*)", line.rest)
+        if found:
+            self.at, self.data = int(found[1]), line.read_bytes(found[2])
+        elif line.word == "record":
+            self.data = line.read_bytes(line.rest)
+        elif (line.word, line.rest) != ("serial", "none"):
+            self.read(os.path.join(folder, line.rest))
+
+    def read(self, path):
+        try:
+            if self.block == "set" and path.endswith(".txt"):
+                with open(path, encoding="utf-8") as file:
+                    self.text = read_entries(file)
+            else:
+                self.data = read_file(path)
+        except OSError as error:
+            raise self.line.mistake(f"{path}: {error.strerror}") from None
+        except (Mistake, UnicodeDecodeError) as mistake:
+            raise self.line.mistake(f"{path}, {mistake}") from None
+
+    def changed(self, before):
+        """The block that is lent from now on."""
+        if self.at is None:
+            return self.data
+        if self.at + len(self.data) > len(before):
+            raise Mistake(f"the {self.block} has only {count_words(len(before), 'byte')}")
+        return before[: self.at] + self.data + before[self.at + len(self.data) :]
+
+
+class Call:
+    """`open` or an event, and what is expected of the answer."""
+
+    def __init__(self, line):
+        text, arrow, expected = line.text.partition("=>")
+        self.line = Line(line.number, text.strip())
+        self.event = None if self.line.text == "open" else read_event(self.line)
+        self.expected = read_expected(line, expected) if arrow else []
+
+    def setup(self):
+        """The bytes of a setup, or nothing."""
+        return self.event[1] if self.event and self.event[0] == 0 else b""
+
+
+class Orders:
+    """The lines of several drivers: each driver's in their order, the drivers' in every order among them or in some that are drawn."""
+
+    def __init__(self, line):
+        text, arrow, expected = line.text.partition("=>")
+        found = re.fullmatch(r"orders (?:every|drawn (\d+)(?: seed (\d+))?)", " ".join(text.split()))
+        if not found:
+            raise line.mistake("orders are `orders every`, `orders drawn 1000` or `orders drawn 1000 seed 7`")
+        self.line, self.drivers = line, []
+        self.drawn, self.seed = int(found[1] or 0), int(found[2] or 1)
+        self.expected = read_expected(line, expected, EXPECTED_OF_ORDERS) if arrow else ["1 end", "answers alike"]
+
+    def add(self, line):
+        if line.word == "driver":
+            self.drivers.append((line.rest, []))
+        elif line.word in ("set", "serial", "record", "orders") or not self.drivers:
+            raise line.mistake("among orders, lines are `driver NAME`, events, and `end`")
+        else:
+            self.drivers[-1][1].append(Call(line))
+
+
+def read_script(path):
+    """The steps of a script; an error names its line."""
+    steps, orders = [], None
+    with open(path, encoding="utf-8") as file:
+        for line in read_lines(file):
+            if line.text == "end" and orders:
+                orders = None
+            elif orders:
+                orders.add(line)
+            elif line.word == "orders":
+                steps.append(orders := Orders(line))
+            elif line.word in ("set", "serial", "record"):
+                steps.append(Lending(line, os.path.dirname(path)))
+            else:
+                steps.append(Call(line))
+    if orders:
+        raise orders.line.mistake("these orders have no `end`")
+    return steps
