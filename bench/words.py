@@ -36,7 +36,8 @@ BYTES = [
     (2, {255: ""}, "address {} waits"),
     (3, {0: ""}, "configuration {}"),
     (4, {0: "", 1: "remote wakeup on"}, "remote wakeup {}"),
-    *[(at, {0: ""}, f"byte {at} is {{}}") for at in (5, 6, 7)],
+    (5, {0: "", 1: "on its own supply"}, "power source {}"),
+    *[(at, {0: ""}, f"byte {at} is {{}}") for at in (6, 7)],
     *[(8 + number, {0: ""}, f"interface {number} at alternate {{}}") for number in range(16)],
 ]
 ENDPOINTS = ["halted 0x{:02X}", "toggle 1 at 0x{:02X}"]
