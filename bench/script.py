@@ -64,7 +64,7 @@ class Orders:
 
     def __init__(self, line):
         text, arrow, expected = line.text.partition("=>")
-        found = re.fullmatch(r"orders (?:every|drawn (\d+)(?: seed (\d+))?)", " ".join(text.split()))
+        found = re.fullmatch(r"orders (?:every|drawn ([1-9]\d*)(?: seed (\d+))?)", " ".join(text.split()))
         if not found:
             raise line.mistake("orders are `orders every`, `orders drawn 1000` or `orders drawn 1000 seed 7`")
         self.line, self.drivers = line, []
