@@ -14,7 +14,7 @@ use Rattle.octets.proofs.Sentences.{both, conjunct, every-member, member-every}
 use Rattle.descriptors.specs.declared.Limits.{Limits}
 use Rattle.descriptors.specs.Limits.{named}
 use Rattle.descriptors.specs.Cut.{cut, descriptorsOf, wellCut}
-use Rattle.descriptors.specs.Table.{has}
+use Rattle.octets.specs.Table.{has}
 use Rattle.descriptors.specs.Configuration.{bConfigurationValue, goodConfiguration, goodDescriptors}
 use Rattle.sets.specs.declared.Entry.{Entry}
 use Rattle.sets.specs.Contents.{entriesFrom, entries, bodies, entriesOf, before, count, total, bodiesAt, endToEnd, goodFrame, goodContents}
