@@ -17,6 +17,10 @@ use crate::vectors;
 const DEFAULT_SETS: usize = 100_000;
 const DEFAULT_CALLS: usize = 200_000;
 
+/// The numbers that opening gives back, and all of them.
+const OPENING_NUMBERS: [u8; 7] = [0, 1, 2, 3, 4, 5, 6];
+const NUMBERS: [u8; 18] = [0, 1, 2, 3, 4, 5, 6, 7, 8, 9, 10, 11, 12, 13, 14, 15, 16, 19];
+
 /// So many differences are enough to choose the smallest from.
 const PATIENCE: usize = 1_000;
 
@@ -174,7 +178,7 @@ fn compare_opening(arguments: &Arguments, sets: usize) -> Verdict {
     let by_name =
         rules.iter().map(|(rule, count)| (format!("{} {}", rule.group(), kebab(&format!("{rule:?}"))), *count));
     let demanded = sets >= DEFAULT_SETS;
-    Ok(same & reached(&numbered(&numbers[..=6]), demanded) & reached(&by_name.collect::<Vec<_>>(), demanded))
+    Ok(same & reached(&numbered(&numbers, &OPENING_NUMBERS), demanded) & reached(&by_name.collect::<Vec<_>>(), demanded))
 }
 
 fn compare_whole(arguments: &Arguments, calls: usize) -> Verdict {
@@ -185,7 +189,7 @@ fn compare_whole(arguments: &Arguments, calls: usize) -> Verdict {
     if let Some(unlike) = &unlike {
         println!("{unlike}");
     }
-    Ok(same & unlike.is_none() & reached(&numbered(&numbers), calls >= DEFAULT_CALLS))
+    Ok(same & unlike.is_none() & reached(&numbered(&numbers, &NUMBERS), calls >= DEFAULT_CALLS))
 }
 
 /// Tells how a comparison went and how long it took.
@@ -195,8 +199,8 @@ fn ended(comparison: Comparison, part: &str, unit: &str) -> Verdict {
     Ok(agrees(&format!("{part}: {calls} {unit} in {:.1} s", start.elapsed().as_secs_f64()), &findings))
 }
 
-fn numbered(counts: &[usize]) -> Vec<(String, usize)> {
-    counts.iter().enumerate().map(|(number, &count)| (format!("number {number}"), count)).collect()
+fn numbered(counts: &[usize; 256], numbers: &[u8]) -> Vec<(String, usize)> {
+    numbers.iter().map(|&number| (format!("number {number}"), counts[usize::from(number)])).collect()
 }
 
 /// Prints how often each was reached; whether all were, where that is demanded: a short run misses some.
