@@ -98,7 +98,7 @@ module _ {b : Board} {set serial : Spot} {image setup : List ℕ} {n : ℕ} {lef
       go (inr p) = inr (r .answers .shows ∙ rw p)
 
   -- never longer than asked
-  pub replyLength : length (reply bytes counted shown) ≤ setupOf setup .length
+  pub replyLength : length (reply bytes counted shown) ≤ setupOf setup .wLength
   replyLength =
       let slice = inBlock (b .set) (b .serial) (partOf answer .block) in
       let most = eventWithin b image setup in
@@ -112,21 +112,21 @@ module _ {b : Board} {set serial : Spot} {image setup : List ℕ} {n : ℕ} {lef
       ) (omega arith)
 
   -- so where the setup was answered 0, it can be cut into packets of the set's bMaxPacketSize0
-  pub replyCuts : n ≡ 0 → canCut (length (reply bytes counted shown)) (setupOf setup .length) (packetSize b) ≡ true
-  replyCuts z = sizeCuts b (doneAccepted b image (setupEvent setup) (sym (r .answers .number) ∙ z)) _ (setupOf setup .length) replyLength
+  pub replyCuts : n ≡ 0 → canCut (length (reply bytes counted shown)) (setupOf setup .wLength) (packetSize b) ≡ true
+  replyCuts z = sizeCuts b (doneAccepted b image (setupEvent setup) (sym (r .answers .number) ∙ z)) _ (setupOf setup .wLength) replyLength
 
 -- ---- the whole transfer: a setup that was answered 0, and the packets of what it handed back, wherever that lies, by any cutter that meets
 -- its statement: those below the count put together are the reply, each of them is given, and every later one is refused with 15
 pub transfer : {b : Board} {set serial : Spot} {image setup : List ℕ} {left bytes : List ℕ} {counted : ℕ} {shown : List ℕ} {spot : Spot}
     → AnswersSetup b set serial image setup 0 left bytes counted shown spot
     → (at : Spot) (number : ℕ → ℕ) (packets : ℕ → List ℕ) (place : ℕ → Spot)
-    → ((k : ℕ) → CutsPacket (reply bytes counted shown) at (setupOf setup .length) (packetSize b) k (number k) (packets k) (place k))
-    → (let many = count (length (reply bytes counted shown)) (setupOf setup .length) (packetSize b) in
+    → ((k : ℕ) → CutsPacket (reply bytes counted shown) at (setupOf setup .wLength) (packetSize b) k (number k) (packets k) (place k))
+    → (let many = count (length (reply bytes counted shown)) (setupOf setup .wLength) (packetSize b) in
     (flatMap packets (upTo many) ≡ reply bytes counted shown) × ((k : ℕ) → k < many → number k ≡ 0) × ((k : ℕ) → many ≤ k → number k ≡ 15))
 transfer {b} {setup = setup} {bytes = bytes} {counted} {shown} r at number packets place cuts =
     let can = replyCuts r refl in
     let out = reply bytes counted shown in
-    let w = setupOf setup .length in (
+    let w = setupOf setup .wLength in (
       together out at w (packetSize b) number packets place cuts can,
       within out at w (packetSize b) number packets place cuts can,
       beyond out at w (packetSize b) number packets place cuts can,

@@ -27,15 +27,15 @@ fitting true true p = refl
 fitting true false p = absurd (omega arith)
 fitting false f p = absurd (omega arith)
 
-pub one-byte : (state : ℕ) (s : Setup) → refusal state s ≡ 0 → takesByte (s .code) ≡ true → s .value < 256
+pub one-byte : (state : ℕ) (s : Setup) → refusal state s ≡ 0 → takesByte (s .bRequest) ≡ true → s .wValue < 256
 unfolding refusal
 one-byte state s p q = go (rowOf s) refl p
   where
-    go : (o : Option Row) → rowOf s ≡ o → refusalAt o state s ≡ 0 → s .value < 256
+    go : (o : Option Row) → rowOf s ≡ o → refusalAt o state s ≡ 0 → s .wValue < 256
     go none e p = absurd (omega arith)
     go (some r) e p =
-        let (m, t) = first-some (λ r. eqb (r .kind) (s .kind) && eqb (r .code) (s .code)) table e in
-        let same = eqb-true (r .code) (s .code) (both (eqb (r .kind) (s .kind)) (eqb (r .code) (s .code)) t .1) in
+        let (m, t) = first-some (λ r. eqb (r .kind) (s .bmRequestType) && eqb (r .code) (s .bRequest)) table e in
+        let same = eqb-true (r .code) (s .bRequest) (both (eqb (r .kind) (s .bmRequestType)) (eqb (r .code) (s .bRequest)) t .1) in
         let asked = if-then (takesByte (r .code)) (leb (r .value) 255) (every-member (λ r. takesByte (r .code) ⇒ leb (r .value) 255) bytes m) (ap takesByte same ∙ q) in
-        let fits = conjunct 0 (leb (s .value) (r .value) ∷ leb (s .index) (largestIndex r (s .value)) ∷ leb (r .shortest) (s .length) ∷ leb (s .length) (r .longest) ∷ []) (fitting (inState r state) (fieldsFit r s) p) in
-        omega (arith, leb-true (s .value) (r .value) fits, leb-true (r .value) 255 asked)
+        let fits = conjunct 0 (leb (s .wValue) (r .value) ∷ leb (s .wIndex) (largestIndex r (s .wValue)) ∷ leb (r .shortest) (s .wLength) ∷ leb (s .wLength) (r .longest) ∷ []) (fitting (inState r state) (fieldsFit r s) p) in
+        omega (arith, leb-true (s .wValue) (r .value) fits, leb-true (r .value) 255 asked)

@@ -22,8 +22,8 @@ listedBy c address = Option·map (λ e. e .interface) (addressed address (c .end
 
 abbrev pub setupConcerns : Configuration → Setup → Option ℕ
 setupConcerns c s =
-    pick (eqb (recipient s) 1) (pick (hasInterface c (s .index)) (some (s .index)) none)
-    (pick (eqb (recipient s) 2) (listedBy c (s .index)) none)
+    pick (eqb (recipient s) 1) (pick (hasInterface c (s .wIndex)) (some (s .wIndex)) none)
+    (pick (eqb (recipient s) 2) (listedBy c (s .wIndex)) none)
 
 -- what an event names: a setup, the address of an endpoint, or neither: then it is the whole device's
 pub data Subject : Type 0 where

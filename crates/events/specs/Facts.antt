@@ -34,7 +34,7 @@ feature on v d s = byRecipient s (deviceFeature (digit on) v d s) (interfaceFeat
 -- ---- what is asked of a board
 -- an event's question, put as a setup: that of a function event names its endpoint, that of other events nothing
 abbrev pub naming : ℕ → Setup
-naming address = record { kind = 0; code = 0; value = 0; index = address; length = 0 }
+naming address = record { bmRequestType = 0; bRequest = 0; wValue = 0; wIndex = address; wLength = 0 }
 
 abbrev pub questionOf : Event → Setup
 questionOf (Request s) = s
@@ -50,14 +50,14 @@ questionOf Wake = naming 0
 
 -- what it asks of the selected configuration
 abbrev pub askedBy : Setup → Asked
-askedBy s = record { address = s .index; interface = s .index; alternate = s .value }
+askedBy s = record { address = s .wIndex; interface = s .wIndex; alternate = s .wValue }
 
 -- facts are true of a view, at a record, for a question; two are told only to the request that asks
 pub record Tells (v : View) (d : Device) (s : Setup) (f : Facts) : Type 0 where
   pub configured : f .configured ≡ hasValue (record { 0 = d .configuration }) (v .configurations)
   pub waking : f .waking ≡ wakes v
   pub surveyed : Surveys (selected v d) (d .alternates) (askedBy s) (f .survey)
-  pub interface : f .interface ≡ hasInterface (selected v d) (s .index)
-  pub small : hasSetting (selected v d) (s .index) (s .value) ≡ true → (s .index < 16) × (s .value < 16)
-  pub configuration : s .code ≡ 0x09 → s .value < 256 → f .configuration ≡ hasValue (record { 0 = s .value }) (v .configurations)
-  pub located : s .code ≡ 0x06 → f .located ≡ locate v s
+  pub interface : f .interface ≡ hasInterface (selected v d) (s .wIndex)
+  pub small : hasSetting (selected v d) (s .wIndex) (s .wValue) ≡ true → (s .wIndex < 16) × (s .wValue < 16)
+  pub configuration : s .bRequest ≡ 0x09 → s .wValue < 256 → f .configuration ≡ hasValue (record { 0 = s .wValue }) (v .configurations)
+  pub located : s .bRequest ≡ 0x06 → f .located ≡ locate v s

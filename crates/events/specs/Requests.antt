@@ -53,24 +53,24 @@ abbrev pub getEndpointStatus : View → Device → ℕ → Outcome
 getEndpointStatus v d index = pick (isEndpointZero index) (gives (TwoBytes 0 0) d) (endpointStatus d (endpointAt v d index))
 
 unfoldable pub getStatus : View → Device → Setup → Outcome
-getStatus v d s = byRecipient s (getDeviceStatus d) (getInterfaceStatus v d (s .index)) (getEndpointStatus v d (s .index))
+getStatus v d s = byRecipient s (getDeviceStatus d) (getInterfaceStatus v d (s .wIndex)) (getEndpointStatus v d (s .wIndex))
 
 -- ---- CLEAR_FEATURE and SET_FEATURE
 -- "Features: device 1 (wakeup, if supported)"
 abbrev pub deviceFeature : ℕ → View → Device → Setup → Outcome
-deviceFeature on v d s = pick (eqb (s .value) 1 && wakes v) (done (withWakeup on d)) (refused 14 d)
+deviceFeature on v d s = pick (eqb (s .wValue) 1 && wakes v) (done (withWakeup on d)) (refused 14 d)
 
 -- "Interfaces and endpoint zero have none. 13 comes before 14."
 abbrev pub interfaceFeature : View → Device → Setup → Outcome
-interfaceFeature v d s = pick (hasInterface (selected v d) (s .index)) (refused 14 d) (refused 13 d)
+interfaceFeature v d s = pick (hasInterface (selected v d) (s .wIndex)) (refused 14 d) (refused 13 d)
 
 -- "endpoint 0 (halt, bulk and interrupt only)"
 abbrev pub haltFeature : (Device → ℕ → Device) → Device → Setup → Option Endpoint → Outcome
 haltFeature change d s none = refused 13 d
-haltFeature change d s (some e) = pick (eqb (s .value) 0 && canHalt e) (done (change d (bitOf (e .address)))) (refused 14 d)
+haltFeature change d s (some e) = pick (eqb (s .wValue) 0 && canHalt e) (done (change d (bitOf (e .address)))) (refused 14 d)
 
 abbrev pub endpointFeature : (Device → ℕ → Device) → View → Device → Setup → Outcome
-endpointFeature change v d s = pick (isEndpointZero (s .index)) (refused 14 d) (haltFeature change d s (endpointAt v d (s .index)))
+endpointFeature change v d s = pick (isEndpointZero (s .wIndex)) (refused 14 d) (haltFeature change d s (endpointAt v d (s .wIndex)))
 
 -- "Clearing a halt sets the toggle to 0, halted or not"
 abbrev pub clearHalt : Device → ℕ → Device
@@ -88,7 +88,7 @@ setFeature v d s = byRecipient s (deviceFeature 1 v d s) (interfaceFeature v d s
 
 -- ---- SET_ADDRESS: "the address waits"
 unfoldable pub setAddress : View → Device → Setup → Outcome
-setAddress v d s = done (withWaiting (s .value) d)
+setAddress v d s = done (withWaiting (s .wValue) d)
 
 -- ---- GET_DESCRIPTOR
 abbrev pub isEntry : ℕ → ℕ → ℕ → Entry → Bool
@@ -106,16 +106,16 @@ languageFor v index asked = pick (eqb index 0) 0 (pick (member asked (v .languag
 -- where a string lies, in the language chosen: "The serial index is answered from the serial block", which is given in each listed language
 abbrev pub locateString : View → ℕ → ℕ → Located
 locateString v index language =
-    pick (leb 1 index && eqb index (v .serial)) (pick (member language (v .languages)) (Serial (v .block)) Nowhere)
+    pick (leb 1 index && eqb index (v .serialIndex)) (pick (member language (v .languages)) (Serial (v .serialLength)) Nowhere)
     (bodyAt (first (isEntry 3 index language) (v .entries)))
 
 -- where the descriptor lies that a setup asks for, whatever the record. "Device index must be 0 (13)": the one device entry has index 0;
 -- a configuration goes by its index; any other type is nowhere
 unfoldable pub locate : View → Setup → Located
 locate v s =
-    pick (eqb (s .value / 256) 3) (locateString v (s .value % 256) (languageFor v (s .value % 256) (s .index)))
-    (pick (eqb (s .value / 256) 2) (bodyAt (entryByIndex (record { 0 = s .value % 256 }) (v .entries)))
-    (pick (eqb (s .value / 256) 1) (bodyAt (first (isEntry 1 (s .value % 256) 0) (v .entries)))
+    pick (eqb (s .wValue / 256) 3) (locateString v (s .wValue % 256) (languageFor v (s .wValue % 256) (s .wIndex)))
+    (pick (eqb (s .wValue / 256) 2) (bodyAt (entryByIndex (record { 0 = s .wValue % 256 }) (v .entries)))
+    (pick (eqb (s .wValue / 256) 1) (bodyAt (first (isEntry 1 (s .wValue % 256) 0) (v .entries)))
     Nowhere))
 
 -- "never more than wLength bytes, from the start of the body"; what is nowhere gives 13
@@ -125,7 +125,7 @@ describe d asked (Serial size) = gives (SerialPart (min size asked)) d
 describe d asked Nowhere = refused 13 d
 
 unfoldable pub getDescriptor : View → Device → Setup → Outcome
-getDescriptor v d s = describe d (s .length) (locate v s)
+getDescriptor v d s = describe d (s .wLength) (locate v s)
 
 -- ---- GET_CONFIGURATION
 unfoldable pub getConfiguration : View → Device → Setup → Outcome
@@ -134,12 +134,12 @@ getConfiguration v d s = gives (OneByte (d .configuration)) d
 -- ---- SET_CONFIGURATION: "0 leads to Address. Either way alternates, halts and toggles become 0, also for the same value again."
 unfoldable pub setConfiguration : View → Device → Setup → Outcome
 setConfiguration v d s =
-    pick (eqb (s .value) 0) (done (withConfiguration inAddress 0 d))
-    (pick (hasValue (record { 0 = s .value }) (v .configurations)) (done (withConfiguration inConfigured (s .value) d)) (refused 13 d))
+    pick (eqb (s .wValue) 0) (done (withConfiguration inAddress 0 d))
+    (pick (hasValue (record { 0 = s .wValue }) (v .configurations)) (done (withConfiguration inConfigured (s .wValue) d)) (refused 13 d))
 
 -- ---- GET_INTERFACE
 unfoldable pub getInterface : View → Device → Setup → Outcome
-getInterface v d s = pick (hasInterface (selected v d) (s .index)) (gives (OneByte (getD (d .alternates) (s .index) 0)) d) (refused 13 d)
+getInterface v d s = pick (hasInterface (selected v d) (s .wIndex)) (gives (OneByte (getD (d .alternates) (s .wIndex) 0)) d) (refused 13 d)
 
 -- ---- SET_INTERFACE: "clears halts and toggles of all endpoints of that interface, old and new setting, same setting included"
 abbrev pub withSetting : View → Device → ℕ → ℕ → Device
@@ -148,4 +148,4 @@ withSetting v d j a =
     withEndpoints (set (d .alternates) j a) (cleared es (d .halts)) (cleared es (d .toggles)) d
 
 unfoldable pub setInterface : View → Device → Setup → Outcome
-setInterface v d s = pick (hasSetting (selected v d) (s .index) (s .value)) (done (withSetting v d (s .index) (s .value))) (refused 13 d)
+setInterface v d s = pick (hasSetting (selected v d) (s .wIndex) (s .wValue)) (done (withSetting v d (s .wIndex) (s .wValue))) (refused 13 d)

@@ -30,14 +30,14 @@ use Rattle.events.specs.Requests.{getStatus, clearFeature, setFeature, s
 -- ---- a setup: the request by its code (the table has no other)
 unfoldable pub request : View → Device → Setup → Outcome
 request v d s =
-    pick (eqb (s .code) 0x00) (getStatus v d s)
-    (pick (eqb (s .code) 0x01) (clearFeature v d s)
-    (pick (eqb (s .code) 0x03) (setFeature v d s)
-    (pick (eqb (s .code) 0x05) (setAddress v d s)
-    (pick (eqb (s .code) 0x06) (getDescriptor v d s)
-    (pick (eqb (s .code) 0x08) (getConfiguration v d s)
-    (pick (eqb (s .code) 0x09) (setConfiguration v d s)
-    (pick (eqb (s .code) 0x0A) (getInterface v d s)
+    pick (eqb (s .bRequest) 0x00) (getStatus v d s)
+    (pick (eqb (s .bRequest) 0x01) (clearFeature v d s)
+    (pick (eqb (s .bRequest) 0x03) (setFeature v d s)
+    (pick (eqb (s .bRequest) 0x05) (setAddress v d s)
+    (pick (eqb (s .bRequest) 0x06) (getDescriptor v d s)
+    (pick (eqb (s .bRequest) 0x08) (getConfiguration v d s)
+    (pick (eqb (s .bRequest) 0x09) (setConfiguration v d s)
+    (pick (eqb (s .bRequest) 0x0A) (getInterface v d s)
     (setInterface v d s))))))))
 
 -- the table's refusal, or else the request

@@ -27,7 +27,7 @@ fn request(facts: Facts, device: Device, setup: Setup) -> Reaction
     requires { ⌜ refusal (device .state) setup ≡ 0 ⌝ }
     ensures { λ r. ⌜ ((v : View) → Tells v device setup facts → outcomeOf r device ≡ request v device setup) ⌝ }
 {
-    let code = setup.code;
+    let code = setup.bRequest;
     match code {
         0x00 => standard::get_status(facts, device, setup),
         0x01 => standard::clear_feature(facts, device, setup),

@@ -27,7 +27,7 @@ pub fn get_status(facts: Facts, device: Device, setup: Setup) -> Reaction
     requires { ⌜ device .power < 2 ⌝ }
     ensures { λ r. ⌜ ((v : View) → Tells v device setup facts → outcomeOf r device ≡ getStatus v device setup) ⌝ }
 {
-    let recipient = setup.kind % 32;
+    let recipient = setup.bmRequestType % 32;
     if recipient == 0 {
         return gives(
             Answer::TwoBytes(device.power + 2 * device.wakeup, 0),
@@ -40,7 +40,7 @@ pub fn get_status(facts: Facts, device: Device, setup: Setup) -> Reaction
         }
         return refused(13, device);
     }
-    if endpoint::is_zero(setup.index) {
+    if endpoint::is_zero(setup.wIndex) {
         return gives(Answer::TwoBytes(0, 0), device);
     }
     let survey = facts.survey;
@@ -58,7 +58,7 @@ pub fn get_status(facts: Facts, device: Device, setup: Setup) -> Reaction
 fn device_feature(on: bool, facts: Facts, device: Device, setup: Setup) -> Reaction
     ensures { λ r. ⌜ ((v : View) → facts .waking ≡ wakes v → outcomeOf r device ≡ deviceFeature (digit on) v device setup) ⌝ }
 {
-    if (setup.value == 1) & facts.waking {
+    if (setup.wValue == 1) & facts.waking {
         let mut next = records::kept(device);
         next.wakeup = on as u8;
         return done(next);
@@ -70,7 +70,7 @@ fn device_feature(on: bool, facts: Facts, device: Device, setup: Setup) -> React
 fn endpoint_feature(on: bool, facts: Facts, device: Device, setup: Setup) -> Reaction
     ensures { λ r. ⌜ ((v : View) → Tells v device setup facts → outcomeOf r device ≡ endpointFeature (withHalt on) v device setup) ⌝ }
 {
-    if endpoint::is_zero(setup.index) {
+    if endpoint::is_zero(setup.wIndex) {
         return refused(14, device);
     }
     let survey = facts.survey;
@@ -78,7 +78,7 @@ fn endpoint_feature(on: bool, facts: Facts, device: Device, setup: Setup) -> Rea
     match asked {
         EndpointFound::Nothing => refused(13, device),
         EndpointFound::At(e) => {
-            if (setup.value == 0) & endpoint::can_halt(e) {
+            if (setup.wValue == 0) & endpoint::can_halt(e) {
                 return done(endpoint::with_halt(on, device, e));
             }
             refused(14, device)
@@ -90,7 +90,7 @@ fn endpoint_feature(on: bool, facts: Facts, device: Device, setup: Setup) -> Rea
 fn feature(on: bool, facts: Facts, device: Device, setup: Setup) -> Reaction
     ensures { λ r. ⌜ ((v : View) → Tells v device setup facts → outcomeOf r device ≡ feature on v device setup) ⌝ }
 {
-    let recipient = setup.kind % 32;
+    let recipient = setup.bmRequestType % 32;
     if recipient == 0 {
         return device_feature(on, facts, device, setup);
     }
@@ -119,11 +119,11 @@ pub fn set_feature(facts: Facts, device: Device, setup: Setup) -> Reaction
 
 // SET_ADDRESS: the address waits for the status end.
 pub fn set_address(device: Device, setup: Setup) -> Reaction
-    requires { ⌜ setup .value < 256 ⌝ }
+    requires { ⌜ setup .wValue < 256 ⌝ }
     ensures { λ r. ⌜ ((v : View) → outcomeOf r device ≡ setAddress v device setup) ⌝ }
 {
     let mut next = records::kept(device);
-    next.waiting = setup.value as u8;
+    next.waiting = setup.wValue as u8;
     done(next)
 }
 
@@ -143,11 +143,11 @@ pub fn get_descriptor(facts: Facts, device: Device, setup: Setup) -> Reaction
     let located = facts.located;
     match located {
         Located::Body { offset, length } => {
-            let length = least(length, setup.length);
+            let length = least(length, setup.wLength);
             gives(Answer::SetPart { offset, length }, device)
         }
         Located::Serial { length } => {
-            let length = least(length, setup.length);
+            let length = least(length, setup.wLength);
             gives(Answer::SerialPart { length }, device)
         }
         Located::Nowhere => refused(13, device),
@@ -182,10 +182,10 @@ fn with_configuration(state: u8, value: u8, device: Device) -> Change
 
 // SET_CONFIGURATION by value; 0 leads to Address.
 pub fn set_configuration(facts: Facts, device: Device, setup: Setup) -> Reaction
-    requires { ⌜ setup .value < 256 ⌝ }
-    ensures { λ r. ⌜ ((v : View) → facts .configuration ≡ hasValue (record { 0 = setup .value }) (v .configurations) → outcomeOf r device ≡ setConfiguration v device setup) ⌝ }
+    requires { ⌜ setup .wValue < 256 ⌝ }
+    ensures { λ r. ⌜ ((v : View) → facts .configuration ≡ hasValue (record { 0 = setup .wValue }) (v .configurations) → outcomeOf r device ≡ setConfiguration v device setup) ⌝ }
 {
-    let value = setup.value as u8;
+    let value = setup.wValue as u8;
     if value == 0 {
         return done(with_configuration(1, 0, device));
     }
@@ -201,7 +201,7 @@ pub fn get_interface(facts: Facts, device: Device, setup: Setup) -> Reaction
 {
     if facts.interface {
         let alternates = device.alternates;
-        let alternate = octets::peek(&alternates[..], setup.index as usize);
+        let alternate = octets::peek(&alternates[..], setup.wIndex as usize);
         return gives(Answer::OneByte(alternate), device);
     }
     refused(13, device)
@@ -214,8 +214,8 @@ pub fn set_interface(facts: Facts, device: Device, setup: Setup) -> Reaction
     let survey = facts.survey;
     if survey.there {
         let settings = Settings::Put {
-            interface: (setup.index % 16) as u8,
-            alternate: (setup.value % 16) as u8,
+            interface: (setup.wIndex % 16) as u8,
+            alternate: (setup.wValue % 16) as u8,
         };
         return done(Change {
             state: device.state,

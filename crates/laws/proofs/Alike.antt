@@ -163,7 +163,7 @@ module _ (v : View) (T : Type 0) (k : ℕ) (d s : Device) (h : Near v T k d s) w
     alike-feature : (change : Device → ℕ → Device) → ((e : ℕ) → home v (shared d) e ≡ k → Near v T k (change d e) (change s e))
         → (q : Setup) → Alike v T k (haltFeature change d q (endpointAt v d a)) (haltFeature change s q (endpointAt v s a))
     alike-feature change f q = at-endpoint (λ o p. Alike v T k (haltFeature change d q o) (haltFeature change s q p)) (refuse 13)
-        (λ e p. test (eqb (q .value) 0 && canHalt e)
+        (λ e p. test (eqb (q .wValue) 0 && canHalt e)
         (λ t. record { answer = refl; near = f (bitOf (e .address)) p }) (λ t. refuse 14))
 
   near-set : (e : ℕ) → home v (shared d) e ≡ k → Near v T k (setHalt d e) (setHalt s e)
@@ -201,11 +201,11 @@ module _ (v : View) (T : Type 0) (k : ℕ) (d s : Device) (h : Near v T k d s) w
   -- ---- the requests
   module _ (S : SoundConfiguration (selected v d)) (zd : Sixteen d) (zs : Sixteen s) (q : Setup) (F : Tabled q)
       (w : (j : ℕ) → setupConcerns (selected v d) q ≡ some j → j ≡ k) where
-    of-interface : recipient q ≡ 1 → hasInterface (selected v d) (q .index) ≡ true → q .index ≡ k
-    of-interface r i = w (q .index) (rw (r, i))
+    of-interface : recipient q ≡ 1 → hasInterface (selected v d) (q .wIndex) ≡ true → q .wIndex ≡ k
+    of-interface r i = w (q .wIndex) (rw (r, i))
 
-    of-endpoint : recipient q ≡ 2 → AllIn (selected v d) (q .index) k
-    of-endpoint r = all-in (selected v d) S (q .index) k (λ j p. w j (rw r p))
+    of-endpoint : recipient q ≡ 2 → AllIn (selected v d) (q .wIndex) k
+    of-endpoint r = all-in (selected v d) S (q .wIndex) k (λ j p. w j (rw r p))
 
     alike-recipient : {x y z a b c : Outcome} → Alike v T k x a → (recipient q ≡ 1 → Alike v T k y b) → (recipient q ≡ 2 → Alike v T k z c)
         → Alike v T k (byRecipient q x y z) (byRecipient q a b c)
@@ -223,19 +223,19 @@ module _ (v : View) (T : Type 0) (k : ℕ) (d s : Device) (h : Near v T k d s) w
     unfolding getStatus
     alike-get-status = alike-recipient
         (give (ap (λ (x : Shared). TwoBytes (x .power + 2 * x .wakeup) 0) (h .part .firm)))
-        (λ r. tests _ _ (interface-test (q .index)) (λ i. give refl) (λ i. refuse 13))
-        (λ r. test (isEndpointZero (q .index)) (λ z. give refl) (λ z. alike-status S (q .index) (of-endpoint r)))
+        (λ r. tests _ _ (interface-test (q .wIndex)) (λ i. give refl) (λ i. refuse 13))
+        (λ r. test (isEndpointZero (q .wIndex)) (λ z. give refl) (λ z. alike-status S (q .wIndex) (of-endpoint r)))
 
     alike-interface-feature : Alike v T k (interfaceFeature v d q) (interfaceFeature v s q)
-    alike-interface-feature = tests _ _ (interface-test (q .index)) (λ i. refuse 14) (λ i. refuse 13)
+    alike-interface-feature = tests _ _ (interface-test (q .wIndex)) (λ i. refuse 14) (λ i. refuse 13)
 
     alike-endpoint-feature : (change : Device → ℕ → Device) → ((e : ℕ) → home v (shared d) e ≡ k → Near v T k (change d e) (change s e))
         → recipient q ≡ 2 → Alike v T k (endpointFeature change v d q) (endpointFeature change v s q)
     alike-endpoint-feature change f r =
-        test (isEndpointZero (q .index)) (λ z. refuse 14) (λ z. alike-feature S (q .index) (of-endpoint r) change f q)
+        test (isEndpointZero (q .wIndex)) (λ z. refuse 14) (λ z. alike-feature S (q .wIndex) (of-endpoint r) change f q)
 
     alike-device-feature : (on : ℕ) → Alike v T k (deviceFeature on v d q) (deviceFeature on v s q)
-    alike-device-feature on = test (eqb (q .value) 1 && wakes v) (λ p. record { answer = refl; near = near-wakeup on }) (λ p. refuse 14)
+    alike-device-feature on = test (eqb (q .wValue) 1 && wakes v) (λ p. record { answer = refl; near = near-wakeup on }) (λ p. refuse 14)
 
     alike-clear-feature : Alike v T k (clearFeature v d q) (clearFeature v s q)
     unfolding clearFeature
@@ -247,9 +247,9 @@ module _ (v : View) (T : Type 0) (k : ℕ) (d s : Device) (h : Near v T k d s) w
 
     alike-set-address : Alike v T k (setAddress v d q) (setAddress v s q)
     unfolding setAddress
-    alike-set-address = record { answer = refl; near = near-waiting (q .value) }
+    alike-set-address = record { answer = refl; near = near-waiting (q .wValue) }
 
-    alike-described : (l : Located) → Alike v T k (describe d (q .length) l) (describe s (q .length) l)
+    alike-described : (l : Located) → Alike v T k (describe d (q .wLength) l) (describe s (q .wLength) l)
     alike-described (Body offset size) = give refl
     alike-described (Serial size) = give refl
     alike-described Nowhere = refuse 13
@@ -264,56 +264,56 @@ module _ (v : View) (T : Type 0) (k : ℕ) (d s : Device) (h : Near v T k d s) w
 
     alike-set-configuration : Alike v T k (setConfiguration v d q) (setConfiguration v s q)
     unfolding setConfiguration
-    alike-set-configuration = test (eqb (q .value) 0) (λ p. record { answer = refl; near = near-configuration inAddress 0 })
-        (λ p. test (any (λ c. eqb (c .value) (q .value)) (v .configurations))
-        (λ t. record { answer = refl; near = near-configuration inConfigured (q .value) }) (λ t. refuse 13))
+    alike-set-configuration = test (eqb (q .wValue) 0) (λ p. record { answer = refl; near = near-configuration inAddress 0 })
+        (λ p. test (any (λ c. eqb (c .value) (q .wValue)) (v .configurations))
+        (λ t. record { answer = refl; near = near-configuration inConfigured (q .wValue) }) (λ t. refuse 13))
 
     alike-get-interface : recipient q ≡ 1 → Alike v T k (getInterface v d q) (getInterface v s q)
     unfolding getInterface
-    alike-get-interface r = tests _ _ (interface-test (q .index))
+    alike-get-interface r = tests _ _ (interface-test (q .wIndex))
         (λ i. give (ap OneByte (rw (of-interface r i) (h .part .alternate)))) (λ i. refuse 13)
 
-    near-setting : q .index ≡ k → q .index < 16 → Near v T k (withSetting v d (q .index) (q .value)) (withSetting v s (q .index) (q .value))
+    near-setting : q .wIndex ≡ k → q .wIndex < 16 → Near v T k (withSetting v d (q .wIndex) (q .wValue)) (withSetting v s (q .wIndex) (q .wValue))
     near-setting p l = near-endpoints _ _ _ _ _ _
         (rw (← p) (chosen d zd ∙ sym (chosen s zs)))
         (λ e m. both-cleared (d .halts) (s .halts) e (h .part .halts e m))
         (λ e m. both-cleared (d .toggles) (s .toggles) e (h .part .toggles e m))
       where
-        chosen : (r : Device) → Sixteen r → getD (set (r .alternates) (q .index) (q .value)) (q .index) 0 ≡ q .value
-        chosen r z = getD-set-same (r .alternates) (q .index) (q .value) 0 (rw z l)
+        chosen : (r : Device) → Sixteen r → getD (set (r .alternates) (q .wIndex) (q .wValue)) (q .wIndex) 0 ≡ q .wValue
+        chosen r z = getD-set-same (r .alternates) (q .wIndex) (q .wValue) 0 (rw z l)
 
         both-settings : Device → List Endpoint
-        both-settings r = only (ofEither (q .index) (getD (r .alternates) (q .index) 0) (q .value)) (selected v r .endpoints)
+        both-settings r = only (ofEither (q .wIndex) (getD (r .alternates) (q .wIndex) 0) (q .wValue)) (selected v r .endpoints)
 
         same-settings : both-settings d ≡ both-settings s
         same-settings =
-            ap (λ c. only (ofEither (q .index) (getD (d .alternates) (q .index) 0) (q .value)) (c .endpoints)) same-selected
-            ∙ ap (λ x. only (ofEither (q .index) x (q .value)) (selected v s .endpoints)) (rw p (h .part .alternate))
+            ap (λ c. only (ofEither (q .wIndex) (getD (d .alternates) (q .wIndex) 0) (q .wValue)) (c .endpoints)) same-selected
+            ∙ ap (λ x. only (ofEither (q .wIndex) x (q .wValue)) (selected v s .endpoints)) (rw p (h .part .alternate))
 
         both-cleared : (b c e : ℕ) → bit b e ≡ bit c e → bit (cleared (both-settings d) b) e ≡ bit (cleared (both-settings s) c) e
         both-cleared b c e m = cleared-both (both-settings d) b c e m ∙ ap (λ l. bit (cleared l c) e) same-settings
 
     alike-set-interface : recipient q ≡ 1 → Alike v T k (setInterface v d q) (setInterface v s q)
     unfolding setInterface
-    alike-set-interface r = tests (hasSetting (selected v d) (q .index) (q .value)) (hasSetting (selected v s) (q .index) (q .value))
-        (ap (λ c. hasSetting c (q .index) (q .value)) same-selected)
+    alike-set-interface r = tests (hasSetting (selected v d) (q .wIndex) (q .wValue)) (hasSetting (selected v s) (q .wIndex) (q .wValue))
+        (ap (λ c. hasSetting c (q .wIndex) (q .wValue)) same-selected)
         (λ i.
-        let (e, l) = has-setting (selected v d) S (q .index) (q .value) i in
+        let (e, l) = has-setting (selected v d) S (q .wIndex) (q .wValue) i in
         record { answer = refl; near = near-setting (of-interface r e) l })
         (λ i. refuse 13)
 
     alike-request : Alike v T k (request v d q) (request v s q)
     unfolding request
     alike-request =
-        test (eqb (q .code) 0x00) (λ n0. alike-get-status) (λ n0.
-        test (eqb (q .code) 0x01) (λ p. alike-clear-feature) (λ n1.
-        test (eqb (q .code) 0x03) (λ p. alike-set-feature) (λ n3.
-        test (eqb (q .code) 0x05) (λ p. alike-set-address) (λ n5.
-        test (eqb (q .code) 0x06) (λ p. alike-get-descriptor) (λ n6.
-        test (eqb (q .code) 0x08) (λ p. alike-get-configuration) (λ n8.
-        test (eqb (q .code) 0x09) (λ p. alike-set-configuration) (λ n9.
+        test (eqb (q .bRequest) 0x00) (λ n0. alike-get-status) (λ n0.
+        test (eqb (q .bRequest) 0x01) (λ p. alike-clear-feature) (λ n1.
+        test (eqb (q .bRequest) 0x03) (λ p. alike-set-feature) (λ n3.
+        test (eqb (q .bRequest) 0x05) (λ p. alike-set-address) (λ n5.
+        test (eqb (q .bRequest) 0x06) (λ p. alike-get-descriptor) (λ n6.
+        test (eqb (q .bRequest) 0x08) (λ p. alike-get-configuration) (λ n8.
+        test (eqb (q .bRequest) 0x09) (λ p. alike-set-configuration) (λ n9.
         let r : recipient q ≡ 1 = F .other (rw (n5, n6, n8, n9)) (rw (n0, n1, n3)) in
-        test (eqb (q .code) 0x0A) (λ p. alike-get-interface r) (λ n. alike-set-interface r))))))))
+        test (eqb (q .bRequest) 0x0A) (λ p. alike-get-interface r) (λ n. alike-set-interface r))))))))
 
   alike-status-end : rest d ≡ rest s → Alike v T k (statusEnd d) (statusEnd s)
   unfolding statusEnd

@@ -57,7 +57,7 @@ pub data Changed (v : View) (d : Device) : Device → Type 0 where
 pub data Answered (v : View) (d : Device) : Outcome → Type 0 where
   reads : (a : Answer) → numberOf a ≡ 0 → partOf a ≡ partOf Done → Answered v d (gives a d)
   fromSet : (e : Entry) (asked : ℕ) → List·Memᴰ e (v .entries) → Answered v d (gives (SetPart (e .offset) (min (e .length) asked)) d)
-  fromSerial : (asked : ℕ) → Answered v d (gives (SerialPart (min (v .block) asked)) d)
+  fromSerial : (asked : ℕ) → Answered v d (gives (SerialPart (min (v .serialLength) asked)) d)
   changes : {x : Device} → Changed v d x → Answered v d (done x)
   refusedWith : (n : ℕ) → 10 ≤ n → n ≤ 14 → Answered v d (refused n d)
 
@@ -84,21 +84,21 @@ chosen P false p q = q refl
 -- ---- the table: what holds of a setup that it lets through
 -- a rule of the table's rows, of the row that let a setup through
 pub ruled : (f : Row → Bool) → every f table ≡ true → (state : ℕ) (s : Setup) → refusal state s ≡ 0
-    → (r : Row) × (f r ≡ true) × (r .code ≡ s .code) × (inState r state ≡ true) × (fieldsFit r s ≡ true)
+    → (r : Row) × (f r ≡ true) × (r .code ≡ s .bRequest) × (inState r state ≡ true) × (fieldsFit r s ≡ true)
 ruled f p state s q = let (r, m, k, c, i, h) = let-through state s q in (r, every-member f p m, c, i, h)
 
 -- 05 is for Default and Address alone, with an address up to 127; 09 is not for Default
-addressAllowed : (state : ℕ) (s : Setup) → refusal state s ≡ 0 → s .code ≡ 5 → (s .value ≤ 127) × (state ≤ 1)
+addressAllowed : (state : ℕ) (s : Setup) → refusal state s ≡ 0 → s .bRequest ≡ 5 → (s .wValue ≤ 127) × (state ≤ 1)
 unfolding every
 addressAllowed state s p c =
     let (r, f, k, i, h) = ruled (λ r. eqb (r .code) 5 ⇒ leb (r .value) 127 && leb (r .highest) 1) refl state s p in
     let f′ = if-then (eqb (r .code) 5) (leb (r .value) 127 && leb (r .highest) 1) f (eq-eqb (r .code) 5 (k ∙ c)) in
     let (a, b) = both (leb (r .value) 127) (leb (r .highest) 1) f′ in
-    let t = leb-true (s .value) (r .value) (conjunct 0 (leb (s .value) (r .value) ∷ _ ∷ _ ∷ _ ∷ []) h) in
+    let t = leb-true (s .wValue) (r .value) (conjunct 0 (leb (s .wValue) (r .value) ∷ _ ∷ _ ∷ _ ∷ []) h) in
     let u = leb-true state (r .highest) (both (leb (r .lowest) state) (leb state (r .highest)) i .1) in
     (omega (arith, leb-true (r .value) 127 a), omega (arith, leb-true (r .highest) 1 b))
 
-configurationAllowed : (state : ℕ) (s : Setup) → refusal state s ≡ 0 → s .code ≡ 9 → 1 ≤ state
+configurationAllowed : (state : ℕ) (s : Setup) → refusal state s ≡ 0 → s .bRequest ≡ 9 → 1 ≤ state
 unfolding every
 configurationAllowed state s p c =
     let (r, f, k, i, h) = ruled (λ r. eqb (r .code) 9 ⇒ leb 1 (r .lowest)) refl state s p in
@@ -123,14 +123,14 @@ tableRefuses state s = go (rowOf s)
 -- ---- a descriptor lies in the body of an entry, in the serial block, or nowhere
 pub data Lies (v : View) : Located → Type 0 where
   inBody : (e : Entry) → List·Memᴰ e (v .entries) → Lies v (Body (e .offset) (e .length))
-  inBlock : Lies v (Serial (v .block))
+  inBlock : Lies v (Serial (v .serialLength))
   nowhere : Lies v Nowhere
 
 lies : (v : View) (s : Setup) → Lies v (locate v s)
 unfolding locate
-lies v s = chosen (Lies v) (eqb (s .value / 256) 3) (λ e. string (s .value % 256) (languageFor v (s .value % 256) (s .index)))
-    (λ e. chosen (Lies v) (eqb (s .value / 256) 2) (λ e. numbered (record { 0 = s .value % 256 }) _ refl)
-    (λ e. chosen (Lies v) (eqb (s .value / 256) 1) (λ e. entry (isEntry 1 (s .value % 256) 0) _ refl) (λ e. nowhere)))
+lies v s = chosen (Lies v) (eqb (s .wValue / 256) 3) (λ e. string (s .wValue % 256) (languageFor v (s .wValue % 256) (s .wIndex)))
+    (λ e. chosen (Lies v) (eqb (s .wValue / 256) 2) (λ e. numbered (record { 0 = s .wValue % 256 }) _ refl)
+    (λ e. chosen (Lies v) (eqb (s .wValue / 256) 1) (λ e. entry (isEntry 1 (s .wValue % 256) 0) _ refl) (λ e. nowhere)))
   where
     numbered : (i : ConfigurationIndex) (o : Option Entry) → entryByIndex i (v .entries) ≡ o → Lies v (bodyAt o)
     numbered i none e = nowhere
@@ -141,7 +141,7 @@ lies v s = chosen (Lies v) (eqb (s .value / 256) 3) (λ e. string (s .value % 25
     entry p (some x) e = inBody x (first-some p (v .entries) e .0)
 
     string : (index language : ℕ) → Lies v (locateString v index language)
-    string index language = chosen (Lies v) (leb 1 index && eqb index (v .serial))
+    string index language = chosen (Lies v) (leb 1 index && eqb index (v .serialIndex))
         (λ e. chosen (Lies v) (member language (v .languages)) (λ e. inBlock) (λ e. nowhere)) (λ e. entry (isEntry 3 index language) _ refl)
 
 -- ---- the requests, a leaf at a time
@@ -158,8 +158,8 @@ module _ (v : View) (d : Device) (s : Setup) where
   status : Answered v d (getStatus v d s)
   unfolding getStatus
   status = recipients (reads _ refl refl)
-      (chosen (Answered v d) (hasInterface (selected v d) (s .index)) (λ e. reads _ refl refl) (λ e. missing))
-      (chosen (Answered v d) (isEndpointZero (s .index)) (λ e. reads _ refl refl) (λ e. at (endpointAt v d (s .index))))
+      (chosen (Answered v d) (hasInterface (selected v d) (s .wIndex)) (λ e. reads _ refl refl) (λ e. missing))
+      (chosen (Answered v d) (isEndpointZero (s .wIndex)) (λ e. reads _ refl refl) (λ e. at (endpointAt v d (s .wIndex))))
     where
       at : (o : Option Endpoint) → Answered v d (endpointStatus d o)
       at none = missing
@@ -169,41 +169,41 @@ module _ (v : View) (d : Device) (s : Setup) where
       → ((e : Endpoint) → List·Memᴰ e (currentEndpoints v d) → canHalt e ≡ true → Changed v d (change d (bitOf (e .address))))
       → Answered v d (byRecipient s (deviceFeature on v d s) (interfaceFeature v d s) (endpointFeature change v d s))
   features change on l changed = recipients
-      (chosen (Answered v d) (eqb (s .value) 1 && wakes v) (λ e. changes (wakeup on l (both (eqb (s .value) 1) (wakes v) e .1))) (λ e. noFeature))
-      (chosen (Answered v d) (hasInterface (selected v d) (s .index)) (λ e. noFeature) (λ e. missing))
-      (chosen (Answered v d) (isEndpointZero (s .index)) (λ e. noFeature) (λ e. at (endpointAt v d (s .index)) refl))
+      (chosen (Answered v d) (eqb (s .wValue) 1 && wakes v) (λ e. changes (wakeup on l (both (eqb (s .wValue) 1) (wakes v) e .1))) (λ e. noFeature))
+      (chosen (Answered v d) (hasInterface (selected v d) (s .wIndex)) (λ e. noFeature) (λ e. missing))
+      (chosen (Answered v d) (isEndpointZero (s .wIndex)) (λ e. noFeature) (λ e. at (endpointAt v d (s .wIndex)) refl))
     where
-      at : (o : Option Endpoint) → endpointAt v d (s .index) ≡ o → Answered v d (haltFeature change d s o)
+      at : (o : Option Endpoint) → endpointAt v d (s .wIndex) ≡ o → Answered v d (haltFeature change d s o)
       at none e = missing
-      at (some x) e = chosen (Answered v d) (eqb (s .value) 0 && canHalt x)
-          (λ t. changes (changed x (first-some (λ x. eqb (x .address) (s .index)) (currentEndpoints v d) e .0) (both (eqb (s .value) 0) (canHalt x) t .1))) (λ t. noFeature)
+      at (some x) e = chosen (Answered v d) (eqb (s .wValue) 0 && canHalt x)
+          (λ t. changes (changed x (first-some (λ x. eqb (x .address) (s .wIndex)) (currentEndpoints v d) e .0) (both (eqb (s .wValue) 0) (canHalt x) t .1))) (λ t. noFeature)
 
   descriptors : Answered v d (getDescriptor v d s)
   unfolding getDescriptor
   descriptors = at (lies v s)
     where
-      at : {l : Located} → Lies v l → Answered v d (describe d (s .length) l)
-      at (inBody e m) = fromSet e (s .length) m
-      at inBlock = fromSerial (s .length)
+      at : {l : Located} → Lies v l → Answered v d (describe d (s .wLength) l)
+      at (inBody e m) = fromSet e (s .wLength) m
+      at inBlock = fromSerial (s .wLength)
       at nowhere = missing
 
   configurations : 1 ≤ d .state → d .waiting ≡ nothing → Answered v d (setConfiguration v d s)
   unfolding setConfiguration
-  configurations l w = chosen (Answered v d) (eqb (s .value) 0) (λ e. changes (unconfigures l))
-      (λ e. chosen (Answered v d) (any (λ c. eqb (c .value) (s .value)) (v .configurations)) (λ e. changes (configures (s .value) l w e)) (λ e. missing))
+  configurations l w = chosen (Answered v d) (eqb (s .wValue) 0) (λ e. changes (unconfigures l))
+      (λ e. chosen (Answered v d) (any (λ c. eqb (c .value) (s .wValue)) (v .configurations)) (λ e. changes (configures (s .wValue) l w e)) (λ e. missing))
 
   answered : d .waiting ≡ nothing → refusal (d .state) s ≡ 0 → Answered v d (request v d s)
   unfolding request clearFeature setFeature setAddress getConfiguration getInterface setInterface
   answered w p =
-      chosen (Answered v d) (eqb (s .code) 0x00) (λ e. status)
-      (λ e. chosen (Answered v d) (eqb (s .code) 0x01) (λ e. features clearHalt 0 (lit≤ tt) unhalted)
-      (λ e. chosen (Answered v d) (eqb (s .code) 0x03) (λ e. features setHalt 1 (lit≤ tt) halted)
-      (λ e. chosen (Answered v d) (eqb (s .code) 0x05) (λ e. let (a, b) = addressAllowed (d .state) s p (eqb-true (s .code) 5 e) in changes (waits (s .value) a b))
-      (λ e. chosen (Answered v d) (eqb (s .code) 0x06) (λ e. descriptors)
-      (λ e. chosen (Answered v d) (eqb (s .code) 0x08) (λ e. reads _ refl refl)
-      (λ e. chosen (Answered v d) (eqb (s .code) 0x09) (λ e. configurations (configurationAllowed (d .state) s p (eqb-true (s .code) 9 e)) w)
-      (λ e. chosen (Answered v d) (eqb (s .code) 0x0A) (λ e. chosen (Answered v d) (hasInterface (selected v d) (s .index)) (λ e. reads _ refl refl) (λ e. missing))
-      (λ e. chosen (Answered v d) (hasSetting (selected v d) (s .index) (s .value)) (λ e. changes (sets (s .index) (s .value) e)) (λ e. missing)))))))))
+      chosen (Answered v d) (eqb (s .bRequest) 0x00) (λ e. status)
+      (λ e. chosen (Answered v d) (eqb (s .bRequest) 0x01) (λ e. features clearHalt 0 (lit≤ tt) unhalted)
+      (λ e. chosen (Answered v d) (eqb (s .bRequest) 0x03) (λ e. features setHalt 1 (lit≤ tt) halted)
+      (λ e. chosen (Answered v d) (eqb (s .bRequest) 0x05) (λ e. let (a, b) = addressAllowed (d .state) s p (eqb-true (s .bRequest) 5 e) in changes (waits (s .wValue) a b))
+      (λ e. chosen (Answered v d) (eqb (s .bRequest) 0x06) (λ e. descriptors)
+      (λ e. chosen (Answered v d) (eqb (s .bRequest) 0x08) (λ e. reads _ refl refl)
+      (λ e. chosen (Answered v d) (eqb (s .bRequest) 0x09) (λ e. configurations (configurationAllowed (d .state) s p (eqb-true (s .bRequest) 9 e)) w)
+      (λ e. chosen (Answered v d) (eqb (s .bRequest) 0x0A) (λ e. chosen (Answered v d) (hasInterface (selected v d) (s .wIndex)) (λ e. reads _ refl refl) (λ e. missing))
+      (λ e. chosen (Answered v d) (hasSetting (selected v d) (s .wIndex) (s .wValue)) (λ e. changes (sets (s .wIndex) (s .wValue) e)) (λ e. missing)))))))))
 
 -- ---- the events
 module _ (v : View) (d : Device) where

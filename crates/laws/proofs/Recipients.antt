@@ -16,7 +16,7 @@ use Rattle.requests.specs.Table.{table, rowOf, inState, fieldsFit, refusalAt, r
 
 -- the row that let a setup through
 pub let-through : (state : ℕ) (s : Setup) → refusal state s ≡ 0
-    → (r : Row) × List·Memᴰ r table × (r .kind ≡ s .kind) × (r .code ≡ s .code) × (inState r state ≡ true) × (fieldsFit r s ≡ true)
+    → (r : Row) × List·Memᴰ r table × (r .kind ≡ s .bmRequestType) × (r .code ≡ s .bRequest) × (inState r state ≡ true) × (fieldsFit r s ≡ true)
 unfolding refusal
 let-through state s p = go (rowOf s) refl p
   where
@@ -26,20 +26,20 @@ let-through state s p = go (rowOf s) refl p
     passed false b e = absurd (omega arith)
 
     go : (o : Option Row) → rowOf s ≡ o → refusalAt o state s ≡ 0
-        → (r : Row) × List·Memᴰ r table × (r .kind ≡ s .kind) × (r .code ≡ s .code) × (inState r state ≡ true) × (fieldsFit r s ≡ true)
+        → (r : Row) × List·Memᴰ r table × (r .kind ≡ s .bmRequestType) × (r .code ≡ s .bRequest) × (inState r state ≡ true) × (fieldsFit r s ≡ true)
     go none q n = absurd (omega arith)
     go (some r) q n =
-        let (m, e) = first-some (λ x. eqb (x .kind) (s .kind) && eqb (x .code) (s .code)) table q in
-        let (k, c) = both (eqb (r .kind) (s .kind)) (eqb (r .code) (s .code)) e in
+        let (m, e) = first-some (λ x. eqb (x .kind) (s .bmRequestType) && eqb (x .code) (s .bRequest)) table q in
+        let (k, c) = both (eqb (r .kind) (s .bmRequestType)) (eqb (r .code) (s .bRequest)) e in
         let (i, h) = passed (inState r state) (fieldsFit r s) n in
-        (r, m, eqb-true (r .kind) (s .kind) k, eqb-true (r .code) (s .code) c, i, h)
+        (r, m, eqb-true (r .kind) (s .bmRequestType) k, eqb-true (r .code) (s .bRequest) c, i, h)
 
 -- what holds of every row's type and code holds of a setup that the table does not refuse
 tabled : (P : ℕ → ℕ → Bool) → every (λ r. P (r .kind) (r .code)) table ≡ true
-    → (state : ℕ) (s : Setup) → refusal state s ≡ 0 → P (s .kind) (s .code) ≡ true
+    → (state : ℕ) (s : Setup) → refusal state s ≡ 0 → P (s .bmRequestType) (s .bRequest) ≡ true
 tabled P all state s p =
     let (r, m, k, c, i, h) = let-through state s p in
-    sym (ap (λ x. P x (r .code)) k ∙ ap (P (s .kind)) c) ∙ every-member (λ x. P (x .kind) (x .code)) all m
+    sym (ap (λ x. P x (r .code)) k ∙ ap (P (s .bmRequestType)) c) ∙ every-member (λ x. P (x .kind) (x .code)) all m
 
 -- the requests of a device alone; those of a device, an interface or an endpoint; the others are an interface's
 abbrev pub ofDevice : ℕ → Bool
@@ -53,17 +53,17 @@ inTable kind code = leb (kind % 32) 2 && (ofDevice code ⇒ eqb (kind % 32) 0) &
 
 pub record Tabled (s : Setup) : Type 0 where
   pub known : recipient s ≤ 2
-  pub alone : ofDevice (s .code) ≡ true → recipient s ≡ 0
-  pub other : ofDevice (s .code) ≡ false → ofAny (s .code) ≡ false → recipient s ≡ 1
+  pub alone : ofDevice (s .bRequest) ≡ true → recipient s ≡ 0
+  pub other : ofDevice (s .bRequest) ≡ false → ofAny (s .bRequest) ≡ false → recipient s ≡ 1
 
 pub table-fits : (state : ℕ) (s : Setup) → refusal state s ≡ 0 → Tabled s
 unfolding every
 table-fits state s p =
     let f = tabled inTable refl state s p in
-    let (g, c) = both (leb (recipient s) 2 && (ofDevice (s .code) ⇒ eqb (recipient s) 0)) _ f in
-    let (a, b) = both (leb (recipient s) 2) (ofDevice (s .code) ⇒ eqb (recipient s) 0) g in
+    let (g, c) = both (leb (recipient s) 2 && (ofDevice (s .bRequest) ⇒ eqb (recipient s) 0)) _ f in
+    let (a, b) = both (leb (recipient s) 2) (ofDevice (s .bRequest) ⇒ eqb (recipient s) 0) g in
     record {
       known = leb-true _ _ a;
-      alone = λ q. eqb-true _ _ (if-then (ofDevice (s .code)) (eqb (recipient s) 0) b q);
+      alone = λ q. eqb-true _ _ (if-then (ofDevice (s .bRequest)) (eqb (recipient s) 0) b q);
       other = λ q r. eqb-true _ _ (rw (q, r) at c);
     }

@@ -86,10 +86,10 @@ module _ (v : View) (j : ℕ) (d : Device) where
         (λ e p. chosen After (canHalt e) (λ t. touch-set (bitOf (e .address)) p) (λ t. touch-none d refl))
 
     touch-feature : (change : Device → ℕ → Device) → ((e : ℕ) → home v (shared d) e ≡ j → Touches v j d (change d e))
-        → (q : Setup) → AllIn (selected v d) (q .index) j → Touches v j d (endpointFeature change v d q .device)
-    touch-feature change f q w = chosen After (isEndpointZero (q .index)) (λ z. touch-none d refl)
-        (λ z. touch-at (q .index) w (λ o. Touches v j d (haltFeature change d q o .device)) (touch-none d refl)
-        (λ e p. chosen After (eqb (q .value) 0 && canHalt e) (λ t. f (bitOf (e .address)) p) (λ t. touch-none d refl)))
+        → (q : Setup) → AllIn (selected v d) (q .wIndex) j → Touches v j d (endpointFeature change v d q .device)
+    touch-feature change f q w = chosen After (isEndpointZero (q .wIndex)) (λ z. touch-none d refl)
+        (λ z. touch-at (q .wIndex) w (λ o. Touches v j d (haltFeature change d q o .device)) (touch-none d refl)
+        (λ e p. chosen After (eqb (q .wValue) 0 && canHalt e) (λ t. f (bitOf (e .address)) p) (λ t. touch-none d refl)))
 
     -- SET_INTERFACE: every endpoint of the old and the new setting stands in j
     touch-setting : (a : ℕ) → Touches v j d (withSetting v d j a)
@@ -103,10 +103,10 @@ module _ (v : View) (j : ℕ) (d : Device) where
             let (l, t) = only-member (ofEither j (getD (d .alternates) j 0) a) (selected v d .endpoints) m in
             n (ap (homeIn (selected v d)) (sym p) ∙ at-home (selected v d) S x l ∙ eqb-true _ _ (both (eqb (x .interface) j) _ t .0))
 
-    touch-set-interface : (q : Setup) → q .index ≡ j → Touches v j d (setInterface v d q .device)
+    touch-set-interface : (q : Setup) → q .wIndex ≡ j → Touches v j d (setInterface v d q .device)
     unfolding setInterface
     touch-set-interface q p =
-        rw p (chosen After (hasSetting (selected v d) j (q .value)) (λ t. touch-setting (q .value)) (λ t. touch-none d refl))
+        rw p (chosen After (hasSetting (selected v d) j (q .wValue)) (λ t. touch-setting (q .wValue)) (λ t. touch-none d refl))
 
 -- ---- the requests that change nothing
 module _ (v : View) (d : Device) (q : Setup) where
@@ -116,41 +116,41 @@ module _ (v : View) (d : Device) (q : Setup) where
   status-leaves : getStatus v d q .device ≡ d
   unfolding getStatus
   status-leaves = chosen Left (eqb (recipient q) 0) (λ p. refl) (λ p. chosen Left (eqb (recipient q) 1)
-      (λ p. chosen Left (hasInterface (selected v d) (q .index)) (λ p. refl) (λ p. refl))
-      (λ p. chosen Left (isEndpointZero (q .index)) (λ p. refl) (λ p. at (endpointAt v d (q .index)))))
+      (λ p. chosen Left (hasInterface (selected v d) (q .wIndex)) (λ p. refl) (λ p. refl))
+      (λ p. chosen Left (isEndpointZero (q .wIndex)) (λ p. refl) (λ p. at (endpointAt v d (q .wIndex)))))
     where
       at : (o : Option Endpoint) → endpointStatus d o .device ≡ d
       at none = refl
       at (some e) = refl
 
   feature-leaves : interfaceFeature v d q .device ≡ d
-  feature-leaves = chosen Left (hasInterface (selected v d) (q .index)) (λ p. refl) (λ p. refl)
+  feature-leaves = chosen Left (hasInterface (selected v d) (q .wIndex)) (λ p. refl) (λ p. refl)
 
   interface-leaves : getInterface v d q .device ≡ d
   unfolding getInterface
-  interface-leaves = chosen Left (hasInterface (selected v d) (q .index)) (λ p. refl) (λ p. refl)
+  interface-leaves = chosen Left (hasInterface (selected v d) (q .wIndex)) (λ p. refl) (λ p. refl)
 
 -- ---- a setup that concerns j
 -- to interface j, or to an endpoint whose address j lists
 setup-of : (c : Configuration) → SoundConfiguration c → (q : Setup) (j : ℕ) → setupConcerns c q ≡ some j
-    → ((recipient q ≡ 1) × (q .index ≡ j)) ⊎ ((recipient q ≡ 2) × AllIn c (q .index) j)
+    → ((recipient q ≡ 1) × (q .wIndex ≡ j)) ⊎ ((recipient q ≡ 2) × AllIn c (q .wIndex) j)
 setup-of c S q j p = first-test (eqb (recipient q) 1) (eqb (recipient q) 2) refl refl p
   where
-    exists : (b : Bool) → pick b (some (q .index)) none ≡ some j → q .index ≡ j
+    exists : (b : Bool) → pick b (some (q .wIndex)) none ≡ some j → q .wIndex ≡ j
     exists true p = cc
     exists false p = absurd (let z : _≡_ {A = ℕ} 0 1 = cc in omega arith)
 
     first-test : (a b : Bool) → eqb (recipient q) 1 ≡ a → eqb (recipient q) 2 ≡ b
-        → pick a (pick (hasInterface c (q .index)) (some (q .index)) none) (pick b (listedBy c (q .index)) none) ≡ some j
-        → ((recipient q ≡ 1) × (q .index ≡ j)) ⊎ ((recipient q ≡ 2) × AllIn c (q .index) j)
-    first-test true b p r o = inl (eqb-true _ _ p, exists (hasInterface c (q .index)) o)
-    first-test false true p r o = inr (eqb-true _ _ r, all-in c S (q .index) j (λ i m. Option·some-injective i j (sym m ∙ o)))
+        → pick a (pick (hasInterface c (q .wIndex)) (some (q .wIndex)) none) (pick b (listedBy c (q .wIndex)) none) ≡ some j
+        → ((recipient q ≡ 1) × (q .wIndex ≡ j)) ⊎ ((recipient q ≡ 2) × AllIn c (q .wIndex) j)
+    first-test true b p r o = inl (eqb-true _ _ p, exists (hasInterface c (q .wIndex)) o)
+    first-test false true p r o = inr (eqb-true _ _ r, all-in c S (q .wIndex) j (λ i m. Option·some-injective i j (sym m ∙ o)))
     first-test false false p r o = absurd (let z : _≡_ {A = ℕ} 0 1 = cc in omega arith)
 
 module _ (v : View) (j : ℕ) (d : Device) (S : SoundConfiguration (selected v d)) (q : Setup) (F : Tabled q) where
   -- a device's request concerns no interface
-  not-device : (recipient q ≡ 0 → ⊥) → (code : ℕ) → ofDevice code ≡ true → eqb (q .code) code ≡ true → ⊥
-  not-device n code t p = n (F .alone (ap ofDevice (eqb-true (q .code) code p) ∙ t))
+  not-device : (recipient q ≡ 0 → ⊥) → (code : ℕ) → ofDevice code ≡ true → eqb (q .bRequest) code ≡ true → ⊥
+  not-device n code t p = n (F .alone (ap ofDevice (eqb-true (q .bRequest) code p) ∙ t))
 
   -- by the code, given what the requests of any recipient and the interface's own do
   touch-code : (recipient q ≡ 0 → ⊥) → Touches v j d (clearFeature v d q .device) → Touches v j d (setFeature v d q .device)
@@ -158,17 +158,17 @@ module _ (v : View) (j : ℕ) (d : Device) (S : SoundConfiguration (selected v d
   unfolding request
   touch-code n clear set interface =
       let P : Outcome → Type 0 = λ o. Touches v j d (o .device) in
-      chosen P (eqb (q .code) 0x00) (λ p. touch-none v j d _ (status-leaves v d q)) (λ n0.
-      chosen P (eqb (q .code) 0x01) (λ p. clear) (λ n1.
-      chosen P (eqb (q .code) 0x03) (λ p. set) (λ n3.
-      chosen P (eqb (q .code) 0x05) (λ p. absurd (not-device n 0x05 refl p)) (λ n5.
-      chosen P (eqb (q .code) 0x06) (λ p. absurd (not-device n 0x06 refl p)) (λ n6.
-      chosen P (eqb (q .code) 0x08) (λ p. absurd (not-device n 0x08 refl p)) (λ n8.
-      chosen P (eqb (q .code) 0x09) (λ p. absurd (not-device n 0x09 refl p)) (λ n9.
-      chosen P (eqb (q .code) 0x0A) (λ p. touch-none v j d _ (interface-leaves v d q)) (λ m.
+      chosen P (eqb (q .bRequest) 0x00) (λ p. touch-none v j d _ (status-leaves v d q)) (λ n0.
+      chosen P (eqb (q .bRequest) 0x01) (λ p. clear) (λ n1.
+      chosen P (eqb (q .bRequest) 0x03) (λ p. set) (λ n3.
+      chosen P (eqb (q .bRequest) 0x05) (λ p. absurd (not-device n 0x05 refl p)) (λ n5.
+      chosen P (eqb (q .bRequest) 0x06) (λ p. absurd (not-device n 0x06 refl p)) (λ n6.
+      chosen P (eqb (q .bRequest) 0x08) (λ p. absurd (not-device n 0x08 refl p)) (λ n8.
+      chosen P (eqb (q .bRequest) 0x09) (λ p. absurd (not-device n 0x09 refl p)) (λ n9.
+      chosen P (eqb (q .bRequest) 0x0A) (λ p. touch-none v j d _ (interface-leaves v d q)) (λ m.
       interface (F .other (rw (n5, n6, n8, n9)) (rw (n0, n1, n3)))))))))))
 
-  touch-request : ((recipient q ≡ 1) × (q .index ≡ j)) ⊎ ((recipient q ≡ 2) × AllIn (selected v d) (q .index) j)
+  touch-request : ((recipient q ≡ 1) × (q .wIndex ≡ j)) ⊎ ((recipient q ≡ 2) × AllIn (selected v d) (q .wIndex) j)
       → Touches v j d (request v d q .device)
   unfolding clearFeature setFeature
   touch-request (inl p) =

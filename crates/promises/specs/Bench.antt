@@ -50,7 +50,7 @@ packetLengths r w p = map (λ q. q .length) (packets r w p)
 
 -- what a setup is answered goes out in packets of S's bMaxPacketSize0, 8; a refusal goes out as STALL
 abbrev sent : Event → Values → List ℕ
-sent (Request s) v = pick (eqb (v .number) 0) (packetLengths (length (v .bytes) + v .part .length) (s .length) 8) []
+sent (Request s) v = pick (eqb (v .number) 0) (packetLengths (length (v .bytes) + v .part .length) (s .wLength) 8) []
 sent Malformed v = []
 sent StatusEnd v = []
 sent BusReset v = []

@@ -28,19 +28,19 @@ setup x = setupOf (bytes 8 x)
 -- ---- the five wrong rules
 -- taking an address at once
 abbrev addressAtOnce : View → Device → Setup → Outcome
-addressAtOnce v d s = done (withAddress inAddress (s .value) d)
+addressAtOnce v d s = done (withAddress inAddress (s .wValue) d)
 
 -- clearing halts only when the setting differs
 abbrev settingIfOther : View → Device → Setup → Outcome
-settingIfOther v d s = pick (eqb (getD (d .alternates) (s .index) 0) (s .value)) (done d) (setInterface v d s)
+settingIfOther v d s = pick (eqb (getD (d .alternates) (s .wIndex) 0) (s .wValue)) (done d) (setInterface v d s)
 
 -- selecting a configuration by index
 abbrev configurationByIndex : View → Device → Setup → Outcome
-configurationByIndex v d s = pick (ltb (s .value) (length (v .configurations))) (done (withConfiguration inConfigured (s .value) d)) (refused 13 d)
+configurationByIndex v d s = pick (ltb (s .wValue) (length (v .configurations))) (done (withConfiguration inConfigured (s .wValue) d)) (refused 13 d)
 
 -- looking up an endpoint without its direction bit
 abbrev haltWithoutDirection : View → Device → Setup → Outcome
-haltWithoutDirection v d s = haltFeature setHalt d s (first (λ e. eqb (e .address % 128) (s .index % 128)) (currentEndpoints v d))
+haltWithoutDirection v d s = haltFeature setHalt d s (first (λ e. eqb (e .address % 128) (s .wIndex % 128)) (currentEndpoints v d))
 
 -- clearing a toggle only if halted
 abbrev clearIfHalted : Device → ℕ → Device

@@ -45,26 +45,26 @@ abbrev pub Within : ℕ → Outcome → Type 0
 Within w o = length (bytesOf (o .answer)) + partOf (o .answer) .length ≤ w
 
 -- a code whose rows all ask for at least n bytes
-asked : (code n : ℕ) → every (λ r. eqb (r .code) code ⇒ leb n (r .shortest)) table ≡ true → (state : ℕ) (s : Setup) → refusal state s ≡ 0 → s .code ≡ code → n ≤ s .length
+asked : (code n : ℕ) → every (λ r. eqb (r .code) code ⇒ leb n (r .shortest)) table ≡ true → (state : ℕ) (s : Setup) → refusal state s ≡ 0 → s .bRequest ≡ code → n ≤ s .wLength
 asked code n all state s p c =
     let (r, f, k, i, h) = ruled (λ r. eqb (r .code) code ⇒ leb n (r .shortest)) all state s p in
     let a = leb-true n (r .shortest) (if-then (eqb (r .code) code) (leb n (r .shortest)) f (eq-eqb (r .code) code (k ∙ c))) in
-    let b = leb-true (r .shortest) (s .length) (conjunct 2 (leb (s .value) (r .value) ∷ leb (s .index) (largestIndex r (s .value)) ∷ leb (r .shortest) (s .length) ∷ leb (s .length) (r .longest) ∷ []) h) in
+    let b = leb-true (r .shortest) (s .wLength) (conjunct 2 (leb (s .wValue) (r .value) ∷ leb (s .wIndex) (largestIndex r (s .wValue)) ∷ leb (r .shortest) (s .wLength) ∷ leb (s .wLength) (r .longest) ∷ []) h) in
     omega arith
 
 -- ---- the requests, a leaf at a time
 module _ (v : View) (d : Device) (s : Setup) where
   abbrev Fine : Outcome → Type 0
-  Fine = Within (s .length)
+  Fine = Within (s .wLength)
 
   no : (n : ℕ) → Fine (refused n d)
   no n = omega arith
 
-  status : 2 ≤ s .length → Fine (getStatus v d s)
+  status : 2 ≤ s .wLength → Fine (getStatus v d s)
   unfolding getStatus
   status l = chosen Fine (eqb (recipient s) 0) (λ e. omega arith) (λ e. chosen Fine (eqb (recipient s) 1)
-      (λ e. chosen Fine (hasInterface (selected v d) (s .index)) (λ e. omega arith) (λ e. no 13))
-      (λ e. chosen Fine (isEndpointZero (s .index)) (λ e. omega arith) (λ e. at (endpointAt v d (s .index)))))
+      (λ e. chosen Fine (hasInterface (selected v d) (s .wIndex)) (λ e. omega arith) (λ e. no 13))
+      (λ e. chosen Fine (isEndpointZero (s .wIndex)) (λ e. omega arith) (λ e. at (endpointAt v d (s .wIndex)))))
     where
       at : (o : Option Endpoint) → Fine (endpointStatus d o)
       at none = no 13
@@ -72,49 +72,49 @@ module _ (v : View) (d : Device) (s : Setup) where
 
   feature : (change : Device → ℕ → Device) (on : ℕ) → Fine (byRecipient s (deviceFeature on v d s) (interfaceFeature v d s) (endpointFeature change v d s))
   feature change on = chosen Fine (eqb (recipient s) 0)
-      (λ e. chosen Fine (eqb (s .value) 1 && wakes v) (λ e. omega arith) (λ e. no 14))
+      (λ e. chosen Fine (eqb (s .wValue) 1 && wakes v) (λ e. omega arith) (λ e. no 14))
       (λ e. chosen Fine (eqb (recipient s) 1)
-      (λ e. chosen Fine (hasInterface (selected v d) (s .index)) (λ e. no 14) (λ e. no 13))
-      (λ e. chosen Fine (isEndpointZero (s .index)) (λ e. no 14) (λ e. at (endpointAt v d (s .index)))))
+      (λ e. chosen Fine (hasInterface (selected v d) (s .wIndex)) (λ e. no 14) (λ e. no 13))
+      (λ e. chosen Fine (isEndpointZero (s .wIndex)) (λ e. no 14) (λ e. at (endpointAt v d (s .wIndex)))))
     where
       at : (o : Option Endpoint) → Fine (haltFeature change d s o)
       at none = no 13
-      at (some x) = chosen Fine (eqb (s .value) 0 && canHalt x) (λ e. omega arith) (λ e. no 14)
+      at (some x) = chosen Fine (eqb (s .wValue) 0 && canHalt x) (λ e. omega arith) (λ e. no 14)
 
   descriptor : Fine (getDescriptor v d s)
   unfolding getDescriptor
   descriptor = at (locate v s)
     where
-      at : (l : Located) → Fine (describe d (s .length) l)
+      at : (l : Located) → Fine (describe d (s .wLength) l)
       at (Body offset size) = omega arith
       at (Serial size) = omega arith
       at Nowhere = no 13
 
   configuration : Fine (setConfiguration v d s)
   unfolding setConfiguration
-  configuration = chosen Fine (eqb (s .value) 0) (λ e. omega arith)
-      (λ e. chosen Fine (any (λ c. eqb (c .value) (s .value)) (v .configurations)) (λ e. omega arith) (λ e. no 13))
+  configuration = chosen Fine (eqb (s .wValue) 0) (λ e. omega arith)
+      (λ e. chosen Fine (any (λ c. eqb (c .value) (s .wValue)) (v .configurations)) (λ e. omega arith) (λ e. no 13))
 
   within : (state : ℕ) → refusal state s ≡ 0 → Fine (request v d s)
   unfolding every request clearFeature setFeature setAddress getConfiguration getInterface setInterface
   within state p =
-      chosen Fine (eqb (s .code) 0x00) (λ e. status (asked 0 2 refl state s p (eqb-true (s .code) 0 e)))
-      (λ e. chosen Fine (eqb (s .code) 0x01) (λ e. feature clearHalt 0)
-      (λ e. chosen Fine (eqb (s .code) 0x03) (λ e. feature setHalt 1)
-      (λ e. chosen Fine (eqb (s .code) 0x05) (λ e. omega arith)
-      (λ e. chosen Fine (eqb (s .code) 0x06) (λ e. descriptor)
-      (λ e. chosen Fine (eqb (s .code) 0x08) (λ e. let l = asked 8 1 refl state s p (eqb-true (s .code) 8 e) in omega arith)
-      (λ e. chosen Fine (eqb (s .code) 0x09) (λ e. configuration)
-      (λ e. chosen Fine (eqb (s .code) 0x0A)
-      (λ e. chosen Fine (hasInterface (selected v d) (s .index)) (λ f. let l = asked 10 1 refl state s p (eqb-true (s .code) 10 e) in omega arith) (λ f. no 13))
-      (λ e. chosen Fine (hasSetting (selected v d) (s .index) (s .value)) (λ e. omega arith) (λ e. no 13)))))))))
+      chosen Fine (eqb (s .bRequest) 0x00) (λ e. status (asked 0 2 refl state s p (eqb-true (s .bRequest) 0 e)))
+      (λ e. chosen Fine (eqb (s .bRequest) 0x01) (λ e. feature clearHalt 0)
+      (λ e. chosen Fine (eqb (s .bRequest) 0x03) (λ e. feature setHalt 1)
+      (λ e. chosen Fine (eqb (s .bRequest) 0x05) (λ e. omega arith)
+      (λ e. chosen Fine (eqb (s .bRequest) 0x06) (λ e. descriptor)
+      (λ e. chosen Fine (eqb (s .bRequest) 0x08) (λ e. let l = asked 8 1 refl state s p (eqb-true (s .bRequest) 8 e) in omega arith)
+      (λ e. chosen Fine (eqb (s .bRequest) 0x09) (λ e. configuration)
+      (λ e. chosen Fine (eqb (s .bRequest) 0x0A)
+      (λ e. chosen Fine (hasInterface (selected v d) (s .wIndex)) (λ f. let l = asked 10 1 refl state s p (eqb-true (s .bRequest) 10 e) in omega arith) (λ f. no 13))
+      (λ e. chosen Fine (hasSetting (selected v d) (s .wIndex) (s .wValue)) (λ e. omega arith) (λ e. no 13)))))))))
 
 -- every answer to a setup, on every board and record
-pub replyWithin : (b : Board) (d : Device) (s : Setup) → Within (s .length) (step b d (Request s))
+pub replyWithin : (b : Board) (d : Device) (s : Setup) → Within (s .wLength) (step b d (Request s))
 unfolding step answerSetup
-replyWithin b d s = chosen (Within (s .length)) (accepted b)
-    (λ p. chosen (Within (s .length)) (fitsOn b d)
-    (λ q. chosen (Within (s .length)) (eqb (refusal (d .state) s) 0)
+replyWithin b d s = chosen (Within (s .wLength)) (accepted b)
+    (λ p. chosen (Within (s .wLength)) (fitsOn b d)
+    (λ q. chosen (Within (s .wLength)) (eqb (refusal (d .state) s) 0)
     (λ r. within (viewOf b) (settled d) s (d .state) (eqb-true _ 0 r)) (λ r. omega arith))
     (λ q. omega arith))
     (λ p. omega arith)
@@ -138,20 +138,20 @@ sizeCuts b ok r w l =
 
 -- so every answer to a setup of an accepted board can be cut into packets of its bMaxPacketSize0
 pub replyCuts : (b : Board) (d : Device) (s : Setup) → accepted b ≡ true → (let a = step b d (Request s) .answer in
-    canCut (length (bytesOf a) + partOf a .length) (s .length) (bMaxPacketSize0 (deviceBody (b .set))) ≡ true)
-replyCuts b d s ok = sizeCuts b ok _ (s .length) (replyWithin b d s)
+    canCut (length (bytesOf a) + partOf a .length) (s .wLength) (bMaxPacketSize0 (deviceBody (b .set))) ≡ true)
+replyCuts b d s ok = sizeCuts b ok _ (s .wLength) (replyWithin b d s)
 
 -- ---- on images
 -- no answer to a setup's bytes, of any length, is longer than their wLength
 pub eventWithin : (b : Board) (image setup : List ℕ) → (let a = event b image (setupEvent setup) .answer in
-    length (bytesOf a) + partOf a .length ≤ setupOf setup .length)
+    length (bytesOf a) + partOf a .length ≤ setupOf setup .wLength)
 unfolding event step
 eventWithin b image setup = cases (eqb (length image) 32) (λ p. rw p (whole (eqb (length setup) 8))) (λ p. rw p (omega arith))
   where
-    whole : (t : Bool) → Within (setupOf setup .length) (step b (deviceOf image) (pick t (Request (setupOf setup)) Malformed))
+    whole : (t : Bool) → Within (setupOf setup .wLength) (step b (deviceOf image) (pick t (Request (setupOf setup)) Malformed))
     whole true = replyWithin b (deviceOf image) (setupOf setup)
-    whole false = chosen (Within (setupOf setup .length)) (accepted b)
-        (λ p. chosen (Within (setupOf setup .length)) (fitsOn b (deviceOf image)) (λ q. omega arith) (λ q. omega arith))
+    whole false = chosen (Within (setupOf setup .wLength)) (accepted b)
+        (λ p. chosen (Within (setupOf setup .wLength)) (fitsOn b (deviceOf image)) (λ q. omega arith) (λ q. omega arith))
         (λ p. omega arith)
 
 -- what is done is done on an accepted board

@@ -32,20 +32,20 @@ abbrev agrees : ℕ → (ℕ → Bool) → Row → Bool
 agrees state allowed r = Bool·beq (inState r state) (allowed (r .code))
 
 module _ (s : Setup) {r : Row} (p : rowOf s ≡ some r) where
-  same-code : r .code ≡ s .code
-  same-code = eqb-true _ _ (both (eqb (r .kind) (s .kind)) (eqb (r .code) (s .code)) (first-some _ table p .1) .1)
+  same-code : r .code ≡ s .bRequest
+  same-code = eqb-true _ _ (both (eqb (r .kind) (s .bmRequestType)) (eqb (r .code) (s .bRequest)) (first-some _ table p .1) .1)
 
-  by-table : (state : ℕ) (allowed : ℕ → Bool) → every (agrees state allowed) table ≡ true → inState r state ≡ allowed (s .code)
+  by-table : (state : ℕ) (allowed : ℕ → Bool) → every (agrees state allowed) table ≡ true → inState r state ≡ allowed (s .bRequest)
   by-table state allowed q = equal _ _ (every-member (agrees state allowed) q (first-some _ table p .0)) ∙ ap allowed same-code
 
-  pub in-default : inState r 0 ≡ allowedInDefault (s .code)
+  pub in-default : inState r 0 ≡ allowedInDefault (s .bRequest)
   unfolding every
   in-default = by-table 0 allowedInDefault refl
 
-  pub in-address : inState r 1 ≡ allowedInAddress (s .code)
+  pub in-address : inState r 1 ≡ allowedInAddress (s .bRequest)
   unfolding every
   in-address = by-table 1 allowedInAddress refl
 
-  pub in-configured : inState r 2 ≡ allowedInConfigured (s .code)
+  pub in-configured : inState r 2 ≡ allowedInConfigured (s .bRequest)
   unfolding every
   in-configured = by-table 2 allowedInConfigured refl

@@ -37,7 +37,7 @@ table =
     []
 
 abbrev pub rowOf : Setup → Option Row
-rowOf s = first (λ r. eqb (r .kind) (s .kind) && eqb (r .code) (s .code)) table
+rowOf s = first (λ r. eqb (r .kind) (s .bmRequestType) && eqb (r .code) (s .bRequest)) table
 
 -- 11: "not allowed in this state"
 abbrev pub inState : Row → ℕ → Bool
@@ -50,8 +50,8 @@ largestIndex r value = pick (eqb (value / 256) 3) (r .string) (r .index)
 -- 12: "fixed fields after them (12 if otherwise)"
 abbrev pub fieldsFit : Row → Setup → Bool
 fieldsFit r s =
-    leb (s .value) (r .value) && leb (s .index) (largestIndex r (s .value)) &&
-    leb (r .shortest) (s .length) && leb (s .length) (r .longest)
+    leb (s .wValue) (r .value) && leb (s .wIndex) (largestIndex r (s .wValue)) &&
+    leb (r .shortest) (s .wLength) && leb (s .wLength) (r .longest)
 
 -- 10 without a row, 11 outside its states, 12 at a wrong field, else 0
 abbrev pub refusalAt : Option Row → ℕ → Setup → ℕ

@@ -6,11 +6,11 @@ ghost use Rattle.requests.specs.Found.{foundOf};
 
 // The setup bytes as numbers: bmRequestType, bRequest, wValue, wIndex, wLength.
 pub struct Setup {
-    pub kind: u8,
-    pub code: u8,
-    pub value: u16,
-    pub index: u16,
-    pub length: u16,
+    pub bmRequestType: u8,
+    pub bRequest: u8,
+    pub wValue: u16,
+    pub wIndex: u16,
+    pub wLength: u16,
 }
 
 // What a row of the table asks: wValue at most `value`; wIndex at most `index`, or `string` where the type asked is 3;
@@ -206,11 +206,11 @@ pub fn setup_of(bytes: &[u8]) -> Setup
     ensures { λ r. ⌜ r ≡ setupOf (now (bytes .entry)) ⌝ }
 {
     Setup {
-        kind: octets::peek(bytes, 0),
-        code: octets::peek(bytes, 1),
-        value: octets::word(bytes, 2),
-        index: octets::word(bytes, 4),
-        length: octets::word(bytes, 6),
+        bmRequestType: octets::peek(bytes, 0),
+        bRequest: octets::peek(bytes, 1),
+        wValue: octets::word(bytes, 2),
+        wIndex: octets::word(bytes, 4),
+        wLength: octets::word(bytes, 6),
     }
 }
 
@@ -222,7 +222,7 @@ pub fn find_row(setup: Setup) -> RowFound
     let mut i: usize = 0;
     while i < 15 {
         let row = rows[i];
-        if (row.kind == setup.kind) & (row.code == setup.code) {
+        if (row.kind == setup.bmRequestType) & (row.code == setup.bRequest) {
             return RowFound::Is(row);
         }
         i += 1;
@@ -252,11 +252,11 @@ fn largest_index(row: Row, value: u16) -> u16
 pub fn fields_fit(row: Row, setup: Setup) -> bool
     ensures { λ r. ⌜ r ≡ fieldsFit row setup ⌝ }
 {
-    let largest = largest_index(row, setup.value);
-    (setup.value <= row.value)
-        & (setup.index <= largest)
-        & (row.shortest <= setup.length)
-        & (setup.length <= row.longest)
+    let largest = largest_index(row, setup.wValue);
+    (setup.wValue <= row.value)
+        & (setup.wIndex <= largest)
+        & (row.shortest <= setup.wLength)
+        & (setup.wLength <= row.longest)
 }
 
 // The refusals 10, 11 and 12 in that order, or 0.

@@ -29,11 +29,11 @@ fn naming(address: u8) -> Setup
     ensures { λ r. ⌜ r ≡ naming address ⌝ }
 {
     Setup {
-        kind: 0,
-        code: 0,
-        value: 0,
-        index: address as u16,
-        length: 0,
+        bmRequestType: 0,
+        bRequest: 0,
+        wValue: 0,
+        wIndex: address as u16,
+        wLength: 0,
     }
 }
 
@@ -98,10 +98,10 @@ fn is_among(existing: u32, number: u16) -> bool
 
 // Whether the set has the configuration that SET_CONFIGURATION asks for, by its value.
 fn has_asked(set: &[u8], setup: Setup) -> bool
-    ensures { λ r. ⌜ (setup .code ≡ 0x09 → setup .value < 256 → r ≡ hasValue (record { 0 = setup .value }) (configurationsIn (now (set .entry)))) ⌝ }
+    ensures { λ r. ⌜ (setup .bRequest ≡ 0x09 → setup .wValue < 256 → r ≡ hasValue (record { 0 = setup .wValue }) (configurationsIn (now (set .entry)))) ⌝ }
 {
-    if setup.code == 0x09 {
-        let value = ConfigurationValue((setup.value % 256) as u8);
+    if setup.bRequest == 0x09 {
+        let value = ConfigurationValue((setup.wValue % 256) as u8);
         return is_found(configuration::by_value(set, value));
     }
     false
@@ -137,15 +137,15 @@ fn locate_string(set: &[u8], serial: &[u8], index: u8, language: u16) -> Located
 
 // Where the descriptor lies that GET_DESCRIPTOR asks for: a configuration by its index, a device or a string by its entry.
 fn locate(set: &[u8], serial: &[u8], setup: Setup) -> Located
-    ensures { λ r. ⌜ (setup .code ≡ 0x06 → r ≡ locate (viewOf (lent (now (set .entry)) (now (serial .entry)))) setup) ⌝ }
+    ensures { λ r. ⌜ (setup .bRequest ≡ 0x06 → r ≡ locate (viewOf (lent (now (set .entry)) (now (serial .entry)))) setup) ⌝ }
 {
-    let kind = (setup.value / 256) as u8;
-    let index = (setup.value % 256) as u8;
-    if setup.code != 0x06 {
+    let kind = (setup.wValue / 256) as u8;
+    let index = (setup.wValue % 256) as u8;
+    if setup.bRequest != 0x06 {
         return Located::Nowhere;
     }
     if kind == 3 {
-        return locate_string(set, serial, index, language_for(set, index, setup.index));
+        return locate_string(set, serial, index, language_for(set, index, setup.wIndex));
     }
     if kind == 2 {
         return place(configuration::by_index(set, ConfigurationIndex(index)));
@@ -166,15 +166,15 @@ pub fn gather(set: &[u8], serial: &[u8], device: Device, event: Event) -> Facts
     let body = body_found(set, selected);
     let alternates = device.alternates;
     let asked = survey::Asked {
-        address: question.index,
-        interface: question.index,
-        alternate: question.value,
+        address: question.wIndex,
+        interface: question.wIndex,
+        alternate: question.wValue,
     };
     let survey = survey::walk(body, alternates, asked);
     Facts {
         configured: is_found(selected),
         waking: configuration::wakes(set),
-        interface: is_among(survey.existing, question.index),
+        interface: is_among(survey.existing, question.wIndex),
         survey,
         configuration: has_asked(set, question),
         located: locate(set, serial, question),

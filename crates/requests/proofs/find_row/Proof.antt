@@ -18,7 +18,7 @@ use Rattle.requests.proofs.find_row.Tie as tie
 
 -- whether a row has the setup's type and code
 abbrev asked : Setup → Row → Bool
-asked s r = eqb (r .kind) (s .kind) && eqb (r .code) (s .code)
+asked s r = eqb (r .kind) (s .bmRequestType) && eqb (r .code) (s .bRequest)
 
 -- the next place, away from the table's rows
 next-fits : (i : ℕ) → i < 15 → i + 1 < 2 ^ 64

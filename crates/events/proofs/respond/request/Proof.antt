@@ -33,7 +33,7 @@ get-configuration-requires : tie.Need-get-configuration-requires
 get-configuration-requires c κs = search needs
 
 set-configuration-requires : tie.Need-set-configuration-requires
-set-configuration-requires c κs = one-byte _ _ (c .before .pre .1 .1) (or-right (eqb (c .before .args .setup .code) 5) (eq-eqb _ _ (c .match .keys7)))
+set-configuration-requires c κs = one-byte _ _ (c .before .pre .1 .1) (or-right (eqb (c .before .args .setup .bRequest) 5) (eq-eqb _ _ (c .match .keys7)))
 
 get-interface-requires : tie.Need-get-interface-requires
 get-interface-requires c κs = search needs
@@ -67,7 +67,7 @@ returns-6 c = λ v t. let x = tests (c .before .match .keys6) in rw (x 0x00, x 0
 
 returns-7 : tie.Need-returns-7
 unfolding request
-returns-7 c = λ v t. let x = tests (c .before .match .keys7) in rw (x 0x00, x 0x01, x 0x03, x 0x05, x 0x06, x 0x08, x 0x09) (c .set-configuration .ensures v (t .configuration (c .before .match .keys7) (one-byte _ _ (c .before .before .pre .1 .1) (or-right (eqb (c .before .before .args .setup .code) 5) (eq-eqb _ _ (c .before .match .keys7))))))
+returns-7 c = λ v t. let x = tests (c .before .match .keys7) in rw (x 0x00, x 0x01, x 0x03, x 0x05, x 0x06, x 0x08, x 0x09) (c .set-configuration .ensures v (t .configuration (c .before .match .keys7) (one-byte _ _ (c .before .before .pre .1 .1) (or-right (eqb (c .before .before .args .setup .bRequest) 5) (eq-eqb _ _ (c .before .match .keys7))))))
 
 returns-8 : tie.Need-returns-8
 unfolding request

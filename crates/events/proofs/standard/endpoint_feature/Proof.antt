@@ -34,16 +34,16 @@ done-requires : tie.Need-done-requires
 done-requires c κs = search needs
 
 returns-2 : tie.Need-returns-2
-returns-2 c = λ v t. rw (c .done .ensures, c .before .with-halt .ensures, sym (c .before .before .before .before .before .before .before .before .before .before .is-zero .ensures) ∙ c .before .before .before .before .before .before .before .before .before .if1 .left, is-there (endpointAt v (c .before .before .before .before .before .before .before .before .before .before .before .args .device) (c .before .before .before .before .before .before .before .before .before .before .before .args .setup .index)) (sym (t .surveyed .asked) ∙ c .before .before .before .before .before .before .asked .given .1), ← c .before .before .before .can-halt .ensures, c .before .before .if2 .taken)
+returns-2 c = λ v t. rw (c .done .ensures, c .before .with-halt .ensures, sym (c .before .before .before .before .before .before .before .before .before .before .is-zero .ensures) ∙ c .before .before .before .before .before .before .before .before .before .if1 .left, is-there (endpointAt v (c .before .before .before .before .before .before .before .before .before .before .before .args .device) (c .before .before .before .before .before .before .before .before .before .before .before .args .setup .wIndex)) (sym (t .surveyed .asked) ∙ c .before .before .before .before .before .before .asked .given .1), ← c .before .before .before .can-halt .ensures, c .before .before .if2 .taken)
 
 refused-requires-3 : tie.Need-refused-requires-3
 refused-requires-3 c κs = search needs
 
 returns-3 : tie.Need-returns-3
-returns-3 c = λ v t. rw (c .refused2 .ensures, sym (c .before .before .before .before .before .is-zero .ensures) ∙ c .before .before .before .before .if1 .left, is-nowhere (endpointAt v (c .before .before .before .before .before .before .args .device) (c .before .before .before .before .before .before .args .setup .index)) (sym (t .surveyed .asked) ∙ c .before .enum-told .given .1))
+returns-3 c = λ v t. rw (c .refused2 .ensures, sym (c .before .before .before .before .before .is-zero .ensures) ∙ c .before .before .before .before .if1 .left, is-nowhere (endpointAt v (c .before .before .before .before .before .before .args .device) (c .before .before .before .before .before .before .args .setup .wIndex)) (sym (t .surveyed .asked) ∙ c .before .enum-told .given .1))
 
 returns-4 : tie.Need-returns-4
-returns-4 c = λ v t. rw (c .refused3 .ensures, sym (c .before .before .before .before .before .before .before .before .before .is-zero .ensures) ∙ c .before .before .before .before .before .before .before .before .if1 .left, is-there (endpointAt v (c .before .before .before .before .before .before .before .before .before .before .args .device) (c .before .before .before .before .before .before .before .before .before .before .args .setup .index)) (sym (t .surveyed .asked) ∙ c .before .before .before .before .before .asked .given .1), ← c .before .before .can-halt .ensures, c .before .if2 .left)
+returns-4 c = λ v t. rw (c .refused3 .ensures, sym (c .before .before .before .before .before .before .before .before .before .is-zero .ensures) ∙ c .before .before .before .before .before .before .before .before .if1 .left, is-there (endpointAt v (c .before .before .before .before .before .before .before .before .before .before .args .device) (c .before .before .before .before .before .before .before .before .before .before .args .setup .wIndex)) (sym (t .surveyed .asked) ∙ c .before .before .before .before .before .asked .given .1), ← c .before .before .can-halt .ensures, c .before .if2 .left)
 
 pub endpoint-feature-spec : {M : Type 1} → statement M
 endpoint-feature-spec =

@@ -66,11 +66,11 @@ gives-requires-4 c κs = search needs
 
 returns-5 : tie.Need-returns-5
 unfolding getStatus
-returns-5 c = λ v t. rw (c .refused2 .ensures, ne-eqb _ _ (c .before .before .before .before .before .before .before .if1 .left), ne-eqb _ _ (c .before .before .before .before .before .before .if2 .left), sym (c .before .before .before .before .before .is-zero .ensures) ∙ c .before .before .before .before .if4 .left, is-nowhere (endpointAt v (c .before .before .before .before .before .before .before .before .before .args .device) (c .before .before .before .before .before .before .before .before .before .args .setup .index)) (sym (t .surveyed .asked) ∙ c .before .enum-told .given .1))
+returns-5 c = λ v t. rw (c .refused2 .ensures, ne-eqb _ _ (c .before .before .before .before .before .before .before .if1 .left), ne-eqb _ _ (c .before .before .before .before .before .before .if2 .left), sym (c .before .before .before .before .before .is-zero .ensures) ∙ c .before .before .before .before .if4 .left, is-nowhere (endpointAt v (c .before .before .before .before .before .before .before .before .before .args .device) (c .before .before .before .before .before .before .before .before .before .args .setup .wIndex)) (sym (t .surveyed .asked) ∙ c .before .enum-told .given .1))
 
 returns-6 : tie.Need-returns-6
 unfolding getStatus
-returns-6 c = λ v t. rw (c .gives4 .ensures, ne-eqb _ _ (c .before .before .before .before .before .before .before .before .before .if1 .left), ne-eqb _ _ (c .before .before .before .before .before .before .before .before .if2 .left), sym (c .before .before .before .before .before .before .before .is-zero .ensures) ∙ c .before .before .before .before .before .before .if4 .left, is-there (endpointAt v (c .before .before .before .before .before .before .before .before .before .before .before .args .device) (c .before .before .before .before .before .before .before .before .before .before .before .args .setup .index)) (sym (t .surveyed .asked) ∙ c .before .before .before .asked .given .1), c .before .is-halted .ensures)
+returns-6 c = λ v t. rw (c .gives4 .ensures, ne-eqb _ _ (c .before .before .before .before .before .before .before .before .before .if1 .left), ne-eqb _ _ (c .before .before .before .before .before .before .before .before .if2 .left), sym (c .before .before .before .before .before .before .before .is-zero .ensures) ∙ c .before .before .before .before .before .before .if4 .left, is-there (endpointAt v (c .before .before .before .before .before .before .before .before .before .before .before .args .device) (c .before .before .before .before .before .before .before .before .before .before .before .args .setup .wIndex)) (sym (t .surveyed .asked) ∙ c .before .before .before .asked .given .1), c .before .is-halted .ensures)
 
 pub get-status-spec : {M : Type 1} → statement M
 get-status-spec =

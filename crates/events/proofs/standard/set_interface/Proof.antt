@@ -31,7 +31,7 @@ unfolding setInterface
 returns c = λ v t.
     let a = c .before .before .before .before .before .before .before .args in
     let (j, n) = t .small (sym (t .surveyed .there) ∙ c .before .before .before .before .before .if1 .taken) in
-    let es = only (ofEither (a .setup .index) (getD (a .device .alternates) (a .setup .index) 0) (a .setup .value)) (selected v (a .device) .endpoints) in
+    let es = only (ofEither (a .setup .wIndex) (getD (a .device .alternates) (a .setup .wIndex) 0) (a .setup .wValue)) (selected v (a .device) .endpoints) in
     rw (c .done .ensures, c .before .before .without .ensures es (t .surveyed .bits), c .before .without2 .ensures es (t .surveyed .bits), ← t .surveyed .there, c .before .before .before .before .before .if1 .taken, small-mod j, small-mod n, lt-ltb _ _ j)
 
 refused-requires : tie.Need-refused-requires

@@ -54,8 +54,8 @@ returns c = let a = c .before .before .before .before .before .before .before .b
       configured = rw (c .before .before .before .before .is-found .ensures, c .before .before .before .before .before .before .before .before .by-value .ensures, value-there (a .set .now) (a .device .configuration));
       waking = c .before .before .before .wakes .ensures ∙ sym (wakes-found (a .set .now));
       surveyed = seen;
-      interface = rw (c .before .before .is-among .ensures, asked) (among (rw here at (in-use .few)) (seen .interfaces) (questionOf (a .event) .index));
-      small = (rw here at (in-use .small)) (questionOf (a .event) .index) (questionOf (a .event) .value);
+      interface = rw (c .before .before .is-among .ensures, asked) (among (rw here at (in-use .few)) (seen .interfaces) (questionOf (a .event) .wIndex));
+      small = (rw here at (in-use .small)) (questionOf (a .event) .wIndex) (questionOf (a .event) .wValue);
       configuration = rw asked at (c .before .has-asked .ensures);
       located = rw asked at (c .locate .ensures);
     }

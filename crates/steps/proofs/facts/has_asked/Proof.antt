@@ -15,7 +15,7 @@ is-found-requires : tie.Need-is-found-requires
 is-found-requires c κs = search needs
 
 returns : tie.Need-returns
-returns c = λ p small. rw (c .is-found .ensures, c .before .by-value .ensures, value-there (c .before .before .before .before .before .before .args .set .now) (c .before .before .before .before .before .before .args .setup .value), byte-mod small)
+returns c = λ p small. rw (c .is-found .ensures, c .before .by-value .ensures, value-there (c .before .before .before .before .before .before .args .set .now) (c .before .before .before .before .before .before .args .setup .wValue), byte-mod small)
 
 returns-2 : tie.Need-returns-2
 returns-2 c = λ p small. absurd (c .if1 .left p)
