@@ -1,4 +1,4 @@
--- AnswersSetup and packets: a packet's number is 0 or 15, and 15 shows nothing; the packets of what a setup handed back, cut by any cutter that
+-- Replies and packets: a packet's number is 0 or 15, and 15 shows nothing; the packets of what a setup handed back, cut by any cutter that
 -- meets its statement, are the reply, and only those past the last are refused. No axiom.
 use Prim.Native.Nat.{ℕ, _+_, _<_, _≤_}
 use native.Mathlib.Omega.{arith}

@@ -4,7 +4,7 @@ ghost use Rattle.requests.specs.Setup.{setupOf};
 ghost use Rattle.requests.specs.Table.{rowOf, inState, largestIndex, fieldsFit, refusal};
 ghost use Rattle.requests.specs.Found.{foundOf};
 
-// The setup bytes as numbers: bmRequestType, bRequest, wValue, wIndex, wLength.
+// The setup bytes as numbers.
 pub struct Setup {
     pub bmRequestType: u8,
     pub bRequest: u8,

@@ -165,16 +165,17 @@ pub fn gather(set: &[u8], serial: &[u8], device: Device, event: Event) -> Facts
     let selected = configuration::by_value(set, ConfigurationValue(device.configuration));
     let body = body_found(set, selected);
     let alternates = device.alternates;
+    let index = question.wIndex;
     let asked = survey::Asked {
-        address: question.wIndex,
-        interface: question.wIndex,
+        address: index,
+        interface: index,
         alternate: question.wValue,
     };
     let survey = survey::walk(body, alternates, asked);
     Facts {
         configured: is_found(selected),
         waking: configuration::wakes(set),
-        interface: is_among(survey.existing, question.wIndex),
+        interface: is_among(survey.existing, index),
         survey,
         configuration: has_asked(set, question),
         located: locate(set, serial, question),
