@@ -1,5 +1,5 @@
 """The events of a script: the words of each, and what is carried to the library."""
-from served import BUS_RESET, HALT, PACKET_PASSED, POWER, SETUP, STATUS_END
+from served import BUS_RESET, HALT, PACKET_PASSED, POWER, RESUME, SETUP, STATUS_END, SUSPEND, WAKE
 
 # The events other than a setup: the words, the event's number, and what follows. NOTHING, or words that stand for a number (a number can always be
 # given). A new event is a line here, and its operation in tests/served.py.
@@ -10,6 +10,9 @@ EVENTS = {
     "halt": (HALT, NUMBER),
     "packet passed": (PACKET_PASSED, NUMBER),
     "power": (POWER, {"bus": 0, "own": 1}),
+    "suspend": (SUSPEND, NOTHING),
+    "resume": (RESUME, NOTHING),
+    "wake": (WAKE, NOTHING),
 }
 
 # The requests of chapter 9: bmRequestType, bRequest, wLength, and what the words behind the name say, in order.

@@ -37,7 +37,8 @@ BYTES = [
     (3, {0: ""}, "configuration {}"),
     (4, {0: "", 1: "remote wakeup on"}, "remote wakeup {}"),
     (5, {0: "", 1: "on its own supply"}, "power source {}"),
-    *[(at, {0: ""}, f"byte {at} is {{}}") for at in (6, 7)],
+    (6, {0: "", 1: "suspended"}, "suspended {}"),
+    (7, {0: ""}, "byte 7 is {}"),
     *[(8 + number, {0: ""}, f"interface {number} at alternate {{}}") for number in range(16)],
 ]
 ENDPOINTS = ["halted 0x{:02X}", "toggle 1 at 0x{:02X}"]

@@ -52,6 +52,7 @@ extern "C" {
 #define HK_NO_SUCH_FEATURE 14         /* STALL: feature not there for this recipient */
 #define HK_NO_SUCH_PACKET 15          /* packet: size, lengths or packet number */
 #define HK_ENDPOINT_UNFIT 16          /* function event on an unfit endpoint; power value above 1; no such endpoint */
+#define HK_WAKE_NOT_ALLOWED 19        /* wake event: not suspended, or the host has not allowed it */
 #define HK_PIECES_BROKEN 20           /* makers: the pieces do not end where their lengths say */
 #define HK_SET_REFUSED 21             /* makers: over 64 pieces or 16,384 bytes, or hk_open would refuse the set */
 #define HK_BUFFER_TOO_SHORT 22        /* makers: what is to be written is longer than the buffer */
@@ -92,13 +93,15 @@ uint8_t hk_open(const uint8_t *set, size_t set_length, const uint8_t *serial, si
  * HK_DONE: answer it. Either *count is 1 or 2, and so many of bytes[0] and bytes[1] are the data stage; or part->length
  * is not 0, and the part is the data stage. Cut it with hk_packet, which is told the setup's wLength too. With neither,
  * no data goes out and the status stage follows.
- * HK_REQUEST_UNKNOWN to HK_NO_SUCH_FEATURE: answer with STALL; only a waiting address was dropped.
+ * HK_REQUEST_UNKNOWN to HK_NO_SUCH_FEATURE: answer with STALL; only a waiting address was dropped, and sleep has ended.
  * HK_SET_NOT_ACCEPTABLE, HK_RECORD_DOES_NOT_FIT, HK_SETUP_LENGTH_WRONG: nothing was changed.
  *
  * bytes, *count and *part are always written. What is not handed back is 0: a refusal leaves count 0 and bytes 0, 0, and
  * one byte leaves bytes[1] 0. A part that is not handed back is the set's first 0 bytes.
  *
  * A string that is asked in a language that the set does not list is given in the first listed one.
+ *
+ * A suspended device is awake again after any setup of 8 bytes, refused or not.
  *
  * A new address only waits here: hk_status_end takes it, so that the status stage still goes out under the old one. */
 uint8_t hk_setup(const uint8_t *set, size_t set_length, const uint8_t *serial, size_t serial_length,
@@ -127,8 +130,8 @@ uint8_t hk_bus_reset(const uint8_t *set, size_t set_length, const uint8_t *seria
 uint8_t hk_halt(const uint8_t *set, size_t set_length, const uint8_t *serial, size_t serial_length,
                 uint8_t *image, size_t image_length, uint8_t endpoint);
 
-/* A data packet has passed on an endpoint: flips its data toggle. A bulk or interrupt endpoint of a current setting that
- * is not halted, by its address (bit 7 is the direction).
+/* A data packet has passed on an endpoint: flips its data toggle, and a suspended device is awake again. A bulk or
+ * interrupt endpoint of a current setting that is not halted, by its address (bit 7 is the direction).
  *
  * HK_DONE; HK_ENDPOINT_UNFIT for any other address; HK_SET_NOT_ACCEPTABLE or HK_RECORD_DOES_NOT_FIT. All but HK_DONE
  * change nothing. */
@@ -142,6 +145,25 @@ uint8_t hk_packet_passed(const uint8_t *set, size_t set_length, const uint8_t *s
  * change nothing. */
 uint8_t hk_power(const uint8_t *set, size_t set_length, const uint8_t *serial, size_t serial_length,
                  uint8_t *image, size_t image_length, uint8_t source);
+
+/* The bus has gone quiet: the device is suspended. It is awake again with hk_resume, hk_bus_reset, any setup of 8 bytes and
+ * any packet that passes. Nothing else of the image changes; twice is as good as once.
+ *
+ * HK_DONE, HK_SET_NOT_ACCEPTABLE or HK_RECORD_DOES_NOT_FIT; the last two change nothing. */
+uint8_t hk_suspend(const uint8_t *set, size_t set_length, const uint8_t *serial, size_t serial_length,
+                   uint8_t *image, size_t image_length);
+
+/* The bus has come back to life: the device is awake. Numbers as hk_suspend. */
+uint8_t hk_resume(const uint8_t *set, size_t set_length, const uint8_t *serial, size_t serial_length,
+                  uint8_t *image, size_t image_length);
+
+/* The device would like to wake the host: may the board signal resume?
+ *
+ * HK_DONE: it may, since the device is suspended and the host has allowed remote wakeup. HK_WAKE_NOT_ALLOWED: it may not.
+ * HK_SET_NOT_ACCEPTABLE or HK_RECORD_DOES_NOT_FIT. Nothing is changed in any case: the device sleeps on until the bus comes
+ * back to life. */
+uint8_t hk_wake(const uint8_t *set, size_t set_length, const uint8_t *serial, size_t serial_length,
+                uint8_t *image, size_t image_length);
 
 /* Endpoint descriptor `number` (from 0) of the current settings, in the set's order: what a board opens after a
  * SET_CONFIGURATION or a SET_INTERFACE. It holds address, attributes, wMaxPacketSize and bInterval (bytes 2, 3, 4 and 5, 6)
@@ -163,7 +185,8 @@ typedef struct hk_record {
     uint8_t configuration;  /* the selected bConfigurationValue, 0 for none */
     uint8_t wakeup;         /* 1: the host has allowed remote wakeup */
     uint8_t power;          /* HK_POWER_BUS or HK_POWER_OWN */
-    uint8_t suspended, speed; /* 0 */
+    uint8_t suspended;      /* 1: suspended */
+    uint8_t speed;          /* 0 */
     uint8_t alternates[16]; /* the current setting of each interface */
     uint32_t halts;         /* bit e: OUT endpoint e is halted; bit 16 + e: IN endpoint e */
     uint32_t toggles;       /* the data toggles, in the same order */
@@ -176,6 +199,9 @@ typedef struct hk_record {
 #define HK_EVENT_HALT 3          /* as hk_halt: value is the endpoint */
 #define HK_EVENT_PACKET_PASSED 4 /* as hk_packet_passed: value is the endpoint */
 #define HK_EVENT_POWER 5         /* as hk_power: value is the source */
+#define HK_EVENT_SUSPEND 6       /* as hk_suspend */
+#define HK_EVENT_RESUME 7        /* as hk_resume */
+#define HK_EVENT_WAKE 8          /* as hk_wake */
 
 /* Any event, on a record that stands aligned in memory: what the call for that event does to an image, done to the
  * record where it stands, without a copy to an image and back. Its numbers are that call's too.

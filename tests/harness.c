@@ -285,6 +285,15 @@ static void call_event(uint8_t operation, uint8_t flags) {
     case 'h':
         number = hk_halt(set_lent, set.length, serial_lent, serial.length, image_lent, image.length, value);
         break;
+    case 'z':
+        number = hk_suspend(set_lent, set.length, serial_lent, serial.length, image_lent, image.length);
+        break;
+    case 'y':
+        number = hk_resume(set_lent, set.length, serial_lent, serial.length, image_lent, image.length);
+        break;
+    case 'a':
+        number = hk_wake(set_lent, set.length, serial_lent, serial.length, image_lent, image.length);
+        break;
     case 'P':
         number = hk_power(set_lent, set.length, serial_lent, serial.length, image_lent, image.length, value);
         break;
@@ -372,7 +381,7 @@ int main(void) {
         case 'v':
             call_record_event(flags);
             break;
-        case 'o': case 'e': case 'r': case 'h': case 'p': case 'P':
+        case 'o': case 'e': case 'r': case 'h': case 'p': case 'P': case 'z': case 'y': case 'a':
             call_event(operation, flags);
             break;
         default:

@@ -11,7 +11,7 @@
 #define DAMAGED_COPIES 24
 #define MOST_SET 512
 #define SET_ADDRESS 5
-#define FIRST_OTHER_EVENT 6 /* no event has this number or a higher one */
+#define FIRST_OTHER_EVENT 9 /* no event has this number or a higher one */
 
 /* What an event hands back. */
 struct answer {
@@ -72,6 +72,7 @@ static void random_setup(struct event *event) {
 
 static struct event random_event(void) {
     static const uint8_t function_events[] = {HK_EVENT_HALT, HK_EVENT_PACKET_PASSED};
+    static const uint8_t sleep_events[] = {HK_EVENT_SUSPEND, HK_EVENT_SUSPEND, HK_EVENT_RESUME, HK_EVENT_WAKE};
     struct event event = {HK_EVENT_SETUP, 0, {0}, 0};
     uint32_t choice = below(64);
     if (choice < 40) {
@@ -80,6 +81,8 @@ static struct event random_event(void) {
         event.kind = HK_EVENT_STATUS_END;
     } else if (choice < 51) {
         event.kind = below(8) == 0 ? HK_EVENT_BUS_RESET : HK_EVENT_STATUS_END;
+    } else if (choice < 54) {
+        event.kind = one_of(sleep_events, sizeof sleep_events);
     } else if (choice < 62) {
         event.kind = one_of(function_events, sizeof function_events);
         event.value = random_endpoint();
@@ -109,6 +112,15 @@ static struct answer on_image(const struct event *event) {
         break;
     case HK_EVENT_PACKET_PASSED:
         answer.number = hk_packet_passed(set, set_length, serial, serial_length, image, sizeof image, event->value);
+        break;
+    case HK_EVENT_SUSPEND:
+        answer.number = hk_suspend(set, set_length, serial, serial_length, image, sizeof image);
+        break;
+    case HK_EVENT_RESUME:
+        answer.number = hk_resume(set, set_length, serial, serial_length, image, sizeof image);
+        break;
+    case HK_EVENT_WAKE:
+        answer.number = hk_wake(set, set_length, serial, serial_length, image, sizeof image);
         break;
     case HK_EVENT_POWER:
         answer.number = hk_power(set, set_length, serial, serial_length, image, sizeof image, event->value);
@@ -204,7 +216,7 @@ static void run_flash(const struct device_flash *flash, unsigned long events) {
 }
 
 int main(int argument_count, char **arguments) {
-    static const uint8_t expected[] = {0, 7, 8, 9, 10, 11, 12, 13, 14, 16};
+    static const uint8_t expected[] = {0, 7, 8, 9, 10, 11, 12, 13, 14, 16, 19};
     unsigned long events = argument_count > 1 ? strtoul(arguments[1], NULL, 10) : 100000;
     int missing = 0;
     run_flash(&bench_flash, events);

@@ -8,8 +8,8 @@ TOP = os.path.dirname(os.path.dirname(os.path.abspath(__file__)))
 REFERENCE = os.path.join(TOP, "target", "reference", "release", "reference")
 
 # The events by their numbers in include/heideklonk.h, and the operation of each in the protocol.
-SETUP, STATUS_END, BUS_RESET, HALT, PACKET_PASSED, POWER = range(6)
-OPERATIONS = b"serhpP"
+SETUP, STATUS_END, BUS_RESET, HALT, PACKET_PASSED, POWER, SUSPEND, RESUME, WAKE = range(9)
+OPERATIONS = b"serhpPzya"
 
 
 def block(data):

@@ -19,12 +19,12 @@
 #define PAINT 0x5A
 
 enum function {
-    EMPTY, OPEN, SETUP, STATUS_END, BUS_RESET, HALT, PACKET_PASSED, POWER, RECORD_EVENT, PACKET, EXPORT, TRIM, FUNCTIONS
+    EMPTY, OPEN, SETUP, STATUS_END, BUS_RESET, HALT, PACKET_PASSED, POWER, SUSPEND, RESUME, WAKE, RECORD_EVENT, PACKET, EXPORT, TRIM, FUNCTIONS
 };
 
 static const char *const names[FUNCTIONS] = {
     "an empty call", "hk_open", "hk_setup", "hk_status_end", "hk_bus_reset", "hk_halt", "hk_packet_passed",
-    "hk_power", "hk_record_event", "hk_packet", "hk_export", "hk_trim",
+    "hk_power", "hk_suspend", "hk_resume", "hk_wake", "hk_record_event", "hk_packet", "hk_export", "hk_trim",
 };
 
 /* What the next call takes; static, so that nothing of it lies on the painted stack. */
@@ -65,6 +65,15 @@ static void call(void) {
         break;
     case POWER:
         hk_power(set, set_length, serial, serial_length, image, sizeof image, event_value);
+        break;
+    case SUSPEND:
+        hk_suspend(set, set_length, serial, serial_length, image, sizeof image);
+        break;
+    case RESUME:
+        hk_resume(set, set_length, serial, serial_length, image, sizeof image);
+        break;
+    case WAKE:
+        hk_wake(set, set_length, serial, serial_length, image, sizeof image);
         break;
     case RECORD_EVENT:
         hk_record_event(set, set_length, serial, serial_length, &record, event, event_value, setup, sizeof setup, bytes,
@@ -160,6 +169,11 @@ static void measure_state(void) {
     event_value = HK_POWER_OWN;
     measure_record(HK_EVENT_POWER);
     measure(POWER);
+    memcpy(image, state, sizeof state);
+    for (uint8_t number = HK_EVENT_SUSPEND; number <= HK_EVENT_WAKE; number++) {
+        measure_record(number);
+        measure((enum function)(SUSPEND + number - HK_EVENT_SUSPEND));
+    }
     memcpy(image, state, sizeof state);
 }
 

@@ -142,13 +142,27 @@ function callSetup(flags) {
     respond(error || (found ? 0 : PART_ASTRAY), number, count.bytes()[0], bytes.bytes(), ...(found ?? [0, 0, 0]), imageLent.bytes());
 }
 
-const EVENTS = { o: "hk_open", e: "hk_status_end", r: "hk_bus_reset", h: "hk_halt", p: "hk_packet_passed" };
+// The record stands aligned, and its bytes are the image.
+function callRecordEvent(flags) {
+    const event = takeNumber(1), value = takeNumber(1), record = takeBlock(), setup = takeBlock(), lent = new Lent(flags);
+    const setLent = lent.place(set), serialLent = lent.place(serial), recordLent = lent.placeForWriting(record, 4), setupLent = lent.place(setup);
+    const bytes = lent.placeForWriting(new Uint8Array(2).fill(UNWRITTEN)), count = lent.placeForWriting(new Uint8Array(1).fill(UNWRITTEN)), part = lent.placePart();
+    const { number, error } = lent.call("hk_record_event", ...pair(setLent), ...pair(serialLent), recordLent.address, event, value, ...pair(setupLent), bytes.address, count.address, part.address);
+    const found = locate(part, [[0, setLent], [1, serialLent]]);
+    respond(error || (found ? 0 : PART_ASTRAY), number, count.bytes()[0], bytes.bytes(), ...(found ?? [0, 0, 0]), recordLent.bytes());
+}
+
+const EVENTS = {
+    o: "hk_open", e: "hk_status_end", r: "hk_bus_reset", h: "hk_halt", p: "hk_packet_passed",
+    P: "hk_power", z: "hk_suspend", y: "hk_resume", a: "hk_wake",
+};
+const VALUED = "hpP";
 
 function callEvent(operation, flags) {
-    const endpoint = operation === "h" || operation === "p" ? [takeNumber(1)] : [];
+    const value = VALUED.includes(operation) ? [takeNumber(1)] : [];
     const image = takeBlock(), lent = new Lent(flags);
     const blocks = [lent.place(set), lent.place(serial)], imageLent = lent.placeForWriting(image);
-    const { number, error } = lent.call(EVENTS[operation], ...[...blocks, imageLent].flatMap(pair), ...endpoint);
+    const { number, error } = lent.call(EVENTS[operation], ...[...blocks, imageLent].flatMap(pair), ...value);
     respond(error, number, 0, [0, 0], 0, 0, 0, imageLent.bytes());
 }
 
@@ -167,6 +181,14 @@ const MAKERS = {
     x: ["hk_export", () => [set, serial]],
 };
 
+// The set is the buffer.
+function callTrim(flags) {
+    const lent = new Lent(flags), buffer = lent.placeForWriting(takeBlock()), serialLent = lent.place(serial);
+    const total = lent.placeForWriting(new Uint8Array(2).fill(UNWRITTEN), 2);
+    const { number, error } = lent.call("hk_trim", ...pair(buffer), ...pair(serialLent), total.address);
+    respond(error, number, 0, [0, 0], 0, 0, words.getUint16(total.address, true), buffer.bytes());
+}
+
 function callMaker(operation, flags) {
     const [name, read] = MAKERS[operation], lent = new Lent(flags);
     const blocks = read().map((bytes) => lent.place(bytes)), buffer = lent.placeForWriting(takeBlock());
@@ -183,8 +205,12 @@ for (;;) {
         serial = takeBlock();
     else if (operation === "s")
         callSetup(flags);
+    else if (operation === "v")
+        callRecordEvent(flags);
     else if (operation === "k")
         callPacket(flags);
+    else if (operation === "t")
+        callTrim(flags);
     else if (operation in MAKERS)
         callMaker(operation, flags);
     else if (operation in EVENTS)

@@ -10,7 +10,7 @@ use Rattle.sets.specs.Opening.{Board}
 use Rattle.records.specs.declared.Device.{Device}
 use Rattle.events.specs.declared.Answer.{Answer}
 use Rattle.events.specs.declared.Event.{Event}
-use Rattle.events.specs.declared.Event.the-variants.{Malformed, StatusEnd, BusReset, Halt, PacketPassed, Power}
+use Rattle.events.specs.declared.Event.the-variants.{Malformed, StatusEnd, BusReset, Halt, PacketPassed, Power, Suspend, Resume, Wake}
 use Rattle.events.specs.Answer.{Part, numberOf, bytesOf, partOf}
 use Rattle.events.specs.Places.{inBlock, bytesIn}
 use Rattle.events.specs.Step.{step, opened, event, setupEvent}
@@ -22,7 +22,7 @@ pub record Opens (b : Board) (image : List ℕ) (answer : ℕ) (left : List ℕ)
   pub number : answer ≡ opened b image .number
   pub leaves : left ≡ opened b image .image
 
--- ---- hk_status_end, hk_bus_reset, hk_halt, hk_packet_passed and hk_power, of an event without bytes or a part: its number, and the image left
+-- ---- hk_status_end, hk_bus_reset, hk_halt, hk_packet_passed, hk_power, hk_suspend, hk_resume and hk_wake, of an event without bytes or a part: its number, and the image left
 pub record Happens (b : Board) (image : List ℕ) (e : Event) (answer : ℕ) (left : List ℕ) : Type 0 where
   pub number : answer ≡ numberOf (event b image e .answer)
   pub leaves : left ≡ event b image e .image
@@ -63,7 +63,7 @@ pub record AnswersSetup (b : Board) (setSpot serialSpot : Spot) (image setup : L
   pub answers : Hands b setSpot serialSpot (event b image (setupEvent setup) .answer) answer bytes count shown spot
 
 -- ---- hk_record_event: any event, by its number, on a record that is lent and changed where it stands
--- 0 a setup, 1 status end, 2 bus reset, 3 halt, 4 packet passed, 5 power; any other number is refused as a setup that is not 8 bytes
+-- 0 a setup, 1 status end, 2 bus reset, 3 halt, 4 packet passed, 5 power, 6 suspend, 7 resume, 8 wake; any other number is refused as a setup that is not 8 bytes
 abbrev pub numbered : ℕ → ℕ → List ℕ → Event
 numbered kind value setup =
     pick (eqb kind 0) (setupEvent setup)
@@ -71,7 +71,10 @@ numbered kind value setup =
     (pick (eqb kind 2) BusReset
     (pick (eqb kind 3) (Halt value)
     (pick (eqb kind 4) (PacketPassed value)
-    (pick (eqb kind 5) (Power value) Malformed)))))
+    (pick (eqb kind 5) (Power value)
+    (pick (eqb kind 6) Suspend
+    (pick (eqb kind 7) Resume
+    (pick (eqb kind 8) Wake Malformed))))))))
 
 -- the record left, and the answer handed out
 pub record AnswersRecordEvent (b : Board) (setSpot serialSpot : Spot) (device : Device) (e : Event) (answer : ℕ) (left : Device) (bytes : List ℕ) (count : ℕ) (shown : List ℕ) (spot : Spot) : Type 0 where

@@ -115,4 +115,4 @@ pub unnoticedByOne : {gs others : List Given} {last other : List ℕ} → (r : R
     → Runs T setSpot serialSpot freshImage leftRun others other
     → (keptOf T setSpot serialSpot 1 r ≡ told leftRun others) × Alike T setSpot serialSpot 1 last other
 unfolding computed
-unnoticedByOne = unnoticed T setSpot serialSpot 1 bytesT {start = start} refl opens
+unnoticedByOne r = unnoticed T setSpot serialSpot 1 bytesT {start = start} refl opens r (λ p. refl, (λ p. refl, (λ p. refl, (λ p. refl, (λ p. refl, (λ p. refl, tt))))))

@@ -12,7 +12,7 @@ use Rattle.octets.specs.Octets.{Bytes}
 use Rattle.records.specs.Image.{bytesOfFour, imageOf}
 use Rattle.events.specs.declared.Answer.{Answer}
 use Rattle.events.specs.declared.Event.{Event}
-use Rattle.events.specs.declared.Event.the-variants.{StatusEnd, BusReset, Halt, PacketPassed, Power}
+use Rattle.events.specs.declared.Event.the-variants.{StatusEnd, BusReset, Halt, PacketPassed, Power, Suspend, Resume, Wake}
 use Rattle.events.specs.Answer.{Part, numberOf, partOf}
 use Rattle.events.specs.Places.{Inside, bytesIn}
 use Rattle.events.specs.Step.{setupEvent, event, opened}
@@ -25,7 +25,7 @@ use Rattle.board.specs.Exports.{Opens, Happens, AnswersSetup, Spot, padd
 
 -- ---- what an export that answers no setup tells
 pub data Happening : Type 0 where
-  statusEnd busReset : Happening
+  statusEnd busReset suspend resume wake : Happening
   halt packetPassed power : ℕ → Happening
 
 -- a call as C makes it, but for the set, the serial block and the image, which a run lends to each of its calls
@@ -42,6 +42,9 @@ happened busReset = BusReset
 happened (halt endpoint) = Halt endpoint
 happened (packetPassed endpoint) = PacketPassed endpoint
 happened (power source) = Power source
+happened suspend = Suspend
+happened resume = Resume
+happened wake = Wake
 
 abbrev pub eventOf : Call → Event
 eventOf (setup bytes) = setupEvent bytes

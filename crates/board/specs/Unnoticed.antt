@@ -34,9 +34,13 @@ module _ (b : Board) (set serial : Spot) (k : ℕ) where
   abbrev pub struck : List ℕ → Call → Bool
   struck image c = struckFor b k (deviceOf image) (eventOf c)
 
-  -- a premise on the run: no struck call arrives while there is something for it to settle. Today there never is (`unnoticed`)
+  -- a premise on the run: no struck call arrives while there is something for it to settle
   abbrev pub FairRun : List ℕ → List Call → Type 0
   FairRun = Strike.FairRun (leaves b set serial) struck (λ image c. Fair b (deviceOf image) (eventOf c))
+
+  -- the page's: "no struck event arrived while suspended" (L12)
+  abbrev pub AwakeRun : List ℕ → List Call → Type 0
+  AwakeRun = Strike.FairRun (leaves b set serial) struck (λ image c. deviceOf image .suspended ≡ 0)
 
   -- the calls left
   abbrev pub kept : List ℕ → List Call → List Call
@@ -78,10 +82,10 @@ module _ (b : Board) (set serial : Spot) (k : ℕ) where
         let (s, t) = ran b set serial two in
         (kept-left one ∙ same ∙ sym (ap (told (kept image cs)) s ∙ told-log image (kept image cs)), rw (q, t) end)
 
-    -- nothing waits and nobody sleeps where a call concerns an interface
-    fairToday : (image : List ℕ) → FitImage b image → (cs : List Call) → FairRun image cs
-    fairToday = fair-run (leaves b set serial) struck (λ image c. Fair b (deviceOf image) (eventOf c)) (FitImage b) (keeps b set serial bytes ok)
-        (λ image c f p. idle b (deviceOf image) (eventOf c) (answerOf b (deviceOf image) (eventOf c)) (f .fit)
+    -- nothing waits where a call concerns an interface
+    fairAwake : (image : List ℕ) → FitImage b image → (cs : List Call) → AwakeRun image cs → FairRun image cs
+    fairAwake = fair-run (leaves b set serial) struck (λ image c. deviceOf image .suspended ≡ 0) (λ image c. Fair b (deviceOf image) (eventOf c)) (FitImage b) (keeps b set serial bytes ok)
+        (λ image c f p z. idle b (deviceOf image) (eventOf c) (answerOf b (deviceOf image) (eventOf c)) (f .fit) z
         (both (owned b (deviceOf image) (eventOf c)) (not (eqb (who b (deviceOf image) (eventOf c)) k)) p .0))
 
   -- ---- from power-on: an opening that gave 0, of any 32 bytes
@@ -97,8 +101,8 @@ module _ (b : Board) (set serial : Spot) (k : ℕ) where
         → (keptOf r ≡ told (kept image cs) others) × Alike last other
     unnoticedFair = unnoticedFit bytes ok fit
 
-    -- today with no premise on the run
+    -- with the page's premise
     pub unnoticed : {cs : List Call} {gs others : List Given} {last other : List ℕ}
-        → (r : Runs b set serial image cs gs last) → Runs b set serial image (kept image cs) others other
+        → (r : Runs b set serial image cs gs last) → AwakeRun image cs → Runs b set serial image (kept image cs) others other
         → (keptOf r ≡ told (kept image cs) others) × Alike last other
-    unnoticed {cs} r = unnoticedFair r (fairToday bytes ok image fit cs)
+    unnoticed {cs} r awake = unnoticedFair r (fairAwake bytes ok image fit cs awake)

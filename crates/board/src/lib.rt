@@ -6,7 +6,7 @@ ghost use mathlib.Core.Path.{_≡_};
 ghost use Rattle.sets.specs.Opening.{lent};
 ghost use Rattle.sets.specs.View.{openingOf};
 ghost use Rattle.events.specs.Step.{event};
-ghost use Rattle.events.specs.declared.Event.the-variants.{StatusEnd, BusReset, Halt, PacketPassed, Power};
+ghost use Rattle.events.specs.declared.Event.the-variants.{StatusEnd, BusReset, Halt, PacketPassed, Power, Suspend, Resume, Wake};
 ghost use Rattle.board.specs.Exports.{Opens, Happens, AnswersSetup, CutsPacket, spotOf, numbered, AnswersRecordEvent};
 
 mod endpoint;
@@ -106,6 +106,33 @@ pub extern "C" fn hk_power(set: &[u8], serial: &[u8], image: &mut [u8], source: 
 {
     let number = steps::opening(set, serial);
     events::reply::number(event(number, set, serial, image, Event::Power(source)))
+}
+
+// The bus has fallen silent: the device is suspended.
+#[no_mangle]
+pub extern "C" fn hk_suspend(set: &[u8], serial: &[u8], image: &mut [u8]) -> u8
+    ensures { λ r. ⌜ Happens (lent (now (set .entry)) (now (serial .entry))) (now (image .entry)) Suspend r (now (image .exit)) ⌝ }
+{
+    let number = steps::opening(set, serial);
+    events::reply::number(event(number, set, serial, image, Event::Suspend))
+}
+
+// The host resumes the bus.
+#[no_mangle]
+pub extern "C" fn hk_resume(set: &[u8], serial: &[u8], image: &mut [u8]) -> u8
+    ensures { λ r. ⌜ Happens (lent (now (set .entry)) (now (serial .entry))) (now (image .entry)) Resume r (now (image .exit)) ⌝ }
+{
+    let number = steps::opening(set, serial);
+    events::reply::number(event(number, set, serial, image, Event::Resume))
+}
+
+// Whether the board may signal the host to wake.
+#[no_mangle]
+pub extern "C" fn hk_wake(set: &[u8], serial: &[u8], image: &mut [u8]) -> u8
+    ensures { λ r. ⌜ Happens (lent (now (set .entry)) (now (serial .entry))) (now (image .entry)) Wake r (now (image .exit)) ⌝ }
+{
+    let number = steps::opening(set, serial);
+    events::reply::number(event(number, set, serial, image, Event::Wake))
 }
 
 // Packet `number` of a reply to a request that asked for `asked` bytes, with packets of `size` bytes: a part of the reply, and no copy.

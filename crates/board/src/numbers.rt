@@ -19,6 +19,9 @@ pub fn event_of(kind: u8, value: u8, setup: &[u8]) -> Event
         3 => Event::Halt(value),
         4 => Event::PacketPassed(value),
         5 => Event::Power(value),
+        6 => Event::Suspend,
+        7 => Event::Resume,
+        8 => Event::Wake,
         _ => Event::Malformed,
     }
 }

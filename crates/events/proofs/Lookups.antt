@@ -12,7 +12,7 @@ use Rattle.descriptors.specs.declared.lookup.EndpointFound.the-variants.{At, No
 use Rattle.descriptors.specs.Lookup.{found}
 use Rattle.sets.specs.View.{View}
 use Rattle.records.specs.declared.Device.{Device}
-use Rattle.records.specs.Device.{inDefault, inAddress, nothing, withWaiting}
+use Rattle.records.specs.Device.{inDefault, inAddress, settled}
 use Rattle.requests.specs.declared.Setup.{Setup}
 use Rattle.events.specs.declared.facts.Facts.{Facts}
 use Rattle.events.specs.Requests.{digit}
@@ -41,8 +41,8 @@ state-of (suc w) = rw (le-leb 1 (suc w) (omega arith), ne-eqb (suc w) 0 (λ p. o
 pub small-mod : {n : ℕ} → n < 16 → n % 16 ≡ n
 small-mod p = omega (arith, p)
 
--- ---- facts do not tell of what waits
-pub settles : {v : View} {d : Device} {s : Setup} {f : Facts} → Tells v d s f → Tells v (withWaiting nothing d) s f
+-- ---- facts do not tell of what waits, nor of sleep
+pub settles : {v : View} {d : Device} {s : Setup} {f : Facts} → Tells v d s f → Tells v (settled d) s f
 settles t = record {
   configured = t .configured;
   waking = t .waking;

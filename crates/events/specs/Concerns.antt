@@ -13,7 +13,7 @@ use Rattle.records.specs.Current.{viewAt, selected}
 use Rattle.requests.specs.declared.Setup.{Setup}
 use Rattle.requests.specs.Setup.{recipient}
 use Rattle.events.specs.declared.Event.{Event}
-use Rattle.events.specs.declared.Event.the-variants.{Request, Malformed, StatusEnd, BusReset, Halt, PacketPassed, Power}
+use Rattle.events.specs.declared.Event.the-variants.{Request, Malformed, StatusEnd, BusReset, Halt, PacketPassed, Power, Suspend, Resume, Wake}
 
 -- the interface that lists an address "in any setting" of the configuration; no second interface does. An address is one byte,
 -- so a wIndex whose high byte is not 0 is none
@@ -39,6 +39,9 @@ subjectOf BusReset = theDevice
 subjectOf (Halt a) = anEndpoint a
 subjectOf (PacketPassed a) = anEndpoint a
 subjectOf (Power source) = theDevice
+subjectOf Suspend = theDevice
+subjectOf Resume = theDevice
+subjectOf Wake = theDevice
 
 abbrev pub subjectConcerns : Configuration → Subject → Option ℕ
 subjectConcerns c (aSetup s) = setupConcerns c s

@@ -11,7 +11,7 @@ use Rattle.records.specs.Change.{changed}
 use Rattle.records.specs.Current.{selected}
 use Rattle.requests.specs.declared.Setup.{Setup}
 use Rattle.events.specs.declared.Event.{Event}
-use Rattle.events.specs.declared.Event.the-variants.{Request, Malformed, StatusEnd, BusReset, Halt, PacketPassed, Power}
+use Rattle.events.specs.declared.Event.the-variants.{Request, Malformed, StatusEnd, BusReset, Halt, PacketPassed, Power, Suspend, Resume, Wake}
 use Rattle.events.specs.declared.facts.Facts.{Facts}
 use Rattle.events.specs.declared.reaction.Reaction.{Reaction}
 use Rattle.events.specs.declared.Outcome.{Outcome}
@@ -44,6 +44,9 @@ questionOf BusReset = naming 0
 questionOf (Halt a) = naming a
 questionOf (PacketPassed a) = naming a
 questionOf (Power source) = naming 0
+questionOf Suspend = naming 0
+questionOf Resume = naming 0
+questionOf Wake = naming 0
 
 -- what it asks of the selected configuration
 abbrev pub askedBy : Setup → Asked

@@ -11,7 +11,7 @@ use Rattle.descriptors.specs.declared.Endpoint.{Endpoint}
 use Rattle.sets.specs.Opening.{Board}
 use Rattle.sets.specs.View.{View, openingOf, accepted}
 use Rattle.records.specs.declared.Device.{Device}
-use Rattle.records.specs.Device.{inDefault, inAddress, nothing, fresh, afterReset, settled, withPower, withAddress, withEndpoints}
+use Rattle.records.specs.Device.{inDefault, inAddress, nothing, fresh, afterReset, awake, settled, withPower, withSuspended, withAddress, withEndpoints}
 use Rattle.records.specs.Image.{deviceOf, imageOf}
 use Rattle.descriptors.specs.Configuration.{canHalt, bitOf}
 use Rattle.records.specs.Current.{viewAt, endpointAt}
@@ -22,7 +22,7 @@ use Rattle.requests.specs.Table.{refusal}
 use Rattle.events.specs.declared.Answer.{Answer}
 use Rattle.events.specs.declared.Answer.the-variants.{Refused}
 use Rattle.events.specs.declared.Event.{Event}
-use Rattle.events.specs.declared.Event.the-variants.{Request, Malformed, StatusEnd, BusReset, Halt, PacketPassed, Power}
+use Rattle.events.specs.declared.Event.the-variants.{Request, Malformed, StatusEnd, BusReset, Halt, PacketPassed, Power, Suspend, Resume, Wake}
 use Rattle.events.specs.declared.Outcome.{Outcome}
 use Rattle.events.specs.Answer.{done, refused}
 use Rattle.events.specs.Requests.{getStatus, clearFeature, setFeature, setHalt, setAddress, getDescriptor, getConfiguration, setConfiguration, getInterface, setInterface}
@@ -44,7 +44,7 @@ request v d s =
 abbrev pub unlessRefused : ℕ → View → Device → Setup → Outcome
 unlessRefused n v d s = pick (eqb n 0) (request v d s) (refused n d)
 
--- "Past 7 to 9, a setup first drops any waiting address."
+-- "Past 7 to 9, a setup first drops any waiting address."; "any setup past 7 to 9" clears byte 6 (L12)
 unfoldable pub answerSetup : View → Device → Setup → Outcome
 answerSetup v d s = unlessRefused (refusal (d .state) s) v (settled d) s
 
@@ -63,12 +63,12 @@ haltAt d (some e) = pick (canHalt e) (done (setHalt d (bitOf (e .address)))) (re
 unfoldable pub halt : View → Device → ℕ → Outcome
 halt v d address = haltAt d (endpointAt v d address)
 
--- "packet passed (flips the toggle; bulk or interrupt, current, not halted)"
+-- "packet passed (flips the toggle; bulk or interrupt, current, not halted)"; "any accepted packet passed event" clears byte 6 (L12)
 abbrev pub passAt : Device → Option Endpoint → Outcome
 passAt d none = refused 16 d
 passAt d (some e) =
     let k = bitOf (e .address) in
-    pick (canHalt e && not (bit (d .halts) k)) (done (withEndpoints (d .alternates) (d .halts) (flipBit (d .toggles) k) d)) (refused 16 d)
+    pick (canHalt e && not (bit (d .halts) k)) (done (awake (withEndpoints (d .alternates) (d .halts) (flipBit (d .toggles) k) d))) (refused 16 d)
 
 unfoldable pub packetPassed : View → Device → ℕ → Outcome
 packetPassed v d address = passAt d (endpointAt v d address)
@@ -76,6 +76,10 @@ packetPassed v d address = passAt d (endpointAt v d address)
 -- ---- the power source: "the power event leaves every other byte"; "a power event with a value above 1 gets 16" (L2)
 abbrev pub power : Device → ℕ → Outcome
 power d source = pick (leb source 1) (done (withPower source d)) (refused 16 d)
+
+-- ---- "A wake event succeeds exactly if the device is suspended and wakeup is on, and changes nothing by itself"; "19 wake not allowed, nothing changed" (L12)
+abbrev pub wake : Device → Outcome
+wake d = pick (eqb (d .suspended) 1 && eqb (d .wakeup) 1) (done d) (refused 19 d)
 
 -- ---- every event, on a record that fits
 abbrev pub respond : View → Device → Event → Outcome
@@ -86,6 +90,10 @@ respond v d BusReset = done (afterReset d)
 respond v d (Halt a) = halt v d a
 respond v d (PacketPassed a) = packetPassed v d a
 respond v d (Power source) = power d source
+-- "Suspend sets it; resume, .. clear it" (L12)
+respond v d Suspend = done (withSuspended 1 d)
+respond v d Resume = done (awake d)
+respond v d Wake = wake d
 
 -- "Order: 7, 8, then for a setup 9 to 14, for a function event 16."
 unfoldable pub step : Board → Device → Event → Outcome

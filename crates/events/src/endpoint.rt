@@ -16,7 +16,7 @@ ghost use Rattle.descriptors.specs.declared.Endpoint.{Endpoint};
 ghost use Rattle.descriptors.specs.Configuration.{canHalt, bitOf, cleared};
 ghost use Rattle.descriptors.specs.Lookup.{found, bitsOf};
 ghost use Rattle.sets.specs.View.{View};
-ghost use Rattle.records.specs.Device.{withEndpoints};
+ghost use Rattle.records.specs.Device.{awake, withEndpoints};
 ghost use Rattle.records.specs.Change.{changed};
 ghost use Rattle.records.specs.Current.{endpointAt};
 ghost use Rattle.events.specs.Requests.{isEndpointZero};
@@ -60,13 +60,14 @@ pub fn with_halt(on: bool, device: Device, endpoint: Endpoint) -> Change
     next
 }
 
-// An endpoint's toggle flips.
+// An endpoint's toggle flips, and the device is awake.
 fn with_toggle(device: Device, endpoint: Endpoint) -> Change
-    ensures { λ r. ⌜ changed r device ≡ withEndpoints (device .alternates) (device .halts) (flipBit (device .toggles) (bitOf (endpoint .address))) device ⌝ }
+    ensures { λ r. ⌜ changed r device ≡ awake (withEndpoints (device .alternates) (device .halts) (flipBit (device .toggles) (bitOf (endpoint .address))) device) ⌝ }
 {
     let k = bit_of(endpoint.address);
     let mut next = records::kept(device);
     next.toggles = octets::flip_bit(device.toggles, k);
+    next.suspended = 0;
     next
 }
 

@@ -11,7 +11,7 @@ pub mod reply;
 pub mod respond;
 pub mod standard;
 
-// An event: a setup of eight bytes, a setup of any other length, or one of the five others.
+// An event: a setup of eight bytes, a setup of any other length, or one of the eight others.
 pub enum Event {
     Request(Setup),
     Malformed,
@@ -20,6 +20,9 @@ pub enum Event {
     Halt(u8),
     PacketPassed(u8),
     Power(u8),
+    Suspend,
+    Resume,
+    Wake,
 }
 
 // What an event answers: done, with no, one or two bytes; the part of the set from `offset` on; the serial block's first bytes; or a

@@ -13,10 +13,11 @@ use requests::Setup;
 ghost use mathlib.Core.Path.{_≡_};
 ghost use Prim.Native.Nat.{_<_};
 ghost use Rattle.sets.specs.View.{View};
-ghost use Rattle.records.specs.Device.{afterReset};
+ghost use Rattle.records.specs.Device.{afterReset, withSuspended};
 ghost use Rattle.requests.specs.Table.{refusal};
 ghost use Rattle.events.specs.Answer.{done};
-ghost use Rattle.events.specs.Step.{request, answerSetup, statusEnd, power, respond};
+ghost use Rattle.events.specs.Step.{request, answerSetup, statusEnd, power, wake, respond};
+ghost use Rattle.events.specs.Requests.{digit};
 ghost use Rattle.events.specs.Facts.{questionOf, Tells, outcomeOf};
 
 // The request by its code, past the table's refusals.
@@ -40,7 +41,7 @@ fn request(facts: Facts, device: Device, setup: Setup) -> Reaction
     }
 }
 
-// A setup: what waits is dropped; then the table's refusal, or the request.
+// A setup: what waits is dropped, and the device is awake; then the table's refusal, or the request.
 fn answer_setup(facts: Facts, device: Device, setup: Setup) -> Reaction
     requires { ⌜ device .wakeup < 2 ⌝ }
     requires { ⌜ device .power < 2 ⌝ }
@@ -49,6 +50,7 @@ fn answer_setup(facts: Facts, device: Device, setup: Setup) -> Reaction
     let number = requests::refusal(device.state, setup);
     let mut settled = device;
     settled.waiting = 255;
+    settled.suspended = 0;
     if number == 0 {
         return request(facts, settled, setup);
     }
@@ -101,6 +103,25 @@ fn power(source: u8, device: Device) -> Reaction
     refused(16, device)
 }
 
+// The device is suspended from now on, or is not.
+fn suspended(on: bool, device: Device) -> Reaction
+    ensures { λ r. ⌜ outcomeOf r device ≡ done (withSuspended (digit on) device) ⌝ }
+{
+    let mut next = records::kept(device);
+    next.suspended = on as u8;
+    done(next)
+}
+
+// The device asks to wake the host: it may, if it is suspended and wakeup is on.
+fn wake(device: Device) -> Reaction
+    ensures { λ r. ⌜ outcomeOf r device ≡ wake device ⌝ }
+{
+    if (device.suspended == 1) & (device.wakeup == 1) {
+        return done(records::kept(device));
+    }
+    refused(19, device)
+}
+
 // Every event.
 pub fn respond(facts: Facts, device: Device, event: Event) -> Reaction
     requires { ⌜ device .wakeup < 2 ⌝ }
@@ -117,5 +138,8 @@ pub fn respond(facts: Facts, device: Device, event: Event) -> Reaction
         Event::Halt(_) => endpoint::halt(endpoint, device),
         Event::PacketPassed(_) => endpoint::packet_passed(endpoint, device),
         Event::Power(source) => power(source, device),
+        Event::Suspend => suspended(true, device),
+        Event::Resume => suspended(false, device),
+        Event::Wake => wake(device),
     }
 }

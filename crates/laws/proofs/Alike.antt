@@ -16,7 +16,7 @@ use Rattle.descriptors.specs.declared.Endpoint.{Endpoint}
 use Rattle.descriptors.specs.Configuration.{Configuration, hasInterface, hasSetting, currentOf, addressed, canHalt, bitOf, cleared, ofEither}
 use Rattle.sets.specs.View.{View, byValue, wakes}
 use Rattle.records.specs.declared.Device.{Device}
-use Rattle.records.specs.Device.{inDefault, inAddress, inConfigured, nothing, afterReset, settled, withWaiting, withWakeup, withPower, withAddress, withConfiguration, withEndpoints}
+use Rattle.records.specs.Device.{inDefault, inAddress, inConfigured, nothing, afterReset, settled, withWaiting, withWakeup, withPower, withSuspended, awake, withAddress, withConfiguration, withEndpoints}
 use Rattle.records.specs.Current.{selected, endpointAt}
 use Rattle.requests.specs.declared.Setup.{Setup}
 use Rattle.requests.specs.Setup.{recipient}
@@ -27,11 +27,11 @@ use Rattle.events.specs.declared.facts.Located.{Located}
 use Rattle.events.specs.declared.facts.Located.the-variants.{Body, Serial, Nowhere}
 use Rattle.events.specs.declared.Outcome.{Outcome}
 use Rattle.events.specs.declared.Event.{Event}
-use Rattle.events.specs.declared.Event.the-variants.{Request, Malformed, StatusEnd, BusReset, Halt, PacketPassed, Power}
+use Rattle.events.specs.declared.Event.the-variants.{Request, Malformed, StatusEnd, BusReset, Halt, PacketPassed, Power, Suspend, Resume, Wake}
 use Rattle.events.specs.Answer.{gives, done, refused}
 use Rattle.events.specs.Requests.{byRecipient, getStatus, endpointStatus, isEndpointZero, digit, deviceFeature, interfaceFeature, haltFeature, endpointFeature, clearHalt, setHalt, clearFeature, setFeature, setAddress, locate, describe, getDescriptor, getConfiguration, setConfiguration, getInterface, withSetting, setInterface}
-use Rattle.events.specs.Step.{request, answerSetup, statusEnd, haltAt, halt, passAt, packetPassed, power, respond}
-use Rattle.events.specs.Concerns.{setupConcerns, eventConcerns}
+use Rattle.events.specs.Step.{request, answerSetup, statusEnd, haltAt, halt, passAt, packetPassed, power, wake, respond}
+use Rattle.events.specs.Concerns.{setupConcerns, Subject, theDevice, subjectOf, eventConcerns}
 use Rattle.sets.specs.Sound.{SoundConfiguration}
 use Rattle.laws.specs.Parts.{home, Shared, shared, SameIn, rest, withCommon}
 use Rattle.laws.proofs.Homes.{AllIn, all-in, found-home, found-alike, set-both, clear-both, flip-both, cleared-both}
@@ -93,7 +93,10 @@ module _ (v : View) (T : Type 0) (k : ℕ) (d s : Device) (h : Near v T k d s) w
   near-waiting w = near-common (h .part .firm) refl (λ t. ap (λ (r : ℕ × ℕ). (w, r .1)) (h .still t))
 
   near-settled : Near v T k (settled d) (settled s)
-  near-settled = near-waiting nothing
+  near-settled = near-common (h .part .firm) refl (λ t. refl)
+
+  near-suspended : (on : ℕ) → Near v T k (withSuspended on d) (withSuspended on s)
+  near-suspended on = near-common (h .part .firm) refl (λ t. ap (λ (r : ℕ × ℕ). (r .0, on)) (h .still t))
 
   near-wakeup : (on : ℕ) → Near v T k (withWakeup on d) (withWakeup on s)
   near-wakeup on = near-common (ap (λ (x : Shared). shared (withWakeup on (withCommon x (rest d) d))) (h .part .firm)) refl (h .still)
@@ -171,10 +174,13 @@ module _ (v : View) (T : Type 0) (k : ℕ) (d s : Device) (h : Near v T k d s) w
       (λ f q. clear-both _ _ e f (h .part .halts f q)) (λ f q. clear-both _ _ e f (h .part .toggles f q))
 
   abbrev flipped : ℕ → Device → Device
-  flipped e r = withEndpoints (r .alternates) (r .halts) (flipBit (r .toggles) e) r
+  flipped e r = awake (withEndpoints (r .alternates) (r .halts) (flipBit (r .toggles) e) r)
 
   near-flip : (e : ℕ) → Near v T k (flipped e d) (flipped e s)
-  near-flip e = near-endpoints _ _ _ _ _ _ (h .part .alternate) (h .part .halts) (λ f q. flip-both _ _ e f (h .part .toggles f q))
+  near-flip e = record {
+    part = record { firm = h .part .firm; alternate = h .part .alternate; halts = h .part .halts; toggles = λ f q. flip-both _ _ e f (h .part .toggles f q) };
+    still = λ t. ap (λ (r : ℕ × ℕ). (r .0, 0)) (h .still t);
+  }
 
   -- ---- the function events
   alike-halt : SoundConfiguration (selected v d) → (a : ℕ) → AllIn (selected v d) a k → Alike v T k (halt v d a) (halt v s a)
@@ -331,6 +337,13 @@ module _ (v : View) (T : Type 0) (k : ℕ) (d s : Device) (h : Near v T k d s) w
   alike-power : (source : ℕ) → Alike v T k (power d source) (power s source)
   alike-power source = test (leb source 1) (λ p. record { answer = refl; near = near-power source }) (λ p. refuse 16)
 
+  alike-suspended : (on : ℕ) → Alike v T k (done (withSuspended on d)) (done (withSuspended on s))
+  alike-suspended on = record { answer = refl; near = near-suspended on }
+
+  alike-wake : rest d ≡ rest s → Alike v T k (wake d) (wake s)
+  alike-wake w = tests (eqb (d .suspended) 1 && eqb (d .wakeup) 1) (eqb (s .suspended) 1 && eqb (s .wakeup) 1)
+      (λ i. eqb (w i .1) 1 && eqb (h .part .firm i .wakeup) 1) (λ p. give refl) (λ p. refuse 19)
+
 alike-setup : (v : View) (T : Type 0) (k : ℕ) (d s : Device) → Near v T k d s → SoundConfiguration (selected v d) → Sixteen d → Sixteen s
     → (q : Setup) → ((j : ℕ) → setupConcerns (selected v d) q ≡ some j → j ≡ k) → Alike v T k (answerSetup v d q) (answerSetup v s q)
 unfolding answerSetup
@@ -345,9 +358,9 @@ alike-setup v T k d s h S zd zs q w =
     both-settled : Near v T k (settled d) (settled s)
     both-settled = near-settled v T k d s h
 
--- every event that concerns k or nobody
+-- every event that concerns k or nobody; one that is the whole device's may read the rest
 pub alike-event : (v : View) (T : Type 0) (k : ℕ) (d s : Device) (e : Event) → SoundConfiguration (selected v d) → Sixteen d → Sixteen s
-    → ((j : ℕ) → eventConcerns (selected v d) e ≡ some j → j ≡ k) → (e ≡ StatusEnd → T) → Near v T k d s → Alike v T k (respond v d e) (respond v s e)
+    → ((j : ℕ) → eventConcerns (selected v d) e ≡ some j → j ≡ k) → (subjectOf e ≡ theDevice → T) → Near v T k d s → Alike v T k (respond v d e) (respond v s e)
 alike-event v T k d s (Request q) S zd zs w t h = alike-setup v T k d s h S zd zs q w
 alike-event v T k d s Malformed S zd zs w t h = refuse v T k d s h 9
 alike-event v T k d s StatusEnd S zd zs w t h = alike-status-end v T k d s h (h .still (t refl))
@@ -355,3 +368,6 @@ alike-event v T k d s BusReset S zd zs w t h = alike-reset v T k d s h
 alike-event v T k d s (Halt a) S zd zs w t h = alike-halt v T k d s h S a (all-in (selected v d) S a k w)
 alike-event v T k d s (PacketPassed a) S zd zs w t h = alike-pass v T k d s h S a (all-in (selected v d) S a k w)
 alike-event v T k d s (Power source) S zd zs w t h = alike-power v T k d s h source
+alike-event v T k d s Suspend S zd zs w t h = alike-suspended v T k d s h 1
+alike-event v T k d s Resume S zd zs w t h = alike-suspended v T k d s h 0
+alike-event v T k d s Wake S zd zs w t h = alike-wake v T k d s h (h .still (t refl))

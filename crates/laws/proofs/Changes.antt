@@ -16,7 +16,7 @@ use Rattle.descriptors.specs.declared.Endpoint.{Endpoint}
 use Rattle.descriptors.specs.Configuration.{hasSetting, canHalt, bitOf}
 use Rattle.sets.specs.View.{View, wakes}
 use Rattle.records.specs.declared.Device.{Device}
-use Rattle.records.specs.Device.{inDefault, inAddress, inConfigured, nothing, zeros, fresh, afterReset, settled, withWaiting, withWakeup, withPower, withAddress, withConfiguration, withEndpoints, Sized}
+use Rattle.records.specs.Device.{inDefault, inAddress, inConfigured, nothing, zeros, fresh, afterReset, settled, withWaiting, withWakeup, withPower, withSuspended, awake, withAddress, withConfiguration, withEndpoints, Sized}
 use Rattle.records.specs.Current.{selected, currentEndpoints}
 use Rattle.records.specs.Fits.{standsAt}
 use Rattle.events.specs.declared.Event.{Event}
@@ -26,7 +26,7 @@ use Rattle.sets.specs.Sound.{Sound}
 use Rattle.laws.proofs.Fitting.{Ranges, Stated, atDefault, atAddress, atConfigured, Common, Stands, Fitting}
 use Rattle.laws.specs.Parts.{Shared, shared, rest, withCommon}
 use Rattle.laws.proofs.Keeping.{none-stand, stand-changed, bit-below, zeros-good, set-good, set-stands, set-sized}
-use Rattle.laws.proofs.Outcomes.{Changed, wakeup, halted, unhalted, toggled, waits, applies, unconfigures, configures, sets, resets, powers, Answered, reads, fromSet, fromSerial, changes, refusedWith, Responded, answers, leaves, becomes, refuses}
+use Rattle.laws.proofs.Outcomes.{Changed, wakeup, halted, unhalted, toggled, waits, applies, unconfigures, configures, sets, resets, powers, sleeps, Answered, reads, fromSet, fromSerial, changes, refusedWith, Responded, answers, leaves, becomes, refuses}
 
 -- a record that fits a view, and has the sizes that 32 bytes give it
 pub record Fit (v : View) (d : Device) : Type 0 where
@@ -72,11 +72,24 @@ module _ (bytes : List ℕ) (v : View) (s : Sound bytes v) where
 
   pub freshFits : Fit v fresh
   freshFits = cleared fresh refl refl refl (record {
-    range = record { stated = lit≤ tt; waking = lit≤ tt; powered = lit≤ tt; sleeping = refl; running = refl };
+    range = record { stated = lit≤ tt; waking = lit≤ tt; powered = lit≤ tt; sleeping = lit≤ tt; running = refl };
     waiting = refl;
     state = atDefault refl refl refl;
     wakeup = refl;
   })
+
+  -- asleep or awake
+  slept : (x : Device) (on : ℕ) → on ≤ 1 → Fit v x → Fit v (withSuspended on x)
+  slept x on l g =
+      let c = g .fitting .common in
+      let s = g .fitting .stands in
+      record {
+        fitting = record {
+          common = record { range = record { stated = c .range .stated; waking = c .range .waking; powered = c .range .powered; sleeping = l; running = c .range .running }; waiting = c .waiting; state = c .state; wakeup = c .wakeup };
+          stands = record { alternates = s .alternates; halts = s .halts; toggles = s .toggles };
+        };
+        sized = record { sixteen = g .sized .sixteen; halts-fit = g .sized .halts-fit; toggles-fit = g .sized .toggles-fit };
+      }
 
   module _ (d : Device) (g : Fit v d) where
     f : Common v d
@@ -93,15 +106,15 @@ module _ (bytes : List ℕ) (v : View) (s : Sound bytes v) where
     }
 
     settles : Fit v (settled d)
-    settles = shares (shared d) (nothing, d .suspended) refl (record { range = f .range; waiting = refl; state = go (f .state); wakeup = f .wakeup })
+    settles = slept (withWaiting nothing d) 0 (lit≤ tt) (shares (shared d) (nothing, d .suspended) refl (record { range = f .range; waiting = refl; state = go (f .state); wakeup = f .wakeup }))
       where
         go : Stated v (d .state) (d .address) (d .waiting) (d .configuration) → Stated v (d .state) (d .address) nothing (d .configuration)
         go (atDefault s a c) = atDefault s a c
         go (atAddress s l h c) = atAddress s l h c
         go (atConfigured s l h m w) = atConfigured s l h m refl
 
-    awake : (on : ℕ) → on ≤ 1 → wakes v ≡ true → Fit v (withWakeup on d)
-    awake on l w = shares (shared (withWakeup on d)) (rest d) refl (record {
+    wakeable : (on : ℕ) → on ≤ 1 → wakes v ≡ true → Fit v (withWakeup on d)
+    wakeable on l w = shares (shared (withWakeup on d)) (rest d) refl (record {
       range = ranged f (f .range .stated) l;
       waiting = f .waiting;
       state = f .state;
@@ -118,7 +131,7 @@ module _ (bytes : List ℕ) (v : View) (s : Sound bytes v) where
 
     reset : Fit v (afterReset d)
     reset = cleared (afterReset d) refl refl refl (record {
-      range = record { stated = lit≤ tt; waking = lit≤ tt; powered = f .range .powered; sleeping = refl; running = refl };
+      range = record { stated = lit≤ tt; waking = lit≤ tt; powered = f .range .powered; sleeping = lit≤ tt; running = refl };
       waiting = refl;
       state = atDefault refl refl refl;
       wakeup = refl;
@@ -197,10 +210,10 @@ module _ (bytes : List ℕ) (v : View) (s : Sound bytes v) where
           (stand-changed (currentEndpoints v d) (d .toggles) _ e m c (clear-other (d .toggles) (bitOf (e .address))) (g .fitting .stands .toggles))
           (clear-below 32 (d .halts) (bitOf (e .address)) low (z .halts-fit)) (clear-below 32 (d .toggles) (bitOf (e .address)) low (z .toggles-fit))
 
-      flips : Fit v (withEndpoints (d .alternates) (d .halts) (flipBit (d .toggles) (bitOf (e .address))) d)
-      flips = words (d .halts) (flipBit (d .toggles) (bitOf (e .address))) (g .fitting .stands .halts)
+      flips : Fit v (awake (withEndpoints (d .alternates) (d .halts) (flipBit (d .toggles) (bitOf (e .address))) d))
+      flips = slept _ 0 (lit≤ tt) (words (d .halts) (flipBit (d .toggles) (bitOf (e .address))) (g .fitting .stands .halts)
           (stand-changed (currentEndpoints v d) (d .toggles) _ e m c (flip-other (d .toggles) (bitOf (e .address))) (g .fitting .stands .toggles))
-          (z .halts-fit) (flip-below 32 (d .toggles) (bitOf (e .address)) low (z .toggles-fit))
+          (z .halts-fit) (flip-below 32 (d .toggles) (bitOf (e .address)) low (z .toggles-fit)))
 
     setting : (j a : ℕ) → hasSetting (selected v d) j a ≡ true → Fit v (withSetting v d j a)
     setting j a h = stood _ _ _ (record {
@@ -210,7 +223,7 @@ module _ (bytes : List ℕ) (v : View) (s : Sound bytes v) where
     }) (set-sized bytes v s d (g .fitting) z j a h)
 
     changedFits : {x : Device} → Changed v d x → Fit v x
-    changedFits (wakeup on l p) = awake on l p
+    changedFits (wakeup on l p) = wakeable on l p
     changedFits (halted e m c) = halts e m c
     changedFits (unhalted e m c) = unhalts e m c
     changedFits (toggled e m c) = flips e m c
@@ -221,6 +234,7 @@ module _ (bytes : List ℕ) (v : View) (s : Sound bytes v) where
     changedFits (sets j a h) = setting j a h
     changedFits resets = reset
     changedFits (powers source l) = powered source l
+    changedFits (sleeps on l) = slept d on l g
 
     answeredFits : {o : Outcome} → Answered v d o → Fit v (o .device)
     answeredFits (reads a p q) = g

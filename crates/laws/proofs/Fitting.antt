@@ -20,7 +20,7 @@ pub record Ranges (state wakeup power suspended speed : ℕ) : Type 0 where
   pub stated : state ≤ 2
   pub waking : wakeup ≤ 1
   pub powered : power ≤ 1
-  pub sleeping : suspended ≡ 0
+  pub sleeping : suspended ≤ 1
   pub running : speed ≡ 0
 
 -- the three states' rules
@@ -50,18 +50,18 @@ module _ (v : View) (d : Device) where
   -- ---- `inRange`, taken apart and put together again
   ranges : inRange d ≡ true → Ranges (d .state) (d .wakeup) (d .power) (d .suspended) (d .speed)
   ranges p =
-      let row = leb (d .state) 2 ∷ leb (d .wakeup) 1 ∷ leb (d .power) 1 ∷ eqb (d .suspended) 0 ∷ eqb (d .speed) 0 ∷ [] in
+      let row = leb (d .state) 2 ∷ leb (d .wakeup) 1 ∷ leb (d .power) 1 ∷ leb (d .suspended) 1 ∷ eqb (d .speed) 0 ∷ [] in
       record {
         stated = leb-true _ _ (conjunct 0 row p);
         waking = leb-true _ _ (conjunct 1 row p);
         powered = leb-true _ _ (conjunct 2 row p);
-        sleeping = eqb-true _ _ (conjunct 3 row p);
+        sleeping = leb-true _ _ (conjunct 3 row p);
         running = eqb-true _ _ (conjunct 4 row p);
       }
 
   in-range : Ranges (d .state) (d .wakeup) (d .power) (d .suspended) (d .speed) → inRange d ≡ true
   in-range r =
-      joined (joined (joined (joined (le-leb _ _ (r .stated)) (le-leb _ _ (r .waking))) (le-leb _ _ (r .powered))) (eq-eqb _ _ (r .sleeping))) (eq-eqb _ _ (r .running))
+      joined (joined (joined (joined (le-leb _ _ (r .stated)) (le-leb _ _ (r .waking))) (le-leb _ _ (r .powered))) (le-leb _ _ (r .sleeping))) (eq-eqb _ _ (r .running))
 
   -- ---- `goodState` likewise
   there : List Bool

@@ -27,7 +27,7 @@ use Rattle.order.specs.Owners.{Owners}
 use Rattle.sets.specs.Sound.{Sound}
 use Rattle.laws.proofs.Fitting.{unwaiting, unselected}
 use Rattle.laws.proofs.Keeping.{soundSelected}
-use Rattle.laws.specs.Parts.{Good, orNobody, Shared, shared, Same, rest, owned, who, Settling, keeps, settles, settledBy, kind, settle}
+use Rattle.laws.specs.Parts.{Good, orNobody, Shared, shared, Same, rest, owned, who, Settling, keeps, settles, wakes, settledBy, kind, settle}
 use Rattle.laws.proofs.Same.{self, whole, same-view, turn-on, join-on, settled-same, settled-rest, settle-again, settle-commute}
 use Rattle.laws.proofs.Alike.{Alike, alike-event}
 use Rattle.laws.proofs.Touches.{Touches, touch-event}
@@ -73,7 +73,7 @@ nobodys : (o : Option ℕ) → isSome o ≡ false → o ≡ none
 nobodys none p = refl
 nobodys (some j) p = absurd (false≢true (sym p))
 
--- "in Configured, .. nothing waiting": today no event that concerns an interface has anything to drop
+-- an event that concerns an interface arrives in Configured
 configured : (b : Board) (d : Device) (e : Event) → owned b d e ≡ true → eqb (d .state) inConfigured ≡ true
 unfolding concerns
 configured b d e o = go (eqb (d .state) inConfigured) o
@@ -82,15 +82,17 @@ configured b d e o = go (eqb (d .state) inConfigured) o
     go true p = refl
     go false p = p
 
-pub idle : (b : Board) (d : Device) (e : Event) (a : Answer) → fitsOn b d ≡ true → owned b d e ≡ true → settle (kind e a) (rest d) ≡ rest d
-idle b d e a f o = go (kind e a)
+-- "in Configured, .. nothing waiting": where the device is not suspended, such an event has nothing to settle
+pub idle : (b : Board) (d : Device) (e : Event) (a : Answer) → fitsOn b d ≡ true → d .suspended ≡ 0 → owned b d e ≡ true → settle (kind e a) (rest d) ≡ rest d
+idle b d e a f z o = go (kind e a)
   where
     waits : d .waiting ≡ nothing
     waits = unwaiting (viewAt b d) d f (eqb-true _ _ (configured b d e o))
 
     go : (m : Settling) → settle m (rest d) ≡ rest d
     go keeps = refl
-    go settles = ap (λ w. (w, d .suspended)) (sym waits)
+    go settles = λ i. (sym waits i, sym z i)
+    go wakes = λ i. (d .waiting, sym z i)
 
 -- the step at a record that fits, by the set in use
 abbrev pub respondOn : Board → Device → Event → Outcome
@@ -112,7 +114,7 @@ module _ (b : Board) (S : Sound (b .set) (viewOf b)) where
       let v = viewAt b r in
       let c : eventConcerns (selected v r) e ≡ some k = mine r e g o ∙ ap some w in
       on-both e h (alike-event v ⊥ k r s e (soundSelected (b .set) v S r) (g .0 .sixteen) (d .0 .sixteen) (λ j p. Option·some-injective j k (sym p ∙ c))
-      (λ p. Option·none-ne-some k (sym (ap (eventConcerns (selected v r)) p) ∙ c)) (record { part = h; still = λ t. absurd t }))
+      (λ p. Option·none-ne-some k (sym (ap (subjectConcerns (selected v r)) p) ∙ c)) (record { part = h; still = λ t. absurd t }))
 
   -- an event of nobody's
   alike-free : (k : ℕ) (r s : Device) (e : Event) → Good b r → Good b s → owned b r e ≡ false → Same b k r s → rest r ≡ rest s

@@ -19,7 +19,7 @@ use Rattle.descriptors.specs.declared.ConfigurationIndex.{ConfigurationIndex}
 use Rattle.sets.specs.View.{View, entryByIndex, wakes}
 use Rattle.sets.proofs.Lookups.{by-index-member}
 use Rattle.records.specs.declared.Device.{Device}
-use Rattle.records.specs.Device.{inDefault, inAddress, inConfigured, nothing, afterReset, settled, withWaiting, withWakeup, withPower, withAddress, withConfiguration, withEndpoints}
+use Rattle.records.specs.Device.{inDefault, inAddress, inConfigured, nothing, afterReset, settled, withWaiting, withWakeup, withPower, withSuspended, awake, withAddress, withConfiguration, withEndpoints}
 use Rattle.records.specs.Current.{selected, currentEndpoints, endpointAt}
 use Rattle.requests.specs.declared.Setup.{Setup}
 use Rattle.requests.specs.declared.Row.{Row}
@@ -28,7 +28,7 @@ use Rattle.requests.specs.Table.{table, rowOf, inState, fieldsFit, refusalAt, r
 use Rattle.events.specs.declared.Answer.{Answer}
 use Rattle.events.specs.declared.Answer.the-variants.{Done, SetPart, SerialPart}
 use Rattle.events.specs.declared.Event.{Event}
-use Rattle.events.specs.declared.Event.the-variants.{Request, Malformed, StatusEnd, BusReset, Halt, PacketPassed, Power}
+use Rattle.events.specs.declared.Event.the-variants.{Request, Malformed, StatusEnd, BusReset, Halt, PacketPassed, Power, Suspend, Resume, Wake}
 use Rattle.events.specs.declared.facts.Located.{Located}
 use Rattle.events.specs.declared.facts.Located.the-variants.{Body, Serial, Nowhere}
 use Rattle.events.specs.declared.Outcome.{Outcome}
@@ -42,7 +42,7 @@ pub data Changed (v : View) (d : Device) : Device → Type 0 where
   halted : (e : Endpoint) → List·Memᴰ e (currentEndpoints v d) → canHalt e ≡ true → Changed v d (setHalt d (bitOf (e .address)))
   unhalted : (e : Endpoint) → List·Memᴰ e (currentEndpoints v d) → canHalt e ≡ true → Changed v d (clearHalt d (bitOf (e .address)))
   toggled : (e : Endpoint) → List·Memᴰ e (currentEndpoints v d) → canHalt e ≡ true
-      → Changed v d (withEndpoints (d .alternates) (d .halts) (flipBit (d .toggles) (bitOf (e .address))) d)
+      → Changed v d (awake (withEndpoints (d .alternates) (d .halts) (flipBit (d .toggles) (bitOf (e .address))) d))
   waits : (a : ℕ) → a ≤ 127 → d .state ≤ 1 → Changed v d (withWaiting a d)
   applies : (d .waiting ≡ nothing → ⊥) → Changed v d (withAddress (pick (eqb (d .waiting) 0) inDefault inAddress) (d .waiting) d)
   unconfigures : 1 ≤ d .state → Changed v d (withConfiguration inAddress 0 d)
@@ -51,6 +51,7 @@ pub data Changed (v : View) (d : Device) : Device → Type 0 where
   sets : (j a : ℕ) → hasSetting (selected v d) j a ≡ true → Changed v d (withSetting v d j a)
   resets : Changed v d (afterReset d)
   powers : (source : ℕ) → source ≤ 1 → Changed v d (withPower source d)
+  sleeps : (on : ℕ) → on ≤ 1 → Changed v d (withSuspended on d)
 
 -- a setup's outcome, on the record d that it has settled
 pub data Answered (v : View) (d : Device) : Outcome → Type 0 where
@@ -60,12 +61,13 @@ pub data Answered (v : View) (d : Device) : Outcome → Type 0 where
   changes : {x : Device} → Changed v d x → Answered v d (done x)
   refusedWith : (n : ℕ) → 10 ≤ n → n ≤ 14 → Answered v d (refused n d)
 
--- the refusals of an event that settles nothing: "not 8 bytes" 9, a function event or a power event 16
+-- the refusals of an event that settles nothing: "not 8 bytes" 9, a function event or a power event 16, a wake event 19
 pub data Refusable : Event → ℕ → Type 0 where
   malformed : Refusable Malformed 9
   noHalt : {a : ℕ} → Refusable (Halt a) 16
   noPass : {a : ℕ} → Refusable (PacketPassed a) 16
   noPower : {source : ℕ} → Refusable (Power source) 16
+  noWake : Refusable Wake 19
 
 -- an event's outcome
 pub data Responded (v : View) (d : Device) : Event → Outcome → Type 0 where
@@ -232,3 +234,6 @@ module _ (v : View) (d : Device) where
       at (some e) p = chosen (Responded v d (PacketPassed a)) (canHalt e && not (bit (d .halts) (bitOf (e .address))))
           (λ t. becomes (toggled e (found a p) (both (canHalt e) (not (bit (d .halts) (bitOf (e .address)))) t .0))) (λ t. refuses noPass)
   responded (Power source) = chosen (Responded v d (Power source)) (leb source 1) (λ t. becomes (powers source (leb-true source 1 t))) (λ t. refuses noPower)
+  responded Suspend = becomes (sleeps 1 (lit≤ tt))
+  responded Resume = becomes (sleeps 0 (lit≤ tt))
+  responded Wake = chosen (Responded v d Wake) (eqb (d .suspended) 1 && eqb (d .wakeup) 1) (λ t. leaves) (λ t. refuses noWake)

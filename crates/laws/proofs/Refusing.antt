@@ -13,7 +13,7 @@ use Rattle.sets.specs.Strings.{goodStrings}
 use Rattle.sets.specs.View.{View, viewOf}
 use Rattle.sets.proofs.Groups.{Groups, inside}
 use Rattle.records.specs.declared.Device.{Device}
-use Rattle.records.specs.Device.{nothing, settled, withWaiting}
+use Rattle.records.specs.Device.{nothing, settled, withWaiting, withSuspended}
 use Rattle.records.specs.Image.{deviceOf, imageOf, settledImage}
 use Rattle.requests.specs.declared.Setup.{Setup}
 use Rattle.events.specs.declared.Event.{Event}
@@ -53,10 +53,10 @@ module _ (b : Board) (g : Groups fullSpeed b) where
   placed (refuses r) = omega arith
 
 -- ---- the record left
--- where nothing waits settling changes nothing
-pub nothing-settled : (d : Device) → d .waiting ≡ nothing → (b : Bool) → pick b (settled d) d ≡ d
-nothing-settled d w true = ap (λ a. withWaiting a d) (sym w)
-nothing-settled d w false = refl
+-- where nothing waits and nobody sleeps settling changes nothing
+pub nothing-settled : (d : Device) → d .waiting ≡ nothing → d .suspended ≡ 0 → (b : Bool) → pick b (settled d) d ≡ d
+nothing-settled d w z true = λ i. withSuspended (sym z i) (withWaiting (sym w i) d)
+nothing-settled d w z false = refl
 
 -- on an image
 settled-image : (d : Device) → imageOf (settled d) ≡ settledImage (imageOf d)

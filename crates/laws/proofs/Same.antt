@@ -9,7 +9,7 @@ use Rattle.sets.specs.View.{View}
 use Rattle.records.specs.declared.Device.{Device}
 use Rattle.records.specs.Current.{viewFor, viewAt}
 use Rattle.records.specs.Device.{Sized}
-use Rattle.laws.specs.Parts.{Shared, shared, home, SameIn, Same, rest, Settling, keeps, settles, settledBy, settle}
+use Rattle.laws.specs.Parts.{Shared, shared, home, SameIn, Same, rest, Settling, keeps, settles, wakes, settledBy, settle}
 
 -- ---- the laws of Same
 module _ (v : View) where
@@ -71,17 +71,25 @@ join-on b k r s t h i = join (viewAt b r) k r s t h (subst (λ v. SameIn v k s t
 pub settled-same : (b : Board) (k : ℕ) (d : Device) (m : Settling) → Same b k (settledBy m d) d
 settled-same b k d keeps = self (viewAt b d) k d
 settled-same b k d settles = record { firm = refl; alternate = refl; halts = λ e p. refl; toggles = λ e p. refl }
+settled-same b k d wakes = record { firm = refl; alternate = refl; halts = λ e p. refl; toggles = λ e p. refl }
 
 pub settled-rest : (d : Device) (m : Settling) → rest (settledBy m d) ≡ settle m (rest d)
 settled-rest d keeps = refl
 settled-rest d settles = refl
+settled-rest d wakes = refl
 
 pub settle-again : (m : Settling) (w : ℕ × ℕ) → settle m (settle m w) ≡ settle m w
 settle-again keeps w = refl
 settle-again settles w = refl
+settle-again wakes w = refl
 
 pub settle-commute : (m n : Settling) (w : ℕ × ℕ) → settle m (settle n w) ≡ settle n (settle m w)
 settle-commute keeps keeps w = refl
 settle-commute keeps settles w = refl
+settle-commute keeps wakes w = refl
 settle-commute settles keeps w = refl
 settle-commute settles settles w = refl
+settle-commute settles wakes w = refl
+settle-commute wakes keeps w = refl
+settle-commute wakes settles w = refl
+settle-commute wakes wakes w = refl

@@ -18,14 +18,14 @@ use Rattle.descriptors.specs.declared.Endpoint.{Endpoint}
 use Rattle.descriptors.specs.Configuration.{Configuration, hasInterface, hasSetting, canHalt, bitOf, ofEither}
 use Rattle.sets.specs.View.{View}
 use Rattle.records.specs.declared.Device.{Device}
-use Rattle.records.specs.Device.{settled, withEndpoints}
+use Rattle.records.specs.Device.{awake, settled, withEndpoints}
 use Rattle.records.specs.Current.{selected, endpointAt}
 use Rattle.requests.specs.declared.Setup.{Setup}
 use Rattle.requests.specs.Setup.{recipient}
 use Rattle.requests.specs.Table.{refusal}
 use Rattle.events.specs.declared.Outcome.{Outcome}
 use Rattle.events.specs.declared.Event.{Event}
-use Rattle.events.specs.declared.Event.the-variants.{Request, Malformed, StatusEnd, BusReset, Halt, PacketPassed, Power}
+use Rattle.events.specs.declared.Event.the-variants.{Request, Malformed, StatusEnd, BusReset, Halt, PacketPassed, Power, Suspend, Resume, Wake}
 use Rattle.events.specs.Requests.{getStatus, endpointStatus, isEndpointZero, interfaceFeature, haltFeature, endpointFeature, clearHalt, setHalt, clearFeature, setFeature, getInterface, withSetting, setInterface}
 use Rattle.events.specs.Step.{request, answerSetup, haltAt, halt, passAt, packetPassed, respond}
 use Rattle.events.specs.Concerns.{listedBy, setupConcerns, eventConcerns}
@@ -84,12 +84,6 @@ module _ (v : View) (j : ℕ) (d : Device) where
     unfolding halt
     touch-halt a w = touch-at a w (λ o. Touches v j d (haltAt d o .device)) (touch-none d refl)
         (λ e p. chosen After (canHalt e) (λ t. touch-set (bitOf (e .address)) p) (λ t. touch-none d refl))
-
-    touch-pass : (a : ℕ) → AllIn (selected v d) a j → Touches v j d (packetPassed v d a .device)
-    unfolding packetPassed
-    touch-pass a w = touch-at a w (λ o. Touches v j d (passAt d o .device)) (touch-none d refl)
-        (λ e p. chosen After (canHalt e && not (bit (d .halts) (bitOf (e .address))))
-        (λ t. touch-flip (bitOf (e .address)) p) (λ t. touch-none d refl))
 
     touch-feature : (change : Device → ℕ → Device) → ((e : ℕ) → home v (shared d) e ≡ j → Touches v j d (change d e))
         → (q : Setup) → AllIn (selected v d) (q .wIndex) j → Touches v j d (endpointFeature change v d q .device)
@@ -197,6 +191,17 @@ touch-setup v j d S q c = chosen (λ (o : Outcome). Touches v j (settled d) (o .
     (λ p. touch-request v j (settled d) S q (table-fits (d .state) q (eqb-true _ _ p)) (setup-of (selected v d) S q j c))
     (λ p. touch-none v j (settled d) _ refl)
 
+-- a packet that is accepted also wakes the device
+touch-pass : (v : View) (j : ℕ) (d : Device) → SoundConfiguration (selected v d) → (a : ℕ) → AllIn (selected v d) a j
+    → Touches v j (settledBy (kind (PacketPassed a) (packetPassed v d a .answer)) d) (packetPassed v d a .device)
+unfolding packetPassed
+touch-pass v j d S a w = touch-at v j d S a w (λ o. Passed (passAt d o)) (touch-none v j d d refl)
+    (λ e p. chosen Passed (canHalt e && not (bit (d .halts) (bitOf (e .address))))
+    (λ t. touch-flip v j (awake d) (bitOf (e .address)) p) (λ t. touch-none v j d d refl))
+  where
+    Passed : Outcome → Type 0
+    Passed o = Touches v j (settledBy (kind (PacketPassed a) (o .answer)) d) (o .device)
+
 pub touch-event : (v : View) (j : ℕ) (d : Device) → SoundConfiguration (selected v d) → (e : Event) → eventConcerns (selected v d) e ≡ some j
     → Touches v j (settledBy (kind e (respond v d e .answer)) d) (respond v d e .device)
 touch-event v j d S (Request q) c = touch-setup v j d S q c
@@ -206,3 +211,6 @@ touch-event v j d S BusReset c = absurd (let z : _≡_ {A = ℕ} 0 1 = cc in ome
 touch-event v j d S (Halt a) c = touch-halt v j d S a (all-in (selected v d) S a j (λ i m. Option·some-injective i j (sym m ∙ c)))
 touch-event v j d S (PacketPassed a) c = touch-pass v j d S a (all-in (selected v d) S a j (λ i m. Option·some-injective i j (sym m ∙ c)))
 touch-event v j d S (Power source) c = absurd (let z : _≡_ {A = ℕ} 0 1 = cc in omega arith)
+touch-event v j d S Suspend c = absurd (let z : _≡_ {A = ℕ} 0 1 = cc in omega arith)
+touch-event v j d S Resume c = absurd (let z : _≡_ {A = ℕ} 0 1 = cc in omega arith)
+touch-event v j d S Wake c = absurd (let z : _≡_ {A = ℕ} 0 1 = cc in omega arith)

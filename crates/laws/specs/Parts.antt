@@ -7,17 +7,19 @@ use mathlib.Core.Option.{Option, some, none, Option·map}
 use lib.ListN.{getD}
 use lib.Dec.{eqb}
 use Rattle.octets.specs.Bit.{bit}
-use Rattle.octets.specs.Sentences.{first, isSome}
+use Rattle.octets.specs.Sentences.{pick, first, isSome}
 use Rattle.descriptors.specs.Configuration.{Configuration, bitOf}
 use Rattle.sets.specs.Opening.{Board}
 use Rattle.sets.specs.View.{View, byValue}
 use Rattle.records.specs.declared.Device.{Device}
-use Rattle.records.specs.Device.{fresh, settled, Sized}
+use Rattle.records.specs.Device.{fresh, awake, settled, Sized}
 use Rattle.records.specs.Current.{viewAt}
 use Rattle.records.specs.Fits.{fitsOn}
 use Rattle.events.specs.declared.Event.{Event}
+use Rattle.events.specs.declared.Event.the-variants.{Request, Malformed, StatusEnd, BusReset, Halt, PacketPassed, Power, Suspend, Resume, Wake}
 use Rattle.events.specs.declared.Answer.{Answer}
-use Rattle.events.specs.Concerns.{Subject, aSetup, anEndpoint, theDevice, subjectOf, concernsOn}
+use Rattle.events.specs.Answer.{numberOf}
+use Rattle.events.specs.Concerns.{concernsOn}
 
 -- a record that fits, of the size that the code has
 abbrev pub Good : Board → Device → Type 0
@@ -79,20 +81,26 @@ who b d e = orNobody (concernsOn b d e)
 
 -- ---- settling: what of the rest an event that concerns an interface changes, by the event and its answer
 pub data Settling : Type 0 where
-  keeps settles : Settling
+  keeps settles wakes : Settling
 
 abbrev pub settledBy : Settling → Device → Device
 settledBy keeps d = d
 settledBy settles d = settled d
+settledBy wakes d = awake d
 
--- "Past 7 to 9, a setup first drops any waiting address"
-abbrev pub subjectSettles : Subject → Settling
-subjectSettles (aSetup s) = settles
-subjectSettles (anEndpoint a) = keeps
-subjectSettles theDevice = keeps
-
+-- "Past 7 to 9, a setup first drops any waiting address"; "any setup past 7 to 9 and any accepted packet passed event clear" byte 6; "a function
+-- halt does not" (L12). The events that name neither a setup nor an endpoint concern no interface
 abbrev pub kind : Event → Answer → Settling
-kind e a = subjectSettles (subjectOf e)
+kind (Request s) a = settles
+kind (PacketPassed e) a = pick (eqb (numberOf a) 0) wakes keeps
+kind (Halt e) a = keeps
+kind Malformed a = keeps
+kind StatusEnd a = keeps
+kind BusReset a = keeps
+kind (Power source) a = keeps
+kind Suspend a = keeps
+kind Resume a = keeps
+kind Wake a = keeps
 
 -- the same on the rest alone: that of a settled record with this rest
 abbrev pub settle : Settling → ℕ × ℕ → ℕ × ℕ

@@ -39,9 +39,10 @@ module _ {R Q E C A B : Type 0} {answer : R → E → A} {next : R → E → R} 
     local = λ p q c f g t h. rw (reads p c f, reads q c g) (U .local (read p) (read q) (tell c) (good p f) (good q g) t h);
   }
 
--- where every struck event is fair, every run is
-pub fair-run : {Q C : Type 0} (after : Q → C → Q) (struck : Q → C → Bool) (Fair : Q → C → Type 0) (Fit : Q → Type 0)
-    → ((q : Q) (c : C) → Fit q → Fit (after q c)) → ((q : Q) (c : C) → Fit q → struck q c ≡ true → Fair q c)
-    → (q : Q) → Fit q → (cs : List C) → FairRun after struck Fair q cs
-fair-run after struck Fair Fit keeps fair q f [] = tt
-fair-run after struck Fair Fit keeps fair q f (c ∷ cs) = (fair q c f, fair-run after struck Fair Fit keeps fair (after q c) (keeps q c f) cs)
+-- a premise on the struck events of a run, from another
+pub fair-run : {Q C : Type 0} (after : Q → C → Q) (struck : Q → C → Bool) (Calm Fair : Q → C → Type 0) (Fit : Q → Type 0)
+    → ((q : Q) (c : C) → Fit q → Fit (after q c)) → ((q : Q) (c : C) → Fit q → struck q c ≡ true → Calm q c → Fair q c)
+    → (q : Q) → Fit q → (cs : List C) → FairRun after struck Calm q cs → FairRun after struck Fair q cs
+fair-run after struck Calm Fair Fit keeps fair q f [] calm = tt
+fair-run after struck Calm Fair Fit keeps fair q f (c ∷ cs) calm =
+    (λ p. fair q c f p (calm .0 p), fair-run after struck Calm Fair Fit keeps fair (after q c) (keeps q c f) cs (calm .1))

@@ -115,13 +115,6 @@ module _ {R E A W M : Type 0} {answer : R → E → A} {next : R → E → R} {G
       let u = unnoticed (unwinding-by k) xs r r g g (P .self k r, refl) f in
       (u .0, u .1 .0, u .1 .1)
 
-  -- where no owned event has anything to settle every run is fair
-  pub fair-always : ((r : R) (e : E) → Good r → owned r e ≡ true → Idle answer rest kind settle r e)
-      → (k : ℕ) (r : R) → Good r → (xs : List E) → FairRun next (others owned who k) (Idle answer rest kind settle) r xs
-  fair-always i k r g [] = tt
-  fair-always i k r g (e ∷ xs) =
-      (λ p. i r e g (both (owned r e) (eqb (who r e) k) p .0), fair-always i k (next r e) (P .keeps r e g) xs)
-
   -- ---- the laws hold of every system that answers and goes on in the same way at good records
   pub along : {reply : R → E → A} {after : R → E → R} → ((r : R) (e : E) → Good r → reply r e ≡ answer r e)
       → ((r : R) (e : E) → Good r → after r e ≡ next r e) → Owners reply after Good owned who Same rest kind settle

@@ -10,7 +10,7 @@ use Rattle.sets.specs.Opening.{Board, opening}
 use Rattle.records.specs.declared.Device.{Device}
 use Rattle.records.specs.Device.{inAddress, inConfigured, zeros, fresh, withWaiting, withAddress, withConfiguration, withEndpoints}
 use Rattle.events.specs.declared.Event.{Event}
-use Rattle.events.specs.declared.Event.the-variants.{Request, Malformed, StatusEnd, BusReset, Halt, PacketPassed, Power}
+use Rattle.events.specs.declared.Event.the-variants.{Request, Malformed, StatusEnd, BusReset, Halt, PacketPassed, Power, Suspend, Resume, Wake}
 use Rattle.events.specs.Answer.{ofSet}
 use Rattle.events.specs.Step.{setupEvent, opened}
 use Rattle.order.specs.Run.{log}
@@ -57,6 +57,9 @@ sent BusReset v = []
 sent (Halt n) v = []
 sent (PacketPassed n) v = []
 sent (Power source) v = []
+sent Suspend v = []
+sent Resume v = []
+sent Wake v = []
 
 -- each event with what it is answered on S
 abbrev told : Device → List Event → List (Event × Values)

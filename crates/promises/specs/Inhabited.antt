@@ -119,7 +119,7 @@ keepsWaiting = stepKeeps S waiting qualifier (omega arith)
 
 pub keepsConfigured : step S configured qualifier .device ≡ configured
 unfolding computed
-keepsConfigured = stepKeepsAll S configured qualifier refl (omega arith)
+keepsConfigured = stepKeepsAll S configured qualifier refl refl (omega arith)
 
 pub emptyAnswer : (bytesOf (Refused 13) ≡ []) × (partOf (Refused 13) ≡ emptyPart)
 emptyAnswer = refusalEmpty (Refused 13) (omega arith)

@@ -12,18 +12,18 @@ use Rattle.octets.specs.Sentences.{every, only}
 use Rattle.octets.proofs.Sentences.{both}
 use Rattle.sets.specs.Opening.{Board}
 use Rattle.records.specs.declared.Device.{Device}
-use Rattle.records.specs.Device.{zeros, withEndpoints}
+use Rattle.records.specs.Device.{zeros, withWakeup, withEndpoints}
 use Rattle.records.specs.Fits.{fitsOn}
 use Rattle.records.specs.Image.{deviceOf}
 use Rattle.events.specs.declared.Answer.{Answer}
 use Rattle.events.specs.declared.Answer.the-variants.{Done, TwoBytes, Refused}
 use Rattle.events.specs.declared.Event.{Event}
-use Rattle.events.specs.declared.Event.the-variants.{Halt, PacketPassed, StatusEnd}
+use Rattle.events.specs.declared.Event.the-variants.{Halt, PacketPassed, StatusEnd, Suspend, Wake}
 use Rattle.events.specs.Concerns.{concernsOn}
 use Rattle.events.specs.Step.{setupEvent}
 use Rattle.order.specs.Run.{log}
 use Rattle.order.specs.Places.{Permuted}
-use Rattle.order.specs.Strike.{strike, left}
+use Rattle.order.specs.Strike.{strike, left, FairRun}
 use Rattle.order.specs.Owners.{Owners}
 use Rattle.promises.specs.Examples.{bytes, computed, T}
 use Rattle.octets.specs.Octets.{Bytes}
@@ -31,7 +31,7 @@ use Rattle.promises.specs.Inhabited.{octets, acceptedT, bytesT, configur
 use Rattle.promises.specs.Keeps.{FitImage, fitImage}
 use Rattle.laws.specs.Parts.{Good, orNobody, Same, rest, owned, who, kind, settle}
 use Rattle.promises.specs.Rearranged.{isThis, eventsOf, Rearranged, answerOf, nextOf, after, answered, heard, Values, imageAfter, imageAnswered, imageHeard}
-use Rattle.promises.specs.Order.{places, placed, stepLocality, order, orderPlaces, orderImages, orderImagesPlaces, concernsThroughout, struckFor, unnoticed}
+use Rattle.promises.specs.Order.{places, placed, stepLocality, order, orderPlaces, orderImages, orderImagesPlaces, concernsThroughout, struckFor, Awake, unnoticed}
 
 pub configuredFitsT : fitsOn T configured ≡ true
 unfolding computed
@@ -185,6 +185,19 @@ pub struck : strike (nextOf T) (struckFor T 1) configured whole ≡ Halt 0x85 �
 unfolding computed
 struck = refl
 
+awakeThroughout : FairRun (nextOf T) (struckFor T 1) Awake configured whole
+unfolding computed
+awakeThroughout = (λ p. refl, (λ p. refl, (λ p. refl, (λ p. refl, (λ p. refl, tt)))))
+
 pub unnoticedByOne : left (answerOf T) (nextOf T) (struckFor T 1) configured whole
     ≡ log (answerOf T) (nextOf T) configured (strike (nextOf T) (struckFor T 1) configured whole)
-unnoticedByOne = unnoticed T bytesT acceptedT configured configuredSized configuredFitsT 1 whole .0
+unnoticedByOne = unnoticed T bytesT acceptedT configured configuredSized configuredFitsT 1 whole awakeThroughout .0
+
+-- asleep it does: interface 0's packet ends the sleep, so that the wake which is left is refused in the whole run alone
+abbrev asleep : List Event
+asleep = Suspend ∷ PacketPassed 0x81 ∷ Wake ∷ []
+
+pub noticedAsleep : (left (answerOf T) (nextOf T) (struckFor T 1) (withWakeup 1 configured) asleep ≡ (Suspend, Done) ∷ (Wake, Refused 19) ∷ [])
+    × (log (answerOf T) (nextOf T) (withWakeup 1 configured) (strike (nextOf T) (struckFor T 1) (withWakeup 1 configured) asleep) ≡ (Suspend, Done) ∷ (Wake, Done) ∷ [])
+unfolding computed
+noticedAsleep = (refl, refl)

@@ -17,7 +17,7 @@ use Rattle.records.specs.Image.{deviceOf, imageOf}
 use Rattle.records.specs.Fits.{fitsOn}
 use Rattle.records.proofs.Image.{device-image, image-device, image-length, device-sized}
 use Rattle.events.specs.declared.Event.{Event}
-use Rattle.events.specs.declared.Event.the-variants.{Request, Malformed, StatusEnd, BusReset, Halt, PacketPassed, Power}
+use Rattle.events.specs.declared.Event.the-variants.{Request, Malformed, StatusEnd, BusReset, Halt, PacketPassed, Power, Suspend, Resume, Wake}
 use Rattle.events.specs.Answer.{numberOf}
 use Rattle.events.specs.Step.{respond, step, event, opened}
 use Rattle.octets.specs.Octets.{Bytes}
@@ -86,6 +86,9 @@ not-eight BusReset p = false≢true p
 not-eight (Halt a) p = false≢true p
 not-eight (PacketPassed a) p = false≢true p
 not-eight (Power source) p = false≢true p
+not-eight Suspend p = false≢true p
+not-eight Resume p = false≢true p
+not-eight Wake p = false≢true p
 
 -- on a board that is not accepted every event gets 7
 unaccepted : (b : Board) → accepted b ≡ false → (image : List ℕ) (e : Event) → numberOf (event b image e .answer) ≡ 7

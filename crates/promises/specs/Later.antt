@@ -4,10 +4,11 @@ use mathlib.Core.Path.{_≡_, refl}
 use mathlib.Core.List.{List, [], _∷_, _++_, map}
 use Rattle.sets.specs.Opening.{Board}
 use Rattle.records.specs.declared.Device.{Device}
-use Rattle.records.specs.Device.{fresh, withWaiting, withPower}
+use Rattle.records.specs.Device.{zeros, fresh, withWaiting, withWakeup, withPower, withSuspended, withEndpoints}
 use Rattle.events.specs.declared.Event.{Event}
-use Rattle.events.specs.declared.Event.the-variants.{StatusEnd, BusReset, Power}
+use Rattle.events.specs.declared.Event.the-variants.{StatusEnd, BusReset, Halt, PacketPassed, Power, Suspend, Resume, Wake}
 use Rattle.events.specs.Answer.{ofSerial}
+use Rattle.events.specs.Step.{setupEvent}
 use Rattle.order.specs.Run.{log}
 use Rattle.promises.specs.Examples.{computed, S, T}
 use Rattle.promises.specs.Rearranged.{Values, valuesOf, answerOf, nextOf, after}
@@ -72,9 +73,33 @@ language =
     on T fresh (setup 0x800600031004FF00 ∷ setup 0x800609031004FF00 ∷ []) (given 185 6 ∷ refused 13 ∷ []) fresh ∷
     on S fresh (setup 0x800601030904FF00 ∷ setup 0x800600030904FF00 ∷ []) (refused 13 ∷ refused 13 ∷ []) fresh ∷ []
 
+-- ---- L12: a device that sleeps
+abbrev asleep : Device → Device
+asleep d = withSuspended 1 d
+
+sleep : List Later
+sleep =
+    -- "Suspend sets it; resume, bus reset .. clear it", in every state
+    on T fresh (Suspend ∷ Suspend ∷ []) (done [] ∷ done [] ∷ []) (asleep fresh) ∷
+    on T configured (Suspend ∷ Resume ∷ Resume ∷ []) (done [] ∷ done [] ∷ done [] ∷ []) configured ∷
+    on T (asleep (withPower 1 configured)) (BusReset ∷ []) (done [] ∷ []) (withPower 1 fresh) ∷
+    -- "any setup past 7 to 9", refused or not; a setup of 7 bytes does not
+    on T (asleep configured) (status ∷ []) (done (0 ∷ 0 ∷ []) ∷ []) configured ∷
+    on T (asleep (withWaiting 9 addressed)) (setup 0x8006000600000A00 ∷ []) (refused 13 ∷ []) addressed ∷
+    on T (asleep (withWaiting 9 addressed)) (setupEvent (0x80 ∷ 0x06 ∷ []) ∷ []) (refused 9 ∷ []) (asleep (withWaiting 9 addressed)) ∷
+    -- "any accepted packet passed event"; "a function halt does not", nor a refused packet, nor a status end, nor a power event
+    on T (asleep configured) (PacketPassed 0x81 ∷ []) (done [] ∷ []) (withEndpoints zeros 0 0x20000 configured) ∷
+    on T (asleep configured) (PacketPassed 0x83 ∷ StatusEnd ∷ Power 0 ∷ Power 2 ∷ Halt 0x81 ∷ [])
+    (refused 16 ∷ done [] ∷ done [] ∷ refused 16 ∷ done [] ∷ []) (asleep (withEndpoints zeros 0x20000 0 configured)) ∷
+    -- "A wake event succeeds exactly if the device is suspended and wakeup is on, and changes nothing by itself"
+    on T (asleep (withWakeup 1 configured)) (Wake ∷ Wake ∷ []) (done [] ∷ done [] ∷ []) (asleep (withWakeup 1 configured)) ∷
+    on T (asleep configured) (Wake ∷ []) (refused 19 ∷ []) (asleep configured) ∷
+    on T (withWakeup 1 configured) (Wake ∷ []) (refused 19 ∷ []) (withWakeup 1 configured) ∷
+    on T (withSuspended 2 fresh) (Resume ∷ []) (refused 8 ∷ []) (withSuspended 2 fresh) ∷ []
+
 pub examples : List Later
-unfolding power language
-examples = power ++ language
+unfolding power language sleep
+examples = power ++ language ++ sleep
 
 pub later : map (λ l. ending (l .run)) examples ≡ map (λ l. l .ends) examples
 unfolding computed examples

@@ -3,11 +3,12 @@
 use Prim.Native.Nat.{ℕ, suc}
 use native.Mathlib.Omega.{arith}
 use mathlib.Core.Path.{_≡_, refl, sym, ap, _∙_}
-use mathlib.Core.Bool.{Bool, true}
+use mathlib.Core.Bool.{Bool, true, not}
 use mathlib.Core.List.{List, [], _∷_, map}
 use mathlib.Core.Option.{some, Option·map}
 use lib.ListN.{getElem?}
 use Rattle.octets.specs.Sentences.{every, only, isSome}
+use lib.Dec.{eqb}
 use Rattle.octets.proofs.Sentences.{both, every-alike}
 use Rattle.sets.specs.Opening.{Board}
 use Rattle.sets.specs.View.{accepted}
@@ -27,7 +28,8 @@ use Rattle.order.specs.Places.{Permuted}
 use Rattle.order.proofs.Places.{shuffle-of, own-places, places-own}
 use Rattle.order.specs.Strike.{strike, left, FairRun}
 use Rattle.order.specs.Owners.{Owners, others, Idle}
-use Rattle.order.proofs.Owners.{along, ordered, ordered-places, fair-always, unnoticed-by}
+use Rattle.order.proofs.Owners.{along, ordered, ordered-places, unnoticed-by}
+use Rattle.order.proofs.Beside.{fair-run}
 use Rattle.octets.specs.Octets.{Bytes}
 use Rattle.promises.specs.Sound.{sound}
 use Rattle.promises.specs.Keeps.{FitImage, stepFits}
@@ -58,6 +60,10 @@ struckFor b = others (owned b) (who b)
 -- it may be struck where it has nothing to settle: what waits and the sleep byte stay as they are
 abbrev pub Fair : Board → Device → Event → Type 0
 Fair b = Idle (answerOf b) rest kind settle
+
+-- "the premise that no struck event arrived while suspended" (L12)
+abbrev pub Awake : Device → Event → Type 0
+Awake d e = d .suspended ≡ 0
 
 -- every event left of a run gets the answer that it got; what interface k can tell, and the rest, end the same
 abbrev pub Unnoticed : Board → ℕ → Device → List Event → Type 0
@@ -124,9 +130,10 @@ module _ (b : Board) (bytes : Bytes (b .set)) (ok : accepted b ≡ true) where
     pub unnoticedFair : (k : ℕ) (xs : List Event) → FairRun (nextOf b) (struckFor b k) (Fair b) d xs → Unnoticed b k d xs
     unnoticedFair k xs fair = unnoticed-by stepLocality k d (sized, fit) xs fair
 
-    -- today every run is
-    pub unnoticed : (k : ℕ) (xs : List Event) → Unnoticed b k d xs
-    unnoticed k xs = unnoticedFair k xs (fair-always stepLocality (λ r e g o. idle b r e (answerOf b r e) (g .1) o) k d (sized, fit) xs)
+    -- a run is, where no struck event arrives while suspended
+    pub unnoticed : (k : ℕ) (xs : List Event) → FairRun (nextOf b) (struckFor b k) Awake d xs → Unnoticed b k d xs
+    unnoticed k xs awake = unnoticedFair k xs (fair-run (nextOf b) (struckFor b k) Awake (Fair b) (Good b) keeps
+        (λ r e g p z. idle b r e (answerOf b r e) (g .1) z (both (owned b r e) (not (eqb (who b r e) k)) p .0)) d (sized, fit) xs awake)
 
   -- ---- demand 3 on the 32 bytes that C hands over
   module _ (image : List ℕ) (f : FitImage b image) where

@@ -12,18 +12,19 @@ use Rattle.records.specs.Device.{settled}
 use Rattle.records.specs.Image.{deviceOf, settledImage}
 use Rattle.records.specs.Fits.{fitsOn}
 use Rattle.events.specs.declared.Event.{Event}
-use Rattle.events.specs.declared.Event.the-variants.{Request, Malformed, StatusEnd, BusReset, Halt, PacketPassed, Power}
+use Rattle.events.specs.declared.Event.the-variants.{Request, Malformed, StatusEnd, BusReset, Halt, PacketPassed, Power, Suspend, Resume, Wake}
 use Rattle.events.specs.Answer.{ofSet, Part}
 
 -- "10 .. drops a waiting address only", 11 to 14 "as 10": the refusals of a setup that has settled
 abbrev pub afterSettling : ℕ → Bool
 afterSettling n = leb 10 n && leb n 14
 
--- the record that a refusal numbered n leaves: as it was, but that 10 to 14 drop an address still waiting
+-- the record that a refusal numbered n leaves: as it was, but that 10 to 14 drop an address still waiting; "Setups refused with 10 to 14 now also
+-- clear byte 6" (L12)
 abbrev pub leftBy : ℕ → Device → Device
 leftBy n d = pick (afterSettling n) (settled d) d
 
--- an event's own refusals: "for a setup 9 to 14, for a function event 16"; "a power event with a value above 1 gets 16" (L2); a status end and a bus reset have none
+-- an event's own refusals: "for a setup 9 to 14, for a function event 16"; "a power event with a value above 1 gets 16" (L2); "19 wake not allowed" (L12); the others have none
 abbrev pub refuses : Event → ℕ → Bool
 refuses (Request s) n = afterSettling n
 refuses Malformed n = eqb n 9
@@ -32,6 +33,9 @@ refuses BusReset n = false
 refuses (Halt a) n = eqb n 16
 refuses (PacketPassed a) n = eqb n 16
 refuses (Power source) n = eqb n 16
+refuses Suspend n = false
+refuses Resume n = false
+refuses Wake n = eqb n 19
 
 -- "Order: 7, 8, then for a setup 9 to 14, for a function event 16"; 0 is done
 abbrev pub allows : Board → Device → Event → ℕ → Bool

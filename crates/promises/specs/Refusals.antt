@@ -29,7 +29,7 @@ use Rattle.events.specs.Step.{step, event, opened}
 use Rattle.octets.specs.Octets.{Bytes}
 use Rattle.promises.specs.Refusal.{afterSettling, leftBy, refuses, allows, emptyPart, allowsImage, imageLeftBy, opens}
 use Rattle.sets.proofs.Groups.{groups}
-use Rattle.laws.proofs.Outcomes.{Refusable, malformed, noHalt, noPass, noPower, responded}
+use Rattle.laws.proofs.Outcomes.{Refusable, malformed, noHalt, noPass, noPower, noWake, responded}
 use Rattle.laws.proofs.Refusing.{Numbered, notRefused, refusedSetup, refusedOther, numbered, placed, nothing-settled, left-image, opening-number}
 
 -- ---- over the step
@@ -48,6 +48,7 @@ settlesNothing malformed = (refl, refl)
 settlesNothing noHalt = (refl, refl)
 settlesNothing noPass = (refl, refl)
 settlesNothing noPower = (refl, refl)
+settlesNothing noWake = (refl, refl)
 
 ownNumber : {d : Device} {e : Event} {o : Outcome} → Numbered d e o → (eqb (numberOf (o .answer)) 0 || refuses e (numberOf (o .answer))) ≡ true
 ownNumber {e} {o} (notRefused z) = or-left (refuses e (numberOf (o .answer))) (eq-eqb _ 0 z)
@@ -75,8 +76,8 @@ module _ (b : Board) (d : Device) (e : Event) where
       (λ p. rw p (λ z. refl))
 
   -- so with nothing waiting, as in Configured, every refusal leaves all as it was
-  pub stepKeepsAll : d .waiting ≡ nothing → (numberOf (step b d e .answer) ≡ 0 → ⊥) → step b d e .device ≡ d
-  stepKeepsAll w z = stepKeeps z ∙ nothing-settled d w (afterSettling (numberOf (step b d e .answer)))
+  pub stepKeepsAll : d .waiting ≡ nothing → d .suspended ≡ 0 → (numberOf (step b d e .answer) ≡ 0 → ⊥) → step b d e .device ≡ d
+  stepKeepsAll w a z = stepKeeps z ∙ nothing-settled d w a (afterSettling (numberOf (step b d e .answer)))
 
   -- every part lies inside its slice
   pub stepInside : Inside (b .set) (b .serial) (partOf (step b d e .answer))

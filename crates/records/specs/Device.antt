@@ -40,9 +40,17 @@ withPower p d = record { state = d .state; address = d .address; waiting = d .wa
 abbrev pub afterReset : Device → Device
 afterReset d = withPower (d .power) fresh
 
--- what a setup settles, past 7 to 9: it "first drops any waiting address". The step, the refusals and the order of events cite this
+-- "Record byte 6 becomes suspended (0 or 1)" (L12)
+abbrev pub withSuspended : ℕ → Device → Device
+withSuspended on d = record { state = d .state; address = d .address; waiting = d .waiting; configuration = d .configuration; wakeup = d .wakeup; power = d .power; suspended = on; speed = d .speed; alternates = d .alternates; halts = d .halts; toggles = d .toggles }
+
+-- what an accepted packet passed settles: it clears byte 6 (L12)
+abbrev pub awake : Device → Device
+awake d = withSuspended 0 d
+
+-- what a setup settles, past 7 to 9: it "first drops any waiting address", and it clears byte 6 (L12). The step, the refusals and the order of events cite this
 abbrev pub settled : Device → Device
-settled d = withWaiting nothing d
+settled d = awake (withWaiting nothing d)
 
 -- its state and address, nothing waiting any more
 abbrev pub withAddress : ℕ → ℕ → Device → Device

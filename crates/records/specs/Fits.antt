@@ -14,9 +14,10 @@ use Rattle.records.specs.declared.Device.{Device}
 use Rattle.records.specs.Device.{inDefault, inAddress, inConfigured, nothing}
 use Rattle.records.specs.Current.{viewAt, selected, currentEndpoints}
 
--- "those ranges hold": the state, the wakeup byte, the power source ("Fitting a record now allows 0 or 1 there", L2), and 6–7 zero
+-- "those ranges hold": the state, the wakeup byte, the power source ("Fitting a record now allows 0 or 1 there", L2),
+-- suspended ("0 or 1", L12), and 7 zero
 abbrev pub inRange : Device → Bool
-inRange d = leb (d .state) 2 && leb (d .wakeup) 1 && leb (d .power) 1 && eqb (d .suspended) 0 && eqb (d .speed) 0
+inRange d = leb (d .state) 2 && leb (d .wakeup) 1 && leb (d .power) 1 && leb (d .suspended) 1 && eqb (d .speed) 0
 
 -- "a waiting address is at most 127"
 abbrev pub goodWaiting : Device → Bool

@@ -14,7 +14,7 @@ unfoldable pub bytesOfFour : ℕ → List ℕ
 bytesOfFour n = n % 256 ∷ n / 256 % 256 ∷ n / 65536 % 256 ∷ n / 16777216 % 256 ∷ []
 
 -- "0 state, 1 address, 2 waiting address, 3 configuration value, 4 remote wakeup, 5–7 zero, 8–23 alternate setting of interfaces 0–15";
--- "Record byte 5 becomes the power source (0 bus, 1 own supply)" (L2)
+-- "Record byte 5 becomes the power source (0 bus, 1 own supply)" (L2); "Record byte 6 becomes suspended (0 or 1)" (L12)
 unfoldable pub deviceOf : List ℕ → Device
 deviceOf image = record {
   state = byte image 0;
@@ -35,6 +35,6 @@ imageOf d =
     d .state ∷ d .address ∷ d .waiting ∷ d .configuration ∷ d .wakeup ∷ d .power ∷ d .suspended ∷ d .speed ∷
     d .alternates ++ bytesOfFour (d .halts) ++ bytesOfFour (d .toggles)
 
--- what a setup settles (`settled`), on the image: byte 2, the waiting address, is 255 ("none")
+-- what a setup settles (`settled`), on the image: byte 2, the waiting address, is 255 ("none"), and byte 6 is 0
 abbrev pub settledImage : List ℕ → List ℕ
-settledImage image = set image 2 nothing
+settledImage image = set (set image 2 nothing) 6 0

@@ -13,7 +13,7 @@ ghost use Rattle.records.specs.Current.{selected};
 ghost use Rattle.records.specs.Fits.{inRange, goodWaiting, goodState, fits};
 
 // In the order of its 32-byte image. state: 0 Default, 1 Address, 2 Configured; waiting: the address that the next status end
-// applies, 255 for none; power: 0 bus, 1 own supply; suspended and speed are zero; bit e of halts and toggles is OUT endpoint e, bit 16 + e is IN.
+// applies, 255 for none; power: 0 bus, 1 own supply; suspended: 0 or 1; speed is zero; bit e of halts and toggles is OUT endpoint e, bit 16 + e is IN.
 #[repr(C)]
 pub struct Device {
     pub state: u8,
@@ -202,7 +202,7 @@ fn in_range(device: Device) -> bool
     (device.state <= 2)
         & (device.wakeup <= 1)
         & (device.power <= 1)
-        & (device.suspended == 0)
+        & (device.suspended <= 1)
         & (device.speed == 0)
 }
 

@@ -44,5 +44,5 @@ unfolding fits
 bits-small v d p =
     let es = currentEndpoints v d in
     let range = conjunct 0 (inRange d ∷ goodWaiting d ∷ goodState v d ∷ goodAlternates (selected v d) d ∷ standsAt es (d .halts) ∷ standsAt es (d .toggles) ∷ (eqb (d .wakeup) 1 ⇒ wakes v) ∷ []) p in
-    let ranges = leb (d .state) 2 ∷ leb (d .wakeup) 1 ∷ leb (d .power) 1 ∷ eqb (d .suspended) 0 ∷ eqb (d .speed) 0 ∷ [] in
+    let ranges = leb (d .state) 2 ∷ leb (d .wakeup) 1 ∷ leb (d .power) 1 ∷ leb (d .suspended) 1 ∷ eqb (d .speed) 0 ∷ [] in
     (omega (arith, leb-true (d .wakeup) 1 (conjunct 1 ranges range)), omega (arith, leb-true (d .power) 1 (conjunct 2 ranges range)))

@@ -49,6 +49,9 @@ fn question_of(event: Event) -> Setup
         Event::Halt(address) => naming(address),
         Event::PacketPassed(address) => naming(address),
         Event::Power(_) => naming(0),
+        Event::Suspend => naming(0),
+        Event::Resume => naming(0),
+        Event::Wake => naming(0),
     }
 }
 

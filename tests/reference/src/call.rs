@@ -110,6 +110,9 @@ fn event_words(event: &Event) -> String {
         Event::Halt(address) => format!("halt {address:02x}"),
         Event::PacketPassed(address) => format!("passed {address:02x}"),
         Event::Power(source) => format!("power {source:02x}"),
+        Event::Suspend => "suspend".to_string(),
+        Event::Resume => "resume".to_string(),
+        Event::Wake => "wake".to_string(),
         Event::Other { number, value, setup } => format!("other {number:02x} {value:02x} {}", hex(setup)),
     }
 }

@@ -21,6 +21,10 @@ const DEFAULT_WRITES: usize = 50_000;
 const DEFAULT_DUMPS: usize = 50_000;
 const DEFAULT_TRIMS: usize = 50_000;
 
+/// The numbers that opening gives back, and all of them.
+const OPENING_NUMBERS: [u8; 7] = [0, 1, 2, 3, 4, 5, 6];
+const NUMBERS: [u8; 18] = [0, 1, 2, 3, 4, 5, 6, 7, 8, 9, 10, 11, 12, 13, 14, 15, 16, 19];
+
 /// So many differences are enough to choose the smallest from.
 const PATIENCE: usize = 1_000;
 
@@ -191,7 +195,7 @@ fn compare_opening(arguments: &Arguments, sets: usize) -> Verdict {
     let by_name =
         rules.iter().map(|(rule, count)| (format!("{} {}", rule.group(), kebab(&format!("{rule:?}"))), *count));
     let demanded = sets >= DEFAULT_SETS;
-    Ok(same & reached(&numbered(&numbers[..=6]), demanded) & reached(&by_name.collect::<Vec<_>>(), demanded))
+    Ok(same & reached(&numbered(&numbers, &OPENING_NUMBERS), demanded) & reached(&by_name.collect::<Vec<_>>(), demanded))
 }
 
 fn compare_whole(arguments: &Arguments, calls: usize) -> Verdict {
@@ -202,7 +206,7 @@ fn compare_whole(arguments: &Arguments, calls: usize) -> Verdict {
     if let Some(unlike) = &unlike {
         println!("{unlike}");
     }
-    Ok(same & unlike.is_none() & reached(&numbered(&numbers[..=16]), calls >= DEFAULT_CALLS))
+    Ok(same & unlike.is_none() & reached(&numbered(&numbers, &NUMBERS), calls >= DEFAULT_CALLS))
 }
 
 fn compare_writer(arguments: &Arguments, calls: usize) -> Verdict {
@@ -230,7 +234,7 @@ fn compare_trims(arguments: &Arguments, calls: usize) -> Verdict {
     let kinds = [("nothing freed", freed.nothing), ("strings freed", freed.strings), ("string 0 freed too", freed.zero)];
     let kinds = kinds.map(|(name, count)| (name.to_string(), count));
     let demanded = calls >= DEFAULT_TRIMS;
-    Ok(same & reached(&numbered(&numbers[..=6]), demanded) & reached(&kinds, demanded))
+    Ok(same & reached(&numbered(&numbers, &OPENING_NUMBERS), demanded) & reached(&kinds, demanded))
 }
 
 /// Tells how a comparison went and how long it took.
@@ -240,8 +244,8 @@ fn ended(comparison: Comparison, part: &str, unit: &str) -> Verdict {
     Ok(agrees(&format!("{part}: {calls} {unit} in {:.1} s", start.elapsed().as_secs_f64()), &findings))
 }
 
-fn numbered(counts: &[usize]) -> Vec<(String, usize)> {
-    counts.iter().enumerate().map(|(number, &count)| (format!("number {number}"), count)).collect()
+fn numbered(counts: &[usize; 256], numbers: &[u8]) -> Vec<(String, usize)> {
+    numbers.iter().map(|&number| (format!("number {number}"), counts[usize::from(number)])).collect()
 }
 
 /// Prints how often each was reached; whether all were, where that is demanded: a short run misses some.

@@ -42,7 +42,8 @@ pub struct Comparison {
     placement: Random,
     pub start: Instant,
     pub calls: usize,
-    pub numbers: [usize; 24],
+    /// How often each number was given back.
+    pub numbers: [usize; 256],
 }
 
 impl Comparison {
@@ -72,7 +73,7 @@ impl Comparison {
             placement,
             start,
             calls: 0,
-            numbers: [0; 24],
+            numbers: [0; 256],
         })
     }
 

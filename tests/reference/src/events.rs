@@ -16,6 +16,9 @@ pub enum Event {
     PacketPassed(u8),
     /// The power source: 0 the bus, 1 its own supply.
     Power(u8),
+    Suspend,
+    Resume,
+    Wake,
     /// A number that is no event's, with the value and the setup passed beside it.
     Other {
         number: u8,
@@ -34,6 +37,9 @@ impl Event {
             3 => Event::Halt(value),
             4 => Event::PacketPassed(value),
             5 => Event::Power(value),
+            6 => Event::Suspend,
+            7 => Event::Resume,
+            8 => Event::Wake,
             _ => Event::Other { number, value, setup: setup.to_vec() },
         }
     }
@@ -47,6 +53,9 @@ impl Event {
             Event::Halt(address) => (3, *address, &[]),
             Event::PacketPassed(address) => (4, *address, &[]),
             Event::Power(source) => (5, *source, &[]),
+            Event::Suspend => (6, 0, &[]),
+            Event::Resume => (7, 0, &[]),
+            Event::Wake => (8, 0, &[]),
             Event::Other { number, value, setup } => (*number, *value, setup),
         }
     }
@@ -125,6 +134,9 @@ impl Lent {
         if self.fault == Fault::OpeningKeepsPower {
             fresh.power = image[5];
         }
+        if self.fault == Fault::OpeningKeepsSleep {
+            fresh.suspended = image[6];
+        }
         Outcome::new(number, fresh.image())
     }
 
@@ -172,6 +184,9 @@ impl Step<'_> {
             Event::Halt(address) => self.halt(*address),
             Event::PacketPassed(address) => self.packet_passed(*address),
             Event::Power(source) => self.power(*source),
+            Event::Suspend => self.suspend(),
+            Event::Resume => self.resume(),
+            Event::Wake => self.wake(),
             Event::Other { setup, .. } => self.unknown_event(setup),
         };
         let mut outcome = Outcome::new(0, self.record.image());
@@ -188,7 +203,7 @@ impl Step<'_> {
         self.board.fault == fault
     }
 
-    /// A setup of 8 bytes drops a waiting address, whatever comes of it.
+    /// A setup of 8 bytes drops a waiting address and ends the sleep, whatever comes of it.
     fn setup(&mut self, bytes: &[u8]) -> Answer {
         let bytes = match self.board.fault {
             Fault::LongerSetupPasses if bytes.len() > SETUP_LENGTH => &bytes[..SETUP_LENGTH],
@@ -198,10 +213,12 @@ impl Step<'_> {
             if self.has_fault(Fault::WrongSetupLengthDropsWaitingAddress) {
                 self.record.waiting = NOTHING_WAITS;
             }
+            self.wake_up_if(Fault::WrongSetupLengthClearsSleep);
             return Err(9);
         };
         let waited = self.record.waiting;
         self.record.waiting = NOTHING_WAITS;
+        let slept = std::mem::take(&mut self.record.suspended);
         let checked = requests::check(&setup, self.record.state, self.board.fault);
         let answer = checked.and_then(|()| self.perform(&setup));
         let keeps_waiting = match &answer {
@@ -214,7 +231,22 @@ impl Step<'_> {
         if keeps_waiting {
             self.record.waiting = waited;
         }
+        let keeps_sleep = match (&answer, self.board.fault) {
+            (Ok(_), fault) => fault == Fault::AcceptedSetupKeepsSleep,
+            (Err(14), Fault::RefusedFeatureKeepsSleep) => true,
+            (Err(_), fault) => fault == Fault::RefusedSetupKeepsSleep,
+        };
+        if keeps_sleep {
+            self.record.suspended = slept;
+        }
         answer
+    }
+
+    /// Ends the sleep where only a fault would.
+    fn wake_up_if(&mut self, fault: Fault) {
+        if self.has_fault(fault) {
+            self.record.suspended = 0;
+        }
     }
 
     fn perform(&mut self, setup: &Setup) -> Answer {
@@ -352,6 +384,7 @@ impl Step<'_> {
     }
 
     fn status_end(&mut self) -> Answer {
+        self.wake_up_if(Fault::StatusEndClearsSleep);
         let waited = self.record.waiting;
         if waited == NOTHING_WAITS {
             return Ok(Reply::Nothing);
@@ -490,12 +523,14 @@ impl Step<'_> {
     fn bus_reset(&mut self) -> Answer {
         let wakeup = if self.has_fault(Fault::BusResetKeepsWakeup) { self.record.wakeup } else { 0 };
         let power = if self.has_fault(Fault::BusResetClearsPower) { 0 } else { self.record.power };
-        self.record = Record { wakeup, power, ..Record::fresh() };
+        let suspended = if self.has_fault(Fault::BusResetKeepsSleep) { self.record.suspended } else { 0 };
+        self.record = Record { wakeup, power, suspended, ..Record::fresh() };
         Ok(Reply::Nothing)
     }
 
     /// Bulk or interrupt in a current setting; keeps the toggle.
     fn halt(&mut self, address: u8) -> Answer {
+        self.wake_up_if(Fault::HaltClearsSleep);
         match self.record.endpoint(self.board, address) {
             Some(endpoint) if endpoint.has_halt() => {
                 self.record.halts |= bit(endpoint.address);
@@ -508,7 +543,7 @@ impl Step<'_> {
         }
     }
 
-    /// Flips the toggle; bulk or interrupt, current, not halted.
+    /// Flips the toggle and ends the sleep; bulk or interrupt, current, not halted.
     fn packet_passed(&mut self, address: u8) -> Answer {
         match self.record.endpoint(self.board, address) {
             Some(endpoint)
@@ -516,14 +551,21 @@ impl Step<'_> {
                     && (!self.is_halted(endpoint.address) || self.has_fault(Fault::HaltedEndpointPassesPackets)) =>
             {
                 self.record.toggles ^= bit(endpoint.address);
+                if !self.has_fault(Fault::PacketPassedKeepsSleep) {
+                    self.record.suspended = 0;
+                }
                 Ok(Reply::Nothing)
             }
-            _ => self.unfit_endpoint(),
+            _ => {
+                self.wake_up_if(Fault::RefusedPacketClearsSleep);
+                self.unfit_endpoint()
+            }
         }
     }
 
     /// Leaves every other byte; "a power event with a value above 1 gets 16".
     fn power(&mut self, source: u8) -> Answer {
+        self.wake_up_if(Fault::PowerEventClearsSleep);
         let source = if self.has_fault(Fault::PowerByLowBit) { source & 1 } else { source };
         let taken = source <= 1 && !(self.has_fault(Fault::PowerInDefaultIsNotTaken) && self.record.state == DEFAULT);
         if taken || self.has_fault(Fault::RefusedPowerIsTaken) {
@@ -540,6 +582,49 @@ impl Step<'_> {
         } else {
             Err(16)
         }
+    }
+
+    /// Always done, also twice.
+    fn suspend(&mut self) -> Answer {
+        if self.has_fault(Fault::SuspendTwiceIsRefused) && self.record.suspended == 1 {
+            return Err(19);
+        }
+        if self.has_fault(Fault::SuspendDropsWaitingAddress) {
+            self.record.waiting = NOTHING_WAITS;
+        }
+        if self.has_fault(Fault::SuspendClearsWakeup) {
+            self.record.wakeup = 0;
+        }
+        if self.record.state == CONFIGURED || !self.has_fault(Fault::SuspendInConfiguredOnly) {
+            self.record.suspended = 1;
+        }
+        Ok(Reply::Nothing)
+    }
+
+    fn resume(&mut self) -> Answer {
+        if self.has_fault(Fault::ResumeAwakeIsRefused) && self.record.suspended == 0 {
+            return Err(19);
+        }
+        if self.has_fault(Fault::ResumeDropsWaitingAddress) {
+            self.record.waiting = NOTHING_WAITS;
+        }
+        self.record.suspended = 0;
+        Ok(Reply::Nothing)
+    }
+
+    /// "Succeeds exactly if the device is suspended and wakeup is on, and changes nothing by itself."
+    fn wake(&mut self) -> Answer {
+        let suspended = self.record.suspended == 1 || self.has_fault(Fault::WakeWithoutSleep);
+        let wakeup = self.record.wakeup == 1 || self.has_fault(Fault::WakeWithoutWakeup);
+        let in_state = self.record.state == CONFIGURED || !self.has_fault(Fault::WakeInConfiguredOnly);
+        if suspended && wakeup && in_state {
+            self.wake_up_if(Fault::WakeClearsSleep);
+            return Ok(Reply::Nothing);
+        }
+        if self.has_fault(Fault::RefusedWakeDropsWaitingAddress) {
+            self.record.waiting = NOTHING_WAITS;
+        }
+        Err(19)
     }
 
     /// "Any other number .. is answered as a setup that is not 8 bytes", whatever setup is passed.

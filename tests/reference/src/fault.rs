@@ -58,6 +58,12 @@ faults! {
         PowerByLowBit RefusedPowerIsTaken PowerInDefaultIsNotTaken PowerTwoFits OwnSupplyDoesNotFit
         OwnSupplyFitsSelfPoweredOnly ConfigurationSetsPower UnknownEventReadsSetup UnknownEventIsDone
         UnknownEventDropsWaitingAddress
+        StatusEndClearsSleep RefusedPacketClearsSleep PacketPassedKeepsSleep HaltClearsSleep PowerEventClearsSleep
+        WakeClearsSleep WakeWithoutWakeup WakeWithoutSleep WakeInConfiguredOnly RefusedWakeDropsWaitingAddress
+        WrongSetupLengthClearsSleep RefusedSetupKeepsSleep RefusedFeatureKeepsSleep AcceptedSetupKeepsSleep
+        BusResetKeepsSleep OpeningKeepsSleep SuspendDropsWaitingAddress SuspendClearsWakeup SuspendInConfiguredOnly
+        SuspendTwiceIsRefused ResumeAwakeIsRefused ResumeDropsWaitingAddress SuspendedTwoFits
+        SuspendedInDefaultDoesNotFit
     }
     PACKETS {
         EmptyLastPacketMissing EmptyPacketWhenEqual EmptyReplyAlwaysHasPacket PacketSize128Passes

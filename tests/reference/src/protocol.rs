@@ -8,6 +8,8 @@
 //!     e image                hk_status_end                 r image        hk_bus_reset
 //!     h endpoint(1) image    hk_halt                       p endpoint(1) image   hk_packet_passed
 //!     P source(1) image      hk_power                      v event(1) value(1) record setup   hk_record_event
+//!     z image                hk_suspend                    y image        hk_resume
+//!     a image                hk_wake
 //!     k reply_length(4) asked(2) size(4) number(4)         hk_packet
 //!     w pieces buffer        hk_write: length is what was written, the image is the buffer
 //!     i dump buffer          hk_import, in the same way    x buffer       hk_export
@@ -128,6 +130,9 @@ impl Command {
                 Event::Halt(_) => b'h',
                 Event::PacketPassed(_) => b'p',
                 Event::Power(_) => b'P',
+                Event::Suspend => b'z',
+                Event::Resume => b'y',
+                Event::Wake => b'a',
                 // has no call of its own, and no command
                 Event::Other { .. } => return Err(io::ErrorKind::InvalidInput.into()),
             },
@@ -163,11 +168,11 @@ fn write_call(call: &Call, stream: &mut impl Write) -> io::Result<()> {
                 write_block(stream, image)?;
                 write_block(stream, setup)
             }
-            Event::StatusEnd | Event::BusReset | Event::Other { .. } => write_block(stream, image),
             Event::Halt(value) | Event::PacketPassed(value) | Event::Power(value) => {
                 stream.write_all(&[*value])?;
                 write_block(stream, image)
             }
+            _ => write_block(stream, image),
         },
         Call::Numbered { record, number, value, setup } => {
             stream.write_all(&[*number, *value])?;
@@ -209,6 +214,9 @@ fn read_call(operation: u8, stream: &mut impl Read) -> io::Result<Call> {
         b'h' => Event::Halt(read_array::<1>(stream)?[0]),
         b'p' => Event::PacketPassed(read_array::<1>(stream)?[0]),
         b'P' => Event::Power(read_array::<1>(stream)?[0]),
+        b'z' => Event::Suspend,
+        b'y' => Event::Resume,
+        b'a' => Event::Wake,
         _ => return Err(io::ErrorKind::InvalidData.into()),
     };
     Ok(Call::Event { image: read_block(stream)?, event })

@@ -10,7 +10,7 @@ use crate::random::Random;
 use crate::record::{bit, Record, ADDRESS, CONFIGURED, DEFAULT, IMAGE_LENGTH};
 use crate::requests::{self, Row, Setup, TABLE};
 
-const FIRST_OTHER_EVENT: u8 = 6;
+const FIRST_OTHER_EVENT: u8 = 9;
 
 /// A record that fits, in any state.
 pub fn fitting(board: &Board, random: &mut Random) -> Record {
@@ -26,6 +26,7 @@ pub fn fitting(board: &Board, random: &mut Random) -> Record {
         record.wakeup = 1;
     }
     record.power = random.below(2) as u8;
+    record.suspended = random.below(2) as u8;
     if record.state == CONFIGURED {
         let configuration = &board.configurations[random.below(board.configurations.len())];
         record.configuration = configuration.value;
@@ -61,14 +62,15 @@ pub fn nearly_fitting(board: &Board, random: &mut Random) -> Record {
     let mut record = fitting(board, random);
     let any_bit = 1 << random.below(32);
     let listed_bit = any_listed(board, &record, random).map_or(any_bit, bit);
-    match random.below(13) {
+    match random.below(14) {
         0 => record.state = random.pick(&[0, 1, 2, 3, 255]),
         1 => record.address = random.pick(&[0, 1, 127, 128, 255]),
         2 => record.waiting = random.pick(&[0, 5, 127, 128, 254, 255]),
         3 => record.configuration = random.pick(&[0, 1, 2, 255, record.configuration.wrapping_add(1)]),
         4 => record.wakeup = random.pick(&[0, 1, 1, 1, 2, 255]),
-        5 => record.zeros[random.below(2)] = random.pick(&[1, 255]),
+        5 => record.zero = random.pick(&[1, 255]),
         12 => record.power = random.pick(&[0, 1, 2, 255]),
+        13 => record.suspended = random.pick(&[0, 1, 2, 255]),
         6 => record.alternates[random.below(16)] = random.pick(&[0, 1, 2, 15, 16, 255]),
         7 => {
             let at = random.below(usize::from(record.selected(board).map_or(16, |selected| selected.interface_count)));
@@ -148,7 +150,7 @@ fn interface_number(board: &Board, record: &Record, random: &mut Random) -> u16 
 
 /// Any event.
 pub fn event(board: &Board, record: &Record, random: &mut Random) -> Event {
-    match random.below(22) {
+    match random.below(25) {
         0 | 1 => Event::StatusEnd,
         2 => Event::BusReset,
         3 | 4 => Event::Halt(endpoint_address(board, record, random)),
@@ -156,6 +158,9 @@ pub fn event(board: &Board, record: &Record, random: &mut Random) -> Event {
         8 => Event::Setup(of_wrong_length(setup(board, record, random).bytes(), random)),
         9 => Event::Power(power_source(random)),
         10 => other_event(setup(board, record, random).bytes(), random),
+        11 => Event::Suspend,
+        12 => Event::Resume,
+        13 => Event::Wake,
         _ => Event::Setup(setup(board, record, random).bytes()),
     }
 }

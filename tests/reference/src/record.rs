@@ -21,7 +21,8 @@ pub struct Record {
     pub wakeup: u8,
     /// 0 the bus, 1 its own supply.
     pub power: u8,
-    pub zeros: [u8; 2],
+    pub suspended: u8,
+    pub zero: u8,
     pub alternates: [u8; 16],
     pub halts: u32,
     pub toggles: u32,
@@ -42,7 +43,8 @@ impl Record {
             configuration: 0,
             wakeup: 0,
             power: 0,
-            zeros: [0; 2],
+            suspended: 0,
+            zero: 0,
             alternates: [0; 16],
             halts: 0,
             toggles: 0,
@@ -61,7 +63,8 @@ impl Record {
             configuration: image[3],
             wakeup: image[4],
             power: image[5],
-            zeros: [image[6], image[7]],
+            suspended: image[6],
+            zero: image[7],
             alternates,
             halts: wide_number(image, 24),
             toggles: wide_number(image, 28),
@@ -70,7 +73,7 @@ impl Record {
 
     pub fn image(&self) -> Vec<u8> {
         let mut image = vec![self.state, self.address, self.waiting, self.configuration, self.wakeup, self.power];
-        image.extend(self.zeros);
+        image.extend([self.suspended, self.zero]);
         image.extend(self.alternates);
         image.extend(self.halts.to_le_bytes());
         image.extend(self.toggles.to_le_bytes());
@@ -82,7 +85,8 @@ impl Record {
             && self.waiting_fits(board.fault)
             && (self.wakeup == 0 || self.wakeup == 1 && wakeup_fits(board))
             && self.power_fits(board)
-            && (self.zeros == [0; 2] || board.fault == Fault::ZeroBytesIgnored)
+            && self.suspended_fits(board.fault)
+            && (self.zero == 0 || board.fault == Fault::ZeroBytesIgnored)
             && (0..16).all(|interface| self.alternate_fits(board, interface))
             && self.halts & !self.bits_that_may_stand(board, Fault::HaltOfOtherSettingFits) == 0
             && self.toggles & !self.bits_that_may_stand(board, Fault::IsochronousToggleFits) == 0
@@ -111,6 +115,15 @@ impl Record {
             Fault::OwnSupplyDoesNotFit => self.power == 0,
             Fault::OwnSupplyFitsSelfPoweredOnly => self.power == 0 || self.power == 1 && board.promises_own_supply(),
             _ => self.power <= 1,
+        }
+    }
+
+    /// 0 or 1 in every state.
+    fn suspended_fits(&self, fault: Fault) -> bool {
+        match fault {
+            Fault::SuspendedTwoFits => self.suspended <= 2,
+            Fault::SuspendedInDefaultDoesNotFit if self.state == DEFAULT => self.suspended == 0,
+            _ => self.suspended <= 1,
         }
     }
 

@@ -136,6 +136,9 @@ impl Asker<'_> {
                 Event::Halt(address),
                 Event::PacketPassed(address),
                 Event::Power(questions::power_source(&mut self.random)),
+                Event::Suspend,
+                Event::Resume,
+                Event::Wake,
                 questions::other_event(Vec::new(), &mut self.random),
                 setup,
             ];

@@ -10,7 +10,7 @@ use crate::packets;
 use crate::record::Record;
 
 /// The requests of document 02 that change old answers and have landed.
-const LANDED: [&str; 2] = ["l2", "l6"];
+const LANDED: [&str; 3] = ["l2", "l6", "l12"];
 
 /// What is lent from now on, and the record for the next question.
 struct Script {
@@ -154,7 +154,10 @@ fn event(words: &[&str]) -> Option<Event> {
         "halt" => Some(Event::Halt(byte(1)?)),
         "passed" => Some(Event::PacketPassed(byte(1)?)),
         "power" => Some(Event::Power(byte(1)?)),
-        "other" => Some(Event::Other { number: byte(1)?, value: byte(2)?, setup: from_hex(words.get(3)?)? }),
+        "suspend" => Some(Event::Suspend),
+        "resume" => Some(Event::Resume),
+        "wake" => Some(Event::Wake),
+        "other" => Some(Event::of_number(byte(1)?, byte(2)?, &from_hex(words.get(3)?)?)),
         _ => None,
     }
 }

@@ -26,11 +26,20 @@ returns-6 : tie.Need-returns-6
 returns-6 c = rw (c .match .keys6)
 
 returns-7 : tie.Need-returns-7
-returns-7 c =
+returns-7 c = rw (c .match .keys7)
+
+returns-8 : tie.Need-returns-8
+returns-8 c = rw (c .match .keys8)
+
+returns-9 : tie.Need-returns-9
+returns-9 c = rw (c .match .keys9)
+
+returns-10 : tie.Need-returns-10
+returns-10 c =
     let no = c .match .rest in
-    simp (ne-eqb _ _ (no .0 .0 .0 .0 .0 .1), ne-eqb _ _ (no .0 .0 .0 .0 .1), ne-eqb _ _ (no .0 .0 .0 .1), ne-eqb _ _ (no .0 .0 .1), ne-eqb _ _ (no .0 .1), ne-eqb _ _ (no .1))
+    simp (ne-eqb _ _ (no .0 .0 .0 .0 .0 .0 .0 .0 .1), ne-eqb _ _ (no .0 .0 .0 .0 .0 .0 .0 .1), ne-eqb _ _ (no .0 .0 .0 .0 .0 .0 .1), ne-eqb _ _ (no .0 .0 .0 .0 .0 .1), ne-eqb _ _ (no .0 .0 .0 .0 .1), ne-eqb _ _ (no .0 .0 .0 .1), ne-eqb _ _ (no .0 .0 .1), ne-eqb _ _ (no .0 .1), ne-eqb _ _ (no .1))
 
 pub event-of-spec : {M : Type 1} → statement M
 event-of-spec =
     tie.close
-    (tie.spec setup-event-requires returns returns-2 returns-3 returns-4 returns-5 returns-6 returns-7)
+    (tie.spec setup-event-requires returns returns-2 returns-3 returns-4 returns-5 returns-6 returns-7 returns-8 returns-9 returns-10)

@@ -45,6 +45,24 @@ enum-known-event-2 c = search needs
 power-requires : tie.Need-power-requires
 power-requires c κs = search needs
 
+enum-told-6 : tie.Need-enum-told-6
+enum-told-6 c = search needs
+
+suspended-requires : tie.Need-suspended-requires
+suspended-requires c κs = search needs
+
+enum-told-7 : tie.Need-enum-told-7
+enum-told-7 c = search needs
+
+suspended-requires-2 : tie.Need-suspended-requires-2
+suspended-requires-2 c κs = search needs
+
+enum-told-8 : tie.Need-enum-told-8
+enum-told-8 c = search needs
+
+wake-requires : tie.Need-wake-requires
+wake-requires c κs = search needs
+
 returns : tie.Need-returns
 returns c = λ v t. rw (c .before .before .event .given .1) (c .answer-setup .ensures v (rw (c .before .before .event .given .1) at t))
 
@@ -66,6 +84,15 @@ returns-6 c = λ v t. rw (c .before .enum-told5 .given .1) (c .packet-passed .en
 returns-7 : tie.Need-returns-7
 returns-7 c = λ v t. rw (c .before .before .event2 .given .1) (c .power .ensures)
 
+returns-8 : tie.Need-returns-8
+returns-8 c = λ v t. rw (c .before .enum-told6 .given .1) (c .suspended .ensures)
+
+returns-9 : tie.Need-returns-9
+returns-9 c = λ v t. rw (c .before .enum-told7 .given .1) (c .suspended2 .ensures)
+
+returns-10 : tie.Need-returns-10
+returns-10 c = λ v t. rw (c .before .enum-told8 .given .1) (c .wake .ensures)
+
 pub respond-spec : {M : Type 1} → statement M
 respond-spec =
     tie.close
@@ -84,10 +111,19 @@ respond-spec =
     packet-passed-requires
     enum-known-event-2
     power-requires
+    enum-told-6
+    suspended-requires
+    enum-told-7
+    suspended-requires-2
+    enum-told-8
+    wake-requires
     returns
     returns-2
     returns-3
     returns-4
     returns-5
     returns-6
-    returns-7)
+    returns-7
+    returns-8
+    returns-9
+    returns-10)

@@ -42,6 +42,24 @@ enum-told-4 c = search needs
 naming-requires-6 : tie.Need-naming-requires-6
 naming-requires-6 c κs = search needs
 
+enum-told-5 : tie.Need-enum-told-5
+enum-told-5 c = search needs
+
+naming-requires-7 : tie.Need-naming-requires-7
+naming-requires-7 c κs = search needs
+
+enum-told-6 : tie.Need-enum-told-6
+enum-told-6 c = search needs
+
+naming-requires-8 : tie.Need-naming-requires-8
+naming-requires-8 c κs = search needs
+
+enum-told-7 : tie.Need-enum-told-7
+enum-told-7 c = search needs
+
+naming-requires-9 : tie.Need-naming-requires-9
+naming-requires-9 c κs = search needs
+
 returns : tie.Need-returns
 returns c = search needs
 
@@ -63,6 +81,15 @@ returns-6 c = rw (c .naming5 .ensures, c .before .before .event3 .given .1)
 returns-7 : tie.Need-returns-7
 returns-7 c = rw (c .naming6 .ensures, c .before .enum-told4 .given .1)
 
+returns-8 : tie.Need-returns-8
+returns-8 c = rw (c .naming7 .ensures, c .before .enum-told5 .given .1)
+
+returns-9 : tie.Need-returns-9
+returns-9 c = rw (c .naming8 .ensures, c .before .enum-told6 .given .1)
+
+returns-10 : tie.Need-returns-10
+returns-10 c = rw (c .naming9 .ensures, c .before .enum-told7 .given .1)
+
 pub question-of-spec : {M : Type 1} → statement M
 question-of-spec =
     tie.close
@@ -80,10 +107,19 @@ question-of-spec =
     naming-requires-5
     enum-told-4
     naming-requires-6
+    enum-told-5
+    naming-requires-7
+    enum-told-6
+    naming-requires-8
+    enum-told-7
+    naming-requires-9
     returns
     returns-2
     returns-3
     returns-4
     returns-5
     returns-6
-    returns-7)
+    returns-7
+    returns-8
+    returns-9
+    returns-10)
