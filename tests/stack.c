@@ -16,11 +16,11 @@
 #define STACK_LENGTH 65536
 #define PAINT 0x5A
 
-enum function { EMPTY, OPEN, SETUP, STATUS_END, BUS_RESET, HALT, PACKET_PASSED, RECORD_EVENT, PACKET, FUNCTIONS };
+enum function { EMPTY, OPEN, SETUP, STATUS_END, BUS_RESET, HALT, PACKET_PASSED, RECORD_EVENT, PACKET, ENDPOINT, FUNCTIONS };
 
 static const char *const names[FUNCTIONS] = {
     "an empty call", "hk_open", "hk_setup", "hk_status_end", "hk_bus_reset", "hk_halt", "hk_packet_passed",
-    "hk_record_event", "hk_packet",
+    "hk_record_event", "hk_packet", "hk_endpoint",
 };
 
 /* What the next call takes; static, so that nothing of it lies on the painted stack. */
@@ -63,6 +63,9 @@ static void call(void) {
         break;
     case PACKET:
         hk_packet(set, set_length, UINT16_MAX, 8, endpoint, &part);
+        break;
+    case ENDPOINT:
+        hk_endpoint(set, set_length, serial, serial_length, image, sizeof image, endpoint, &part);
         break;
     default:
         break;
@@ -138,8 +141,9 @@ static void measure_state(void) {
         measure(HALT);
         memcpy(image, state, sizeof state);
         measure(PACKET_PASSED);
+        memcpy(image, state, sizeof state);
+        measure(ENDPOINT);
     }
-    memcpy(image, state, sizeof state);
 }
 
 /* From power-on through every state, with every configuration. */

@@ -1,5 +1,6 @@
 //! One call at the C boundary, and the reference's answer to it.
 
+use crate::endpoints;
 use crate::events::{Block, Event, Lent, Outcome, Part};
 use crate::fault::Fault;
 use crate::octets::hex;
@@ -10,6 +11,7 @@ pub enum Call {
     Open { image: Vec<u8> },
     Event { image: Vec<u8>, event: Event },
     Packet { reply_length: usize, asked: u16, size: u32, packet: u32 },
+    Endpoint { image: Vec<u8>, number: u8 },
 }
 
 impl Call {
@@ -20,6 +22,7 @@ impl Call {
             Call::Packet { reply_length, asked, size, packet } => {
                 cut(packets::packet(*reply_length, *asked, *size, *packet, lent.fault))
             }
+            Call::Endpoint { image, number } => endpoints::endpoint(lent, image, *number),
         }
     }
 
@@ -31,13 +34,14 @@ impl Call {
             Call::Packet { reply_length, asked, size, packet } => {
                 format!("packet {reply_length} {asked} {size} {packet}")
             }
+            Call::Endpoint { number, .. } => format!("endpoint {number}"),
         }
     }
 
     /// The image that is lent; packets need none.
     pub fn image(&self) -> &[u8] {
         match self {
-            Call::Open { image } | Call::Event { image, .. } => image,
+            Call::Open { image } | Call::Event { image, .. } | Call::Endpoint { image, .. } => image,
             Call::Packet { .. } => &[],
         }
     }
@@ -52,6 +56,7 @@ impl Call {
                 let (offset, length) = part.map_or((0, 0), |part| (part.offset, part.length));
                 format!("{number} {offset} {length}")
             }
+            Call::Endpoint { .. } => format!("{number} {}", part_words(*part)),
         }
     }
 }

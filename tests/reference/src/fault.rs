@@ -58,6 +58,10 @@ faults! {
         PacketSize24Passes ReplyLongerThanAskedPasses PacketNumberOneMore LastPacketWhole
         EmptyPacketStartsAtReply ReplyLengthSixteenBits PacketNumberSixteenBits
     }
+    ENDPOINTS {
+        EndpointsOfEverySetting EndpointsOfFirstConfiguration EndpointsByAddress EndpointsFromOne EndpointOffsetInBody
+        EndpointOfSevenBytes MissingEndpointDoesNotExist MissingEndpointDropsWaitingAddress EndpointNotInThisState
+    }
     LISTER {
         AttributesInsteadOfTransferType PacketSizeByLowByte IndexInsteadOfValue FirstSettingsOnly
         SettingsInsteadOfInterfaces
@@ -67,7 +71,7 @@ faults! {
 impl Fault {
     /// All that show at the C boundary.
     pub fn at_boundary() -> impl Iterator<Item = Fault> {
-        [OPENING, EVENTS, PACKETS].into_iter().flatten().copied()
+        [OPENING, EVENTS, PACKETS, ENDPOINTS].into_iter().flatten().copied()
     }
 
     pub fn name(self) -> String {

@@ -7,6 +7,7 @@ mod concerns;
 mod damage;
 mod descriptors;
 mod draft;
+mod endpoints;
 mod events;
 mod fault;
 mod files;

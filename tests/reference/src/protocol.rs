@@ -8,6 +8,7 @@
 //!     e image                hk_status_end                 r image        hk_bus_reset
 //!     h endpoint(1) image    hk_halt                       p endpoint(1) image   hk_packet_passed
 //!     k reply_length(4) asked(2) size(4) number(4)         hk_packet
+//!     n number(1) image      hk_endpoint
 //!
 //! Each call is answered with error(1) number(1) count(1) bytes(2) block(1) offset(4) length(4) and the image as a block.
 
@@ -112,6 +113,7 @@ impl Command {
             Command::Serial(_) => b'U',
             Command::Call(Call::Open { .. }) => b'o',
             Command::Call(Call::Packet { .. }) => b'k',
+            Command::Call(Call::Endpoint { .. }) => b'n',
             Command::Call(Call::Event { event, .. }) => match event {
                 Event::Setup(_) => b's',
                 Event::StatusEnd => b'e',
@@ -163,6 +165,10 @@ fn write_call(call: &Call, stream: &mut impl Write) -> io::Result<()> {
             stream.write_all(&size.to_le_bytes())?;
             stream.write_all(&packet.to_le_bytes())
         }
+        Call::Endpoint { image, number } => {
+            stream.write_all(&[*number])?;
+            write_block(stream, image)
+        }
     }
 }
 
@@ -170,6 +176,10 @@ fn read_call(operation: u8, stream: &mut impl Read) -> io::Result<Call> {
     let event = match operation {
         b'o' => return Ok(Call::Open { image: read_block(stream)? }),
         b'k' => return read_packet(stream),
+        b'n' => {
+            let number = read_array::<1>(stream)?[0];
+            return Ok(Call::Endpoint { image: read_block(stream)?, number });
+        }
         b's' => {
             let image = read_block(stream)?;
             return Ok(Call::Event { image, event: Event::Setup(read_block(stream)?) });

@@ -81,6 +81,10 @@ impl Script {
                 let numbers = numbers(&words[1..])?;
                 Some(self.tell_call(packet_call(numbers.get(..3)?, *numbers.get(3)?)?))
             }
+            "endpoint" => {
+                let number = words.get(1)?.parse().ok()?;
+                Some(self.tell_call(Call::Endpoint { image: self.record.clone(), number }))
+            }
             "count" => tell_count(&numbers(&words[1..])?),
             "list" => told(hex(list(&self.lent.set, &self.lent.serial, Fault::None).as_bytes())),
             "fits" => told(u8::from(self.fits()).to_string()),
