@@ -11,8 +11,8 @@ static unsigned request_of(const uint8_t *setup) {
     return (unsigned)setup[0] << 8 | setup[1];
 }
 
-static int has_fields(const uint8_t *setup, unsigned value, unsigned index, unsigned length) {
-    return setup[2] == value && setup[3] == 0 && setup[4] == index && setup[5] == 0 && setup[6] == length && setup[7] == 0;
+static int has_fields(const uint8_t *setup, unsigned value, unsigned index) {
+    return setup[2] == value && setup[3] == 0 && setup[4] == index && setup[5] == 0;
 }
 
 void serial_start(struct serial_port *port, uint8_t interface) {
@@ -27,13 +27,13 @@ int serial_setup(struct serial_port *port, const uint8_t *setup, struct applicat
     case REQUEST_SET_LINE_CODING:
         data->room = port->room;
         data->room_length = sizeof port->room;
-        return has_fields(setup, 0, port->interface, SERIAL_LINE_CODING_LENGTH);
+        return has_fields(setup, 0, port->interface);
     case REQUEST_GET_LINE_CODING:
         data->reply.start = port->line_coding;
         data->reply.length = sizeof port->line_coding;
-        return setup[2] == 0 && setup[3] == 0 && setup[4] == port->interface && setup[5] == 0;
+        return has_fields(setup, 0, port->interface);
     case REQUEST_SET_CONTROL_LINE_STATE:
-        if (!has_fields(setup, setup[2] & 3, port->interface, 0))
+        if (!has_fields(setup, setup[2] & 3, port->interface) || setup[6] != 0 || setup[7] != 0)
             return 0;
         port->lines = setup[2];
         return 1;

@@ -350,6 +350,20 @@ static void call_trim(uint8_t flags) {
     respond_with_image();
 }
 
+/* The image is only read. */
+static void call_endpoint(uint8_t flags) {
+    static const uint8_t no_answer[2];
+    uint8_t number = take_byte();
+    take_block(&image, flags);
+    hk_part *found = unwritten_part(flags);
+    uint8_t result = hk_endpoint(lent(&set, flags), set.length, lent(&serial, flags), serial.length, lent(&image, flags),
+                                 image.length, number, found);
+    size_t offset = offset_in(&set, *found, flags);
+    int kept = lent_blocks_kept() && unchanged(&image) && guards_unchanged(&part);
+    respond(!kept ? BYTES_CHANGED : offset == SIZE_MAX ? PART_ASTRAY : 0, result, no_answer, 0, 0, offset, found->length);
+    respond_with_image();
+}
+
 int main(void) {
     block *blocks[] = {&set, &serial, &image, &setup, &bytes, &count, &part, &reply, &pieces, &written};
     int stopping[] = {SIGSEGV, SIGBUS, SIGILL, SIGTRAP, SIGFPE, SIGABRT};
@@ -371,6 +385,9 @@ int main(void) {
             break;
         case 'k':
             call_packet(flags);
+            break;
+        case 'n':
+            call_endpoint(flags);
             break;
         case 't':
             call_trim(flags);

@@ -124,6 +124,8 @@ static void check_null(void) {
         EXPECT(part.start == NULL, 1);
         EXPECT(part.length, 0);
     }
+    EXPECT(hk_endpoint(NULL, 0, NULL, 0, image, sizeof image, 0, &part), HK_SET_NOT_ACCEPTABLE);
+    EXPECT(part.start == NULL, 1);
     EXPECT(hk_packet(NULL, 0, 0, 8, 0, &part), HK_NO_SUCH_PACKET);
     EXPECT(part.start == NULL, 1);
     EXPECT(hk_packet(NULL, 0, 1, 8, 0, &part), HK_DONE);

@@ -84,6 +84,8 @@ static void interrupt_set_address(struct host *host) {
     leave_set_address_open(host);
     get_descriptor(host, TYPE_DEVICE_QUALIFIER, 0, 0, 10, HK_DOES_NOT_EXIST);
     leave_set_address_open(host);
+    ask(host, 0xA1, GET_LINE_CODING, 0, 2, 7, HK_REQUEST_UNKNOWN);
+    leave_set_address_open(host);
     reset_bus(host);
 }
 
@@ -252,6 +254,22 @@ static void leave_bytes_open(struct host *host, const uint8_t *setup) {
         fail(host, "it was refused");
 }
 
+/* Bytes of several packets, there and back; the last one full, short, or one too many. */
+static void use_own_request(struct host *host) {
+    static const unsigned lengths[] = {1, 64, 100, 200, 201};
+    uint8_t setup[HK_SETUP_LENGTH], bytes[201];
+    heading("A request of the board's own, with bytes of the host's");
+    for (unsigned at = 0; at < sizeof bytes; at++)
+        bytes[at] = (uint8_t)(at + 1);
+    for (size_t at = 0; at < sizeof lengths / sizeof *lengths; at++) {
+        fill_setup(setup, 0x40, WIRE_KEEP, 0, 0, lengths[at]);
+        give(host, setup, bytes, lengths[at] > WIRE_MOST_KEPT ? HK_REQUEST_UNKNOWN : HK_DONE);
+        ask(host, 0xC0, WIRE_KEEP, 0, 0, 255, HK_DONE);
+    }
+    ask(host, 0xC0, WIRE_KEEP, 0, 0, 10, HK_DONE);
+    ask(host, 0xC0, WIRE_KEEP, 0, 0, 0, HK_DONE);
+}
+
 static void use_serial_port(struct host *host, uint8_t interface) {
     static const uint8_t slow[] = {0x80, 0x25, 0, 0, 2, 2, 7}, wrong[] = {0x80, 0x25, 0, 0, 9, 2, 7};
     uint8_t setup[HK_SETUP_LENGTH];
@@ -266,8 +284,8 @@ static void use_serial_port(struct host *host, uint8_t interface) {
     ask(host, 0xA1, GET_LINE_CODING, 0, interface, 4, HK_DONE);
     ask(host, 0x21, SET_CONTROL_LINE_STATE, 3, interface, 0, HK_DONE);
     ask(host, 0xA1, GET_LINE_CODING, 0, interface + 1u, 7, HK_REQUEST_UNKNOWN);
-    fill_setup(setup, 0x21, SET_LINE_CODING, 0, interface, 8);
-    begin_giving(host, setup, NULL, 0);
+    fill_setup(setup, 0x21, SET_LINE_CODING, 0, interface, 6);
+    give(host, setup, slow, HK_REQUEST_UNKNOWN);
     ask(host, 0xA1, SET_CONTROL_LINE_STATE, 0, interface, 2, HK_REQUEST_UNKNOWN);
 }
 
@@ -359,6 +377,11 @@ static void leave(struct host *host, const struct learnt *learnt) {
     change_wakeup(host, learnt, SET_FEATURE);
     ask(host, 0x00, SET_CONFIGURATION, 0, 0, 0, HK_DONE);
     reset_bus(host);
+    heading("A bus reset in Configured closes every endpoint");
+    ask(host, 0x00, SET_ADDRESS, ADDRESS, 0, 0, HK_DONE);
+    host->address = ADDRESS;
+    ask(host, 0x00, SET_CONFIGURATION, learnt->bodies[0].bytes[5], 0, 0, HK_DONE);
+    reset_bus(host);
 }
 
 static void lose_last_byte_of_set(struct host *host) {
@@ -425,6 +448,8 @@ static int enumerate(const struct device_flash *flash) {
     interrupt_set_address(&host);
     send_stray_outs(&host);
     set_address(&host);
+    use_own_request(&host);
+    get_descriptor(&host, TYPE_DEVICE, 0, 0, 18, HK_DONE);
     read_device(&host, &learnt);
     read_configurations(&host, &learnt);
     read_one_packet(&host, &learnt.bodies[0]);

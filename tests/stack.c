@@ -19,12 +19,13 @@
 #define PAINT 0x5A
 
 enum function {
-    EMPTY, OPEN, SETUP, STATUS_END, BUS_RESET, HALT, PACKET_PASSED, POWER, SUSPEND, RESUME, WAKE, RECORD_EVENT, PACKET, EXPORT, TRIM, FUNCTIONS
+    EMPTY, OPEN, SETUP, STATUS_END, BUS_RESET, HALT, PACKET_PASSED, POWER, SUSPEND, RESUME, WAKE, RECORD_EVENT, PACKET, ENDPOINT, EXPORT, TRIM,
+    FUNCTIONS
 };
 
 static const char *const names[FUNCTIONS] = {
     "an empty call", "hk_open", "hk_setup", "hk_status_end", "hk_bus_reset", "hk_halt", "hk_packet_passed",
-    "hk_power", "hk_suspend", "hk_resume", "hk_wake", "hk_record_event", "hk_packet", "hk_export", "hk_trim",
+    "hk_power", "hk_suspend", "hk_resume", "hk_wake", "hk_record_event", "hk_packet", "hk_endpoint", "hk_export", "hk_trim",
 };
 
 /* What the next call takes; static, so that nothing of it lies on the painted stack. */
@@ -87,6 +88,9 @@ static void call(void) {
         break;
     case TRIM:
         hk_trim(trimmed, set_length, serial, serial_length, &written);
+        break;
+    case ENDPOINT:
+        hk_endpoint(set, set_length, serial, serial_length, image, sizeof image, event_value, &part);
         break;
     default:
         break;
@@ -164,6 +168,8 @@ static void measure_state(void) {
         measure(HALT);
         memcpy(image, state, sizeof state);
         measure(PACKET_PASSED);
+        memcpy(image, state, sizeof state);
+        measure(ENDPOINT);
     }
     memcpy(image, state, sizeof state);
     event_value = HK_POWER_OWN;

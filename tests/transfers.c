@@ -12,7 +12,7 @@ void fail(struct host *host, const char *what) {
     host->failures++;
 }
 
-/* As 81 (type 3, 8 bytes): what the board took from the descriptor. */
+/* As 81 interrupt of 8: what the board took from the descriptor. */
 static void show_endpoints(struct host *host) {
     const uint8_t *open[WIRE_MOST_ENDPOINTS];
     size_t count = wire_open_endpoints(open);
@@ -22,7 +22,7 @@ static void show_endpoints(struct host *host) {
     host->open_count = count;
     printf("  open:%s", count == 0 ? " none" : "");
     for (size_t at = 0; at < count; at++)
-        printf("%s %02X (type %u, %u bytes)", at == 0 ? "" : ",", open[at][2], open[at][3] & 3, two_bytes(open[at] + 4));
+        printf("%s %02X %s of %u", at == 0 ? "" : ",", open[at][2], transfer_type(open[at]), two_bytes(open[at] + 4));
     putchar('\n');
 }
 
@@ -136,6 +136,13 @@ uint8_t begin_giving(struct host *host, const uint8_t *setup, const uint8_t *byt
     return number;
 }
 
+/* Some bytes in a line, and the last one of more. */
+static void print_some_bytes(const uint8_t *bytes, size_t length) {
+    print_bytes(bytes, length < 16 ? length : 16);
+    if (length > 16)
+        printf(" .. %02X", bytes[length - 1]);
+}
+
 static void print_packets(const struct host *host) {
     printf("%u byte%s in ", (unsigned)host->length, host->length == 1 ? "" : "s");
     if (host->packets == 1) {
@@ -165,7 +172,7 @@ static void print_answer(const struct host *host, const uint8_t *setup, uint8_t 
     } else {
         print_packets(host);
         printf(": ");
-        print_bytes(host->bytes, host->length);
+        print_some_bytes(host->bytes, host->length);
         putchar('\n');
     }
 }
@@ -194,7 +201,7 @@ static void take_status(struct host *host, uint8_t number) {
 void give(struct host *host, const uint8_t *setup, const uint8_t *bytes, uint8_t expected) {
     print_setup(setup);
     printf("\n  <- ");
-    print_bytes(bytes, ASKED(setup));
+    print_some_bytes(bytes, ASKED(setup));
     putchar('\n');
     uint8_t number = begin_giving(host, setup, bytes, ASKED(setup));
     if (number == HK_DONE)

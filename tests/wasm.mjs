@@ -166,6 +166,15 @@ function callEvent(operation, flags) {
     respond(error, number, 0, [0, 0], 0, 0, 0, imageLent.bytes());
 }
 
+// The image is only read.
+function callEndpoint(flags) {
+    const index = takeNumber(1), image = takeBlock(), lent = new Lent(flags);
+    const setLent = lent.place(set), serialLent = lent.place(serial), imageLent = lent.place(image), part = lent.placePart();
+    const { number, error } = lent.call("hk_endpoint", ...[setLent, serialLent, imageLent].flatMap(pair), index, part.address);
+    const found = locate(part, [[0, setLent]]);
+    respond(error || (found ? 0 : PART_ASTRAY), number, 0, [0, 0], ...(found ?? [0, 0, 0]), imageLent.bytes());
+}
+
 function callPacket(flags) {
     const length = takeNumber(4), asked = takeNumber(2), size = takeNumber(4), packet = takeNumber(4), lent = new Lent(flags);
     const reply = lent.place(new Uint8Array(length).fill(GUARD_BYTE)), part = lent.placePart();
@@ -207,6 +216,8 @@ for (;;) {
         callSetup(flags);
     else if (operation === "v")
         callRecordEvent(flags);
+    else if (operation === "n")
+        callEndpoint(flags);
     else if (operation === "k")
         callPacket(flags);
     else if (operation === "t")

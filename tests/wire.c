@@ -4,7 +4,11 @@
 
 #include "../firmware/hardware.h"
 
+#define RECORD_STATE 0
 #define RECORD_HALTS 24
+#define CONFIGURED 2
+
+#define VENDOR_DEVICE 0x40
 
 /* What the hardware holds, and one event that the loop has not seen yet. */
 static struct {
@@ -19,6 +23,8 @@ static struct {
     uint8_t *room;
     size_t room_length;
     struct hardware_event event;
+    uint8_t kept[WIRE_MOST_KEPT]; /* the application's own: what the host gave it last */
+    size_t kept_length;
 } wire;
 
 int hardware_wait(struct hardware_event *event) {
@@ -73,12 +79,25 @@ void application_hear(uint8_t number) {
     wire.heard = number;
 }
 
+/* A request of the bench's own, to the device: it keeps some bytes, and gives them back. */
+static int keep_setup(const uint8_t *setup, struct application_data *data) {
+    data->reply.start = data->room = wire.kept;
+    data->reply.length = wire.kept_length;
+    data->room_length = sizeof wire.kept;
+    return (setup[0] & 0x7F) == VENDOR_DEVICE && setup[1] == WIRE_KEEP;
+}
+
+/* Interfaces, and so their requests, exist only in Configured. */
 int application_setup(const uint8_t *setup, struct application_data *data) {
-    return wire.port != NULL && serial_setup(wire.port, setup, data);
+    int configured = wire.device->record[RECORD_STATE] == CONFIGURED;
+    return (wire.port != NULL && configured && serial_setup(wire.port, setup, data)) || keep_setup(setup, data);
 }
 
 int application_take(const uint8_t *setup, const uint8_t *bytes, size_t length) {
-    return serial_take(wire.port, setup, bytes, length);
+    if (setup[0] != VENDOR_DEVICE)
+        return serial_take(wire.port, setup, bytes, length);
+    wire.kept_length = length;
+    return 1;
 }
 
 size_t wire_open_endpoints(const uint8_t *descriptors[WIRE_MOST_ENDPOINTS]) {

@@ -28,6 +28,11 @@ enum wire_answer wire_send_packet(uint8_t address, const uint8_t *bytes, size_t 
 /* An OUT packet that nobody waits for, and a peripheral that reports it all the same. */
 void wire_send_stray_out(void);
 
+/* The code of a vendor request to the device that the bench's application knows: it keeps so many bytes at the most, and
+ * gives them back. */
+#define WIRE_KEEP 0x42
+#define WIRE_MOST_KEPT 200
+
 /* From now on the hardware hands over so many bytes of a SETUP. */
 void wire_hand_over(uint8_t setup_length);
 

@@ -163,9 +163,23 @@ static void print_fields(const uint8_t *setup) {
     }
 }
 
+/* The name of a serial port's request, if it is one. */
+static const char *serial_request(const uint8_t *setup) {
+    if (setup[0] == 0xA1)
+        return setup[1] == GET_LINE_CODING ? "GET_LINE_CODING" : NULL;
+    if (setup[0] != 0x21)
+        return NULL;
+    return setup[1] == SET_LINE_CODING          ? "SET_LINE_CODING"
+           : setup[1] == SET_CONTROL_LINE_STATE ? "SET_CONTROL_LINE_STATE"
+                                                : NULL;
+}
+
 void print_setup(const uint8_t *setup) {
     const char *name = setup[1] < sizeof requests / sizeof *requests ? requests[setup[1]] : NULL;
-    if (setup[0] & 0x60 || name == NULL) {
+    if (serial_request(setup) != NULL) {
+        printf("%s", serial_request(setup));
+        print_recipient(INTERFACE, two_bytes(setup + 4));
+    } else if (setup[0] & 0x60 || name == NULL) {
         const char *whose = setup[0] & 0x40 ? "vendor" : setup[0] & 0x20 ? "class" : "later standard";
         printf("request %02X of a %s", setup[1], whose);
     } else {
@@ -231,6 +245,10 @@ static void print_languages(const uint8_t *string, size_t length) {
         printf(" %04X", two_bytes(string + at));
 }
 
+const char *transfer_type(const uint8_t *descriptor) {
+    return transfer_types[descriptor[3] & 3];
+}
+
 /* What a descriptor is, as far as its length lets tell. */
 static void print_meaning(const uint8_t *descriptor, size_t length) {
     unsigned type = length < 2 ? 0 : descriptor[1];
@@ -240,7 +258,7 @@ static void print_meaning(const uint8_t *descriptor, size_t length) {
     if (type == TYPE_INTERFACE && length >= 4)
         printf(" %u, alternate %u", descriptor[2], descriptor[3]);
     if (type == TYPE_ENDPOINT && length >= 6)
-        printf(" %02X, %s, %u bytes", descriptor[2], transfer_types[descriptor[3] & 3], two_bytes(descriptor + 4));
+        printf(" %02X, %s, %u bytes", descriptor[2], transfer_type(descriptor), two_bytes(descriptor + 4));
 }
 
 static void print_lines(const uint8_t *bytes, size_t length) {

@@ -54,4 +54,7 @@ void print_refusal(uint8_t number);
 
 const char *number_in_words(uint8_t number);
 
+/* Of an endpoint, by its descriptor. */
+const char *transfer_type(const uint8_t *descriptor);
+
 #endif

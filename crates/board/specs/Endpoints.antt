@@ -10,10 +10,11 @@ use mathlib.Core.Bool.{Bool, true, false, _&&_, _||_, not}
 use mathlib.Core.Option.{Option, some, none}
 use lib.ListN.{length, getD, getElem?, length-map}
 use lib.Dec.{eqb, leb}
-use borrow.Author.Tests.{not-true, eq-eqb, ne-eqb, eqb-true, eqb-false, leb-true, le-leb}
+use borrow.Author.Tests.{not-true, eq-eqb, eqb-true, eqb-false, leb-true, le-leb}
 use Rattle.octets.specs.Octets.{Bytes, byte, part}
-use Rattle.octets.specs.Sentences.{pick, _⇒_, every, only, pairs, upTo}
+use Rattle.octets.specs.Sentences.{pick, every, only, pairs, upTo}
 use Rattle.octets.proofs.Sentences.{cases, both, joined, never, if-then, every-member, member-every, only-member, pairs-split}
+use Rattle.octets.proofs.Counting.{at-member, at-inside, at-beyond, told, pairs-at, pairs-map, pairs-then, differ, apart as unequal, differs, no-more}
 use Rattle.descriptors.specs.declared.Endpoint.{Endpoint}
 use Rattle.descriptors.specs.Limits.{fullSpeed}
 use Rattle.descriptors.specs.Cut.{cut, cutAfter, descriptorsOf, wellCut}
@@ -26,26 +27,21 @@ use Rattle.sets.proofs.Bodies.{mapped}
 use Rattle.sets.specs.declared.Entry.{Entry}
 use Rattle.sets.specs.Contents.{bodyOf}
 use Rattle.sets.specs.Opening.{Board}
-use Rattle.sets.specs.View.{View, viewOf, openingOf, accepted, unconfigured}
-use Rattle.sets.specs.Found.{found}
-use Rattle.sets.specs.Sound.{Sound}
+use Rattle.sets.specs.View.{viewOf, openingOf, accepted}
 use Rattle.records.specs.declared.Device.{Device}
 use Rattle.records.specs.Device.{inConfigured}
 use Rattle.records.specs.Image.{deviceOf}
 use Rattle.records.specs.Current.{selected, currentEndpoints}
 use Rattle.records.specs.Fits.{fits, fitsOn}
-use Rattle.events.specs.declared.Answer.{Answer}
 use Rattle.events.specs.declared.Answer.the-variants.{SetPart, Refused}
-use Rattle.events.specs.Answer.{numberOf, partOf}
 use Rattle.steps.specs.Endpoint.{selectedEntry, inSet, endpointsIn, endpointDescriptors, endpointPart, endpoint, endpointOn}
 use Rattle.steps.specs.Gathering.{selectedBody}
 use Rattle.steps.proofs.Configurations.{usable}
 use Rattle.steps.proofs.Steps.{is-selected}
-use Rattle.steps.proofs.EndpointParts.{Stands, stands}
+use Rattle.steps.proofs.EndpointParts.{stands}
 use Rattle.laws.proofs.Fitting.{unselected}
 use Rattle.laws.proofs.Keeping.{soundSelected}
 use Rattle.laws.proofs.Locality.{zero-selects}
-use Rattle.laws.proofs.Counting.{at-member, at-inside, at-beyond, told, pairs-at, pairs-map, differ, apart as unequal, differs, no-more}
 use Rattle.promises.specs.Sound.{sound}
 use Rattle.promises.specs.Keeps.{FitImage, Reached, reachedFits}
 use Rattle.board.specs.Exports.{Spot, GivesEndpoint}
@@ -66,7 +62,7 @@ pub record EndpointIn (b : Board) (setSpot : Spot) (shown : List ℕ) (spot : Sp
   pub good : goodEndpoint fullSpeed shown ≡ true
 
 -- address and attributes, as an endpoint descriptor has them and as the configuration lists them
-abbrev pair : ℕ → ℕ → ℕ × ℕ
+abbrev pub pair : ℕ → ℕ → ℕ × ℕ
 pair address attributes = (address, attributes)
 
 abbrev pub described : List ℕ → ℕ × ℕ
@@ -74,14 +70,6 @@ described d = pair (bEndpointAddress d) (bmAttributes d)
 
 abbrev pub listed : Endpoint → ℕ × ℕ
 listed e = pair (e .address) (e .attributes)
-
--- each two, by what is known of each
-pairs-then : {A : Type 0} (r s : A → A → Bool) (l : List A) → ((x y : A) → List·Memᴰ x l → List·Memᴰ y l → r x y ≡ true → s x y ≡ true) → pairs r l ≡ true → pairs s l ≡ true
-unfolding pairs
-pairs-then r s [] h p = refl
-pairs-then r s (x ∷ l) h p =
-    let (q, t) = pairs-split r x l p in
-    joined (member-every (s x) l (λ y m. h x y (List·Memᴰ·head refl) (List·Memᴰ·tail m) (every-member (r x) q m))) (pairs-then r s l (λ y z m k. h y z (List·Memᴰ·tail m) (List·Memᴰ·tail k)) t)
 
 -- ---- an answer is a refusal, or the part of a descriptor of the list
 module _ (b : Board) (image : List ℕ) (k : ℕ) where

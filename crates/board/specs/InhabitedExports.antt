@@ -1,5 +1,5 @@
--- The premises of the theorems over hk_open, hk_packet and hk_record_event hold of something: S and its device descriptor, and the titrator T,
--- opened and configured as a record.
+-- The premises of the theorems over hk_open, hk_packet, hk_record_event and hk_endpoint hold of something: S and its device descriptor, and the
+-- titrator T, opened and configured as a record.
 use Prim.Native.Nat.{ℕ, zero, suc, _^_}
 use native.Mathlib.Omega.{arith}
 use mathlib.Core.Path.{_≡_, refl}
@@ -10,19 +10,23 @@ use lib.ListN.{replicate, set}
 use borrow.Author.Tests.{ne-eqb}
 use Rattle.octets.specs.Sentences.{only, upTo}
 use Rattle.descriptors.specs.Limits.{fullSpeed}
+use Rattle.descriptors.specs.Endpoints.{currentFrom}
 use Rattle.records.specs.declared.Device.{Device}
 use Rattle.records.specs.Device.{zeros, fresh, withWaiting, withEndpoints, Sized}
 use Rattle.records.specs.Image.{imageOf}
+use Rattle.steps.specs.Endpoint.{endpointDescriptors, endpoint, endpointOn}
 use Rattle.promises.specs.Examples.{bytes, computed, S, T}
 use Rattle.promises.specs.Bench.{stands, addressed}
 use Rattle.promises.specs.Opening.{groups, AllHold, FirstBroken}
 use Rattle.promises.specs.Refusal.{freshImage, opens}
-use Rattle.promises.specs.Inhabited.{bytesT, acceptedT, waiting, configured, configuredSized}
+use Rattle.promises.specs.Keeps.{imageFits}
+use Rattle.promises.specs.Inhabited.{bytesS, acceptedS, bytesT, acceptedT, waiting, configured, configuredFits, configuredSized}
 use Rattle.promises.specs.InhabitedOrder.{configuredFitsT}
-use Rattle.board.specs.Exports.{Opens, Spot, AnswersSetup, CutsPacket, numbered, AnswersRecordEvent}
+use Rattle.board.specs.Exports.{Opens, Spot, AnswersSetup, CutsPacket, numbered, AnswersRecordEvent, GivesEndpoint}
 use Rattle.board.specs.Opening.{openingNumber, openingAccepts, openingRefuses}
 use Rattle.board.specs.Runs.{Call, recordEvent, Given, Throughout, NotEight}
 use Rattle.board.specs.Transfers.{packetNumber, transfer}
+use Rattle.board.specs.Endpoints.{EndpointIn, pair, described, endpointGiven, endpointsThere, endpointsEnd, endpointsAll}
 use Rattle.board.specs.Order.{concernsThis, Reordered}
 use Rattle.board.specs.Records.{refusal, RecordRuns, ended, called, answersByRules, asImages, decidedRecord, neverEightRecord, orderRecord}
 use Rattle.board.specs.InhabitedRuns
@@ -134,3 +138,30 @@ pub dropsWhereItStands : {left : Device} {handedBack : List ℕ} {count : ℕ} {
     → AnswersRecordEvent S setSpot serialSpot waiting (numbered 0 0 (bytes 8 0x8006000600000A00)) 13 left handedBack count shown spot → left ≡ fresh
 unfolding computed
 dropsWhereItStands a = refusal a .keeps (λ z. omega arith)
+
+-- ---- hk_endpoint: S configured has one endpoint, and its descriptor is the set's last 7 bytes; the second one is refused, and so is the first in Default
+pub endpointOfS : GivesEndpoint S setSpot (imageOf configured) 0 0 (bytes 7 0x0705810308000A) (record { block = 1; offset = 56 })
+unfolding computed currentFrom endpointDescriptors endpoint endpointOn
+endpointOfS = record { number = refl; shows = refl; lies = refl }
+
+pub noSecond : GivesEndpoint S setSpot (imageOf configured) 1 16 [] setSpot
+unfolding computed currentFrom endpointDescriptors endpoint endpointOn
+noSecond = record { number = refl; shows = refl; lies = refl }
+
+pub noneInDefault : GivesEndpoint S setSpot freshImage 0 16 [] setSpot
+unfolding computed currentFrom endpointDescriptors endpoint endpointOn
+noneInDefault = record { number = refl; shows = refl; lies = refl }
+
+pub isDescriptor : EndpointIn S setSpot (bytes 7 0x0705810308000A) (record { block = 1; offset = 56 })
+isDescriptor = endpointGiven endpointOfS refl
+
+-- counted by whatever meets the statement: 0, then 16, and the one part lists endpoint 81, interrupt
+pub countsS : (number : ℕ → ℕ) (shown : ℕ → List ℕ) (spot : ℕ → Spot) → ((k : ℕ) → GivesEndpoint S setSpot (imageOf configured) k (number k) (shown k) (spot k))
+    → (number 0 ≡ 0) × (number 1 ≡ 16) × (described (shown 0) ∷ [] ≡ pair 0x81 3 ∷ [])
+unfolding computed
+countsS number shown spot gives =
+    let fit = imageFits S bytesS acceptedS configured (configuredFits, configuredSized) in (
+      endpointsThere S bytesS acceptedS fit setSpot number shown spot gives 0 (omega arith),
+      endpointsEnd S bytesS acceptedS fit setSpot number shown spot gives 1 (omega arith),
+      endpointsAll S bytesS acceptedS fit setSpot number shown spot gives,
+    )

@@ -13,7 +13,7 @@ use lib.Seq.{getD-take, getD-drop}
 use lib.Dec.{eqb, leb, ltb}
 use borrow.Author.Tests.{ne-eqb, le-leb, ltb-true, ltb-false}
 use Rattle.octets.specs.Octets.{byte, part}
-use Rattle.octets.specs.Sentences.{pick, only, every, pairs}
+use Rattle.octets.specs.Sentences.{pick, only, pairs}
 use Rattle.octets.proofs.Sentences.{cases, both, joined, member-every}
 use Rattle.descriptors.specs.declared.Endpoint.{Endpoint}
 use Rattle.descriptors.specs.declared.Stand.{Stand}

@@ -6,7 +6,6 @@ use mathlib.Core.Option.{Option, some, none}
 use lib.ListN.{length}
 use lib.Dec.{eqb}
 use Rattle.octets.specs.Sentences.{pick}
-use Rattle.descriptors.specs.declared.Stand.{Stand}
 use Rattle.descriptors.specs.declared.endpoints.DescriptorFound.{DescriptorFound}
 use Rattle.descriptors.specs.declared.endpoints.DescriptorFound.the-variants.{At, Nothing}
 use Rattle.descriptors.specs.Configuration.{isCurrent}

@@ -10,4 +10,3 @@ pub mod Alike
 pub mod Touches
 pub mod Locality
 pub mod Picking
-pub mod Counting

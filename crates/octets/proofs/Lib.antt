@@ -2,3 +2,4 @@ pub mod Sentences
 pub mod Bits
 pub mod Words
 pub mod Tables
+pub mod Counting

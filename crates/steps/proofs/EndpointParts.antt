@@ -2,7 +2,7 @@
 use Prim.Native.Nat.{ℕ, zero, suc, _+_, _≤_}
 use native.Mathlib.Omega.{arith}
 use mathlib.Core.Path.{_≡_, refl, sym, ap, _∙_}
-use mathlib.Core.List.{List, [], _∷_, map, List·Memᴰ, List·Memᴰ·head, List·Memᴰ·tail, List·Memᴰ·not-nil}
+use mathlib.Core.List.{List, [], _∷_, map, List·Memᴰ, List·Memᴰ·not-nil}
 use mathlib.Core.Bool.{Bool, true, false, not, false≢true}
 use mathlib.Core.Option.{Option, some, none}
 use lib.ListN.{length, take, drop, getElem?, length-take, length-drop}
@@ -12,6 +12,7 @@ use borrow.Author.Tests.{eq-eqb, ne-eqb, eqb-true, leb-true}
 use Rattle.octets.specs.Octets.{byte, part}
 use Rattle.octets.specs.Sentences.{pick, _⇒_, every, any, first, pairs}
 use Rattle.octets.proofs.Sentences.{cases, both, if-then, conjunct, every-map, every-member, only-member, first-some}
+use Rattle.octets.proofs.Counting.{at-member}
 use Rattle.descriptors.specs.declared.Limits.{Limits}
 use Rattle.descriptors.specs.Cut.{cut, descriptorsOf, wellCut}
 use Rattle.descriptors.specs.Limits.{named, fullSpeed}
@@ -81,25 +82,13 @@ module _ (b : Board) (d : Device) (k : ℕ) where
     answers q n = rw (p, q, eq-eqb (d .state) inConfigured n) (stands-in (b .set) d k (selectedEntry (b .set) d))
 
 -- ---- a body of an accepted set is short
-pub element : {A : Type 0} (l : List A) (k : ℕ) {x : A} → getElem? l k ≡ some x → List·Memᴰ x l
-element [] k p = absurd (no-element p)
-  where
-    no-element : {A : Type 0} {x : A} → _≡_ {A = Option A} none (some x) → ⊥
-    no-element {A} e = let z : _≡_ {A = ℕ} 0 1 = ap (λ (o : Option A). size o) e in omega arith
-      where
-        size : {A : Type 0} → Option A → ℕ
-        size none = 0
-        size (some x) = 1
-element (y ∷ l) zero {x} p = let e : x ≡ y = cc in List·Memᴰ·head e
-element (y ∷ l) (suc k) p = List·Memᴰ·tail (element l k p)
-
 module _ (alternates body : List ℕ) (well : wellCut (cut body) ≡ true) (k : ℕ) where
   pub begins-inside : beginning (foundAt (getElem? (currentDescriptors alternates body) k)) ≤ length body
   begins-inside = go (getElem? (currentDescriptors alternates body) k) refl
     where
       go : (o : Option DescriptorAt) → getElem? (currentDescriptors alternates body) k ≡ o → beginning (foundAt o) ≤ length body
       go none q = omega arith
-      go (some p) q = let l = lies alternates body well p (element (currentDescriptors alternates body) k q) .inside in omega (arith, l)
+      go (some p) q = let l = lies alternates body well p (at-member (currentDescriptors alternates body) k q) .inside in omega (arith, l)
 
 pub body-short : (b : Board) → openingOf b ≡ 0 → (value : ℕ) → length (selectedBody (b .set) value) ≤ 16384
 unfolding goodFrame
@@ -202,7 +191,7 @@ module _ (b : Board) where
   unfolding endpoint
   endpoint-inside d k = cases (accepted b)
       (λ p. cases (fits (viewOf b) d)
-      (λ q. rw (p, q) (in-set (getElem? (endpointDescriptors (b .set) d) k) (λ x e. stands b (eqb-true (openingOf b) 0 p) d x (element (endpointDescriptors (b .set) d) k e))))
+      (λ q. rw (p, q) (in-set (getElem? (endpointDescriptors (b .set) d) k) (λ x e. stands b (eqb-true (openingOf b) 0 p) d x (at-member (endpointDescriptors (b .set) d) k e))))
       (λ q. rw (p, q) (omega arith)))
       (λ p. rw p (omega arith))
 

@@ -1,6 +1,7 @@
 //! One call at the C boundary, and the reference's answer to it.
 
 use crate::dumps;
+use crate::endpoints;
 use crate::events::{Block, Event, Lent, Outcome, Part};
 use crate::fault::Fault;
 use crate::octets::hex;
@@ -21,6 +22,7 @@ pub enum Call {
     Export { buffer: Vec<u8> },
     /// The set that is lent, in a buffer of its own.
     Trim { set: Vec<u8> },
+    Endpoint { image: Vec<u8>, number: u8 },
 }
 
 impl Call {
@@ -54,6 +56,7 @@ impl Call {
                 dumps::export(&lent.set, opened, buffer, lent.fault)
             }
             Call::Trim { set } => trim::trim(set, lent.opened.as_ref().map_err(|rule| rule.group()), lent.fault),
+            Call::Endpoint { image, number } => endpoints::endpoint(lent, image, *number),
         }
     }
 
@@ -72,13 +75,14 @@ impl Call {
             Call::Import { dump, buffer } => format!("import {} {}", hex(dump), hex(buffer)),
             Call::Export { buffer } => format!("export {}", hex(buffer)),
             Call::Trim { .. } => "trim".to_string(),
+            Call::Endpoint { number, .. } => format!("endpoint {number}"),
         }
     }
 
     /// The image that is lent; packets and the makers' calls need none.
     pub fn image(&self) -> &[u8] {
         match self {
-            Call::Open { image } | Call::Event { image, .. } | Call::Numbered { record: image, .. } => image,
+            Call::Open { image } | Call::Event { image, .. } | Call::Numbered { record: image, .. } | Call::Endpoint { image, .. } => image,
             _ => &[],
         }
     }
@@ -98,6 +102,7 @@ impl Call {
             Call::Write { .. } | Call::Import { .. } | Call::Export { .. } | Call::Trim { .. } => {
                 format!("{number} {} {}", part.map_or(0, |part| part.length), hex(image))
             }
+            Call::Endpoint { .. } => format!("{number} {}", part_words(*part)),
         }
     }
 }

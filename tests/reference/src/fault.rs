@@ -84,6 +84,10 @@ faults! {
         ManufacturerNotCounted ConfigurationNotCounted AlternatesNotCounted FunctionCounted ZeroGoesBesideSerial
         ZeroAlwaysStays FreedBytesStay
     }
+    ENDPOINTS {
+        EndpointsOfEverySetting EndpointsOfFirstConfiguration EndpointsByAddress EndpointsFromOne EndpointOffsetInBody
+        EndpointOfSevenBytes MissingEndpointDoesNotExist MissingEndpointDropsWaitingAddress EndpointNotInThisState
+    }
     LISTER {
         AttributesInsteadOfTransferType PacketSizeByLowByte IndexInsteadOfValue FirstSettingsOnly
         SettingsInsteadOfInterfaces
@@ -93,7 +97,7 @@ faults! {
 impl Fault {
     /// All that show at the C boundary.
     pub fn at_boundary() -> impl Iterator<Item = Fault> {
-        [OPENING, EVENTS, PACKETS, WRITER, DUMPS, TRIM].into_iter().flatten().copied()
+        [OPENING, EVENTS, PACKETS, ENDPOINTS, WRITER, DUMPS, TRIM].into_iter().flatten().copied()
     }
 
     pub fn name(self) -> String {

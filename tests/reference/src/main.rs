@@ -8,6 +8,7 @@ mod damage;
 mod descriptors;
 mod draft;
 mod dumps;
+mod endpoints;
 mod events;
 mod fault;
 mod files;

@@ -11,6 +11,7 @@
 //!     z image                hk_suspend                    y image        hk_resume
 //!     a image                hk_wake
 //!     k reply_length(4) asked(2) size(4) number(4)         hk_packet
+//!     n number(1) image      hk_endpoint
 //!     w pieces buffer        hk_write: length is what was written, the image is the buffer
 //!     i dump buffer          hk_import, in the same way    x buffer       hk_export
 //!     t set                  hk_trim: length is the total, the image is the set
@@ -123,6 +124,7 @@ impl Command {
             Command::Call(Call::Export { .. }) => b'x',
             Command::Call(Call::Numbered { .. }) => b'v',
             Command::Call(Call::Trim { .. }) => b't',
+            Command::Call(Call::Endpoint { .. }) => b'n',
             Command::Call(Call::Event { event, .. }) => match event {
                 Event::Setup(_) => b's',
                 Event::StatusEnd => b'e',
@@ -190,6 +192,10 @@ fn write_call(call: &Call, stream: &mut impl Write) -> io::Result<()> {
             write_block(stream, buffer)
         }
         Call::Export { buffer } | Call::Trim { set: buffer } => write_block(stream, buffer),
+        Call::Endpoint { image, number } => {
+            stream.write_all(&[*number])?;
+            write_block(stream, image)
+        }
     }
 }
 
@@ -205,6 +211,10 @@ fn read_call(operation: u8, stream: &mut impl Read) -> io::Result<Call> {
             return Ok(Call::Numbered { record: read_block(stream)?, number, value, setup: read_block(stream)? });
         }
         b't' => return Ok(Call::Trim { set: read_block(stream)? }),
+        b'n' => {
+            let number = read_array::<1>(stream)?[0];
+            return Ok(Call::Endpoint { image: read_block(stream)?, number });
+        }
         b's' => {
             let image = read_block(stream)?;
             return Ok(Call::Event { image, event: Event::Setup(read_block(stream)?) });

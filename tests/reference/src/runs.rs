@@ -113,6 +113,19 @@ impl Asker<'_> {
             let event = questions::event(board, &record, &mut self.random);
             image = self.send(lent, &image, &event).image;
         }
+        self.count_endpoints(lent, &image);
+    }
+
+    /// From 0 to the first refusal, as a board does.
+    fn count_endpoints(&mut self, lent: &Arc<Lent>, image: &[u8]) {
+        let mut number = 0;
+        while self.ask_endpoint(lent, image, number) {
+            number += 1;
+        }
+    }
+
+    fn ask_endpoint(&mut self, lent: &Arc<Lent>, image: &[u8], number: u8) -> bool {
+        self.comparison.ask(lent, Call::Endpoint { image: image.to_vec(), number }).number == 0
     }
 
     fn single_events(&mut self, lent: &Arc<Lent>, board: &Board) {
@@ -121,6 +134,8 @@ impl Asker<'_> {
             let record = Record::read(&image).unwrap_or(Record::fresh());
             let event = questions::event(board, &record, &mut self.random);
             self.send(lent, &image, &event);
+            let number = self.random.pick(&[0, 0, 1, 2, 3, 7, 29, 30, 255]);
+            self.ask_endpoint(lent, &image, number);
         }
     }
 
@@ -144,6 +159,7 @@ impl Asker<'_> {
             ];
             let event = &kinds[self.random.below(kinds.len())];
             self.send(lent, &image, event);
+            self.ask_endpoint(lent, &image, address);
         }
     }
 

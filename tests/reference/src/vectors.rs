@@ -105,6 +105,10 @@ impl Script {
             }
             "export" => Some(self.tell_call(Call::Export { buffer: from_hex(words.get(1)?)? })),
             "trim" => Some(self.tell_call(Call::Trim { set: self.lent.set.clone() })),
+            "endpoint" => {
+                let number = words.get(1)?.parse().ok()?;
+                Some(self.tell_call(Call::Endpoint { image: self.record.clone(), number }))
+            }
             "count" => tell_count(&numbers(&words[1..])?),
             "list" => told(hex(list(&self.lent.set, &self.lent.serial, Fault::None).as_bytes())),
             "fits" if self.landed => told(u8::from(self.fits()).to_string()),

@@ -1,8 +1,7 @@
 -- `board::endpoint::hk_endpoint` meets its contract: the answer's number and part. No axiom.
-use mathlib.Core.Path.{_≡_, ap, _∙_}
+use mathlib.Core.Path.{ap, _∙_}
 use borrow.Author.Needs.{needs}
 use Rattle.sets.specs.Opening.{lent}
-use Rattle.events.specs.declared.Answer.{Answer}
 use Rattle.events.specs.Answer.{numberOf}
 use Rattle.board.proofs.EndpointImages.{inside, of-set}
 use Rattle.board.proofs.endpoint.hk_endpoint.Statement.{statement}

@@ -2,15 +2,15 @@
 use Prim.Native.Nat.{ℕ, zero, suc, _+_, _≤_, _<_}
 use native.Mathlib.Nat.{add-zero}
 use native.Mathlib.Omega.{arith}
-use mathlib.Core.Path.{_≡_, refl, sym, ap, _∙_}
+use mathlib.Core.Path.{_≡_, refl, sym, ap}
 use mathlib.Core.List.{List, [], _∷_, map, List·Memᴰ, List·Memᴰ·head, List·Memᴰ·tail}
 use mathlib.Core.Bool.{Bool, true, false, not}
 use mathlib.Core.Option.{Option, some, none}
 use lib.ListN.{length, getElem?}
 use lib.Dec.{eqb}
 use borrow.Author.Tests.{eqb-true, eqb-false, ne-eqb, not-true}
 use Rattle.octets.specs.Sentences.{pick, every, only, pairs, from, upTo}
 use Rattle.octets.proofs.Sentences.{both, joined, every-member, member-every, every-map, only-member, pairs-split}
 
 -- ---- places
 pub none-some : {A : Type 0} {x : A} → _≡_ {A = Option A} none (some x) → ⊥
@@ -59,6 +59,14 @@ pub pairs-map : {A B : Type 0} (r : B → B → Bool) (g : A → B) (l : List A)
 unfolding pairs
 pairs-map r g [] = refl
 pairs-map r g (x ∷ l) = rw (every-map (r (g x)) g l, pairs-map r g l)
+
+-- each two, by what is known of each
+pub pairs-then : {A : Type 0} (r s : A → A → Bool) (l : List A) → ((x y : A) → List·Memᴰ x l → List·Memᴰ y l → r x y ≡ true → s x y ≡ true) → pairs r l ≡ true → pairs s l ≡ true
+unfolding pairs
+pairs-then r s [] h p = refl
+pairs-then r s (x ∷ l) h p =
+    let (q, t) = pairs-split r x l p in
+    joined (member-every (s x) l (λ y m. h x y (List·Memᴰ·head refl) (List·Memᴰ·tail m) (every-member (r x) q m))) (pairs-then r s l (λ y z m k. h y z (List·Memᴰ·tail m) (List·Memᴰ·tail k)) t)
 
 -- ---- numbers that differ
 abbrev pub differ : ℕ → ℕ → Bool
