@@ -244,11 +244,11 @@ module _ (b : Board) (bytes : Bytes (b .set)) (ok : accepted b ≡ true) (d : De
       let sound = soundSelected (b .set) (viewOf b) (sound b bytes ok) d in
       let in-it : (e : Endpoint) → List·Memᴰ e es → List·Memᴰ e (selected (viewOf b) d .endpoints) = λ e m. only-member (isCurrent (d .alternates)) (selected (viewOf b) d .endpoints) m .0 in
       let one : pairs (λ e f. differ (slot (e .address)) (slot (f .address))) es ≡ true = pairs-then (λ e f. differ (e .address) (f .address)) (λ e f. differ (slot (e .address)) (slot (f .address))) es
-          (λ e f m k q. differs (slot (e .address)) (slot (f .address)) (λ i. unequal (e .address) (f .address) q
-          (slots (e .address) (f .address) (sound .addresses e (in-it e m)) (sound .addresses f (in-it f k)) (sound .octets e (in-it e m)) (sound .octets f (in-it f k)) i))) addressesDiffer in
+      (λ e f m k q. differs (slot (e .address)) (slot (f .address)) (λ i. unequal (e .address) (f .address) q
+      (slots (e .address) (f .address) (sound .addresses e (in-it e m)) (sound .addresses f (in-it f k)) (sound .octets e (in-it e m)) (sound .octets f (in-it f k)) i))) addressesDiffer in
       let few : (x : ℕ) → List·Memᴰ x (map (λ e. slot (e .address)) es) → x < 30 = λ x m.
-          let (e, k, i) = mapped (λ e. slot (e .address)) es m in
-          rw i (slot-small (e .address) (sound .octets e (in-it e k))) in
+      let (e, k, i) = mapped (λ e. slot (e .address)) es m in
+      rw i (slot-small (e .address) (sound .octets e (in-it e k))) in
       rw (← length-map es (λ e. slot (e .address))) (no-more 30 (map (λ e. slot (e .address)) es) few (sym (pairs-map differ (λ e. slot (e .address)) es) ∙ one))
     where
       slot-small : (a : ℕ) → a < 256 → slot a < 30

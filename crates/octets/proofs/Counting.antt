@@ -114,8 +114,8 @@ no-more zero [] h p = omega arith
 no-more zero (x ∷ l) h p = let z : x < 0 = h x (List·Memᴰ·head refl) in absurd (omega arith)
 no-more (suc n) l h p =
     let less : (x : ℕ) → List·Memᴰ x (without n l) → x < n = λ x m.
-        let (k, t) = only-member (λ x. not (eqb x n)) l m in
-        below x (h x k) t in
+    let (k, t) = only-member (λ x. not (eqb x n)) l m in
+    below x (h x k) t in
     let w = no-more n (without n l) less (pairs-only differ (λ x. not (eqb x n)) l p) in
     omega (arith, one-less n l p, w)
   where
