@@ -6,7 +6,7 @@ from pieces import word
 TOP = os.path.dirname(os.path.dirname(os.path.abspath(__file__)))
 REFERENCE = os.path.join(TOP, "target", "reference", "release", "reference")
 
-SETUP, STATUS_END, BUS_RESET, HALT, PACKET_PASSED, POWER = range(6)
+SETUP, STATUS_END, BUS_RESET, HALT, PACKET_PASSED, POWER, SUSPEND, RESUME, WAKE = range(9)
 
 
 def block(data):
@@ -46,7 +46,7 @@ class Reference:
     def event(self, kind, carried, image):
         if kind == SETUP:
             return self.ask(b"s", block(image) + block(carried))
-        return self.ask(b" erhpP"[kind : kind + 1], carried + block(image))
+        return self.ask(b" erhpPzya"[kind : kind + 1], carried + block(image))
 
     def packets(self, length, asked, size):
         """The lengths of the packets."""
