@@ -222,6 +222,12 @@ static void handle(struct device *device, const struct hardware_event *event) {
     case HARDWARE_POWER_CHANGED:
         conclude(device, tell_power(device));
         break;
+    case HARDWARE_SUSPEND:
+        conclude(device, hk_suspend(LENT(device)));
+        break;
+    case HARDWARE_RESUME:
+        conclude(device, hk_resume(LENT(device)));
+        break;
     }
 }
 
@@ -243,5 +249,13 @@ void device_run(struct device *device) {
 uint8_t device_halt(struct device *device, uint8_t endpoint) {
     uint8_t number = hk_halt(LENT(device), endpoint);
     conclude(device, number);
+    return number;
+}
+
+/* The record stays as it is: the sleep ends when the host resumes the bus. */
+uint8_t device_wake(struct device *device) {
+    uint8_t number = hk_wake(LENT(device));
+    if (number == HK_DONE)
+        hardware_signal_wakeup();
     return number;
 }

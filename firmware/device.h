@@ -57,6 +57,10 @@ void device_run(struct device *device);
  * HK_DONE, or why not. */
 uint8_t device_halt(struct device *device, uint8_t endpoint);
 
+/* The application wants to wake the host, as when a key is pressed: HK_DONE, and the board signals; or
+ * HK_WAKE_NOT_ALLOWED where the device does not sleep or the host has not allowed it. */
+uint8_t device_wake(struct device *device);
+
 #ifdef __cplusplus
 }
 #endif

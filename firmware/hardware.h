@@ -19,7 +19,9 @@ enum hardware_event_kind {
     HARDWARE_STATUS_RECEIVED, /* endpoint zero: the host's empty packet has arrived */
     HARDWARE_PACKET_RECEIVED, /* endpoint zero: the host's data packet stands where it was to go, received bytes of it */
     HARDWARE_ENDPOINT_PACKET, /* a data packet was acknowledged on the bulk or interrupt endpoint `endpoint` */
-    HARDWARE_POWER_CHANGED    /* the board draws from another supply than before */
+    HARDWARE_POWER_CHANGED,   /* the board draws from another supply than before */
+    HARDWARE_SUSPEND,         /* the bus has been idle for 3 ms */
+    HARDWARE_RESUME           /* the host resumes the bus */
 };
 
 struct hardware_event {
@@ -65,6 +67,9 @@ void hardware_set_endpoints(const uint8_t *record);
 
 /* The supply that the board draws from now: HK_POWER_BUS or HK_POWER_OWN. */
 uint8_t hardware_power_source(void);
+
+/* Signals the host to resume the bus (for 1 to 15 ms, not before the bus has been idle for 5 ms). */
+void hardware_signal_wakeup(void);
 
 /* The application hears every number but HK_DONE. HK_REQUEST_UNKNOWN to HK_NO_SUCH_FEATURE are the host's doing, and it
  * was told by STALL. All others are a fault on the board: its flash, its memory, its peripheral or its application. */

@@ -204,6 +204,42 @@ static void use_wakeup(struct host *host, const struct learnt *learnt) {
     change_wakeup(host, learnt, CLEAR_FEATURE);
 }
 
+static void press_key(struct host *host, uint8_t expected) {
+    uint8_t number = device_wake(&host->device);
+    printf("a key is pressed: %s\n", number == HK_DONE ? "the device may wake the host, and signals" : number_in_words(number));
+    if (number != expected || wire_wakeup_signalled() != (expected == HK_DONE))
+        fail(host, "it wakes the host otherwise than allowed");
+    show_record(host, "");
+}
+
+static void suspend_bus(struct host *host) {
+    printf("the bus falls silent\n");
+    wire_suspend();
+    show_record(host, "");
+}
+
+static void resume_bus(struct host *host) {
+    printf("the host resumes the bus\n");
+    wire_resume();
+    show_record(host, "");
+}
+
+/* Once without wakeup, and once with it where the device supports it. */
+static void use_sleep(struct host *host, const struct learnt *learnt) {
+    heading("The device sleeps: it may wake the host only where the host allows it");
+    press_key(host, HK_WAKE_NOT_ALLOWED);
+    suspend_bus(host);
+    press_key(host, HK_WAKE_NOT_ALLOWED);
+    resume_bus(host);
+    change_wakeup(host, learnt, SET_FEATURE);
+    suspend_bus(host);
+    press_key(host, learnt->wakeup ? HK_DONE : HK_WAKE_NOT_ALLOWED);
+    resume_bus(host);
+    change_wakeup(host, learnt, CLEAR_FEATURE);
+    suspend_bus(host);
+    get_descriptor(host, TYPE_DEVICE, 0, 0, 18, HK_DONE); /* a setup is proof that the bus is awake */
+}
+
 static void change_power(struct host *host, uint8_t source) {
     printf("the device draws from %s\n", source == HK_POWER_OWN ? "its own supply" : "the bus");
     wire_change_power(source);
@@ -455,6 +491,7 @@ static int enumerate(const struct device_flash *flash) {
     read_one_packet(&host, &learnt.bodies[0]);
     read_strings(&host, &learnt);
     use_wakeup(&host, &learnt);
+    use_sleep(&host, &learnt);
     use_power(&host, &learnt);
     for (unsigned index = 0; index < learnt.configurations; index++)
         use_configuration(&host, &learnt, &learnt.bodies[index]);

@@ -18,7 +18,7 @@ static struct {
     uint8_t record[HK_IMAGE_LENGTH]; /* as the endpoints have it */
     const uint8_t *open[WIRE_MOST_ENDPOINTS];
     size_t open_count;
-    int stalled, status_expected, packet_ready, room_ready, event_waits;
+    int stalled, status_expected, packet_ready, room_ready, event_waits, wakeup_signalled;
     hk_part packet;
     uint8_t *room;
     size_t room_length;
@@ -73,6 +73,10 @@ void hardware_open_endpoint(const uint8_t *descriptor) {
 
 uint8_t hardware_power_source(void) {
     return wire.power;
+}
+
+void hardware_signal_wakeup(void) {
+    wire.wakeup_signalled = 1;
 }
 
 void application_hear(uint8_t number) {
@@ -145,6 +149,19 @@ void wire_reset_bus(void) {
 void wire_change_power(uint8_t source) {
     wire.power = source;
     happen(HARDWARE_POWER_CHANGED);
+}
+
+void wire_suspend(void) {
+    wire.wakeup_signalled = 0;
+    happen(HARDWARE_SUSPEND);
+}
+
+void wire_resume(void) {
+    happen(HARDWARE_RESUME);
+}
+
+int wire_wakeup_signalled(void) {
+    return wire.wakeup_signalled;
 }
 
 enum wire_answer wire_send_setup(uint8_t address, const uint8_t *setup) {

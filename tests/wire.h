@@ -16,6 +16,11 @@ enum wire_answer {
 void wire_attach(struct device *device, struct serial_port *port);
 void wire_reset_bus(void);
 
+/* The bus falls silent, and wakes. Whether the device has signalled since it fell silent. */
+void wire_suspend(void);
+void wire_resume(void);
+int wire_wakeup_signalled(void);
+
 /* The board draws from this supply from now on. */
 void wire_change_power(uint8_t source);
 

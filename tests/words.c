@@ -48,7 +48,8 @@ static const char *const numbers[] = {
     "does not exist",
     "feature not there for this recipient",
     "no such packet",
-    "unfit endpoint",
+    "unfit endpoint or power source",
+    [HK_WAKE_NOT_ALLOWED] = "wake not allowed",
 };
 
 /* What to look for, by the group of rules that opening found broken first. */
@@ -84,7 +85,8 @@ size_t next_descriptor(const uint8_t *body, size_t length, size_t at) {
 }
 
 const char *number_in_words(uint8_t number) {
-    return number < sizeof numbers / sizeof *numbers ? numbers[number] : "not a number of the library";
+    const char *words = number < sizeof numbers / sizeof *numbers ? numbers[number] : NULL;
+    return words != NULL ? words : "not a number of the library";
 }
 
 void print_refusal(uint8_t number) {
@@ -212,6 +214,8 @@ void print_record(const uint8_t *record) {
         printf(", remote wakeup on");
     if (record[5] != 0)
         printf(", own supply");
+    if (record[6] != 0)
+        printf(", suspended");
     for (int interface = 0; interface < 16; interface++)
         if (record[8 + interface] != 0)
             printf(", interface %d at alternate %u", interface, record[8 + interface]);

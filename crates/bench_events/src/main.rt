@@ -100,7 +100,20 @@ fn print_kind(kind: u8) {
     if kind == 4 {
         return print_text(b"packet passed ");
     }
-    print_text(b"power ")
+    if kind == 5 {
+        return print_text(b"power ");
+    }
+    print_sleep(kind)
+}
+
+fn print_sleep(kind: u8) {
+    if kind == 6 {
+        return print_text(b"suspend");
+    }
+    if kind == 7 {
+        return print_text(b"resume");
+    }
+    print_text(b"wake")
 }
 
 fn event_of(kind: u8, bytes: &[u8]) -> Event {
@@ -119,7 +132,20 @@ fn event_of(kind: u8, bytes: &[u8]) -> Event {
     if kind == 4 {
         return Event::PacketPassed(octets::peek(bytes, 0));
     }
-    Event::Power(octets::peek(bytes, 0))
+    if kind == 5 {
+        return Event::Power(octets::peek(bytes, 0));
+    }
+    sleep_event(kind)
+}
+
+fn sleep_event(kind: u8) -> Event {
+    if kind == 6 {
+        return Event::Suspend;
+    }
+    if kind == 7 {
+        return Event::Resume;
+    }
+    Event::Wake
 }
 
 // Answers an event, and gives the record that it leaves.
