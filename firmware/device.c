@@ -1,7 +1,4 @@
 #include "device.h"
-
-#include <string.h>
-
 #include "hardware.h"
 
 /* What every event is lent. */
@@ -112,7 +109,8 @@ static void serve_application(struct device *device, const uint8_t *setup, const
         refuse(device, HK_REQUEST_UNKNOWN);
         return;
     }
-    memcpy(transfer->setup, setup, sizeof transfer->setup);
+    for (size_t at = 0; at < HK_SETUP_LENGTH; at++)
+        transfer->setup[at] = setup[at];
     transfer->asked = asked;
     transfer->received = 0;
     transfer->room = data->room;

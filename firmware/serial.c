@@ -1,7 +1,5 @@
 #include "serial.h"
 
-#include <string.h>
-
 /* The request type and code, the one above the other. */
 #define REQUEST_SET_LINE_CODING 0x2120
 #define REQUEST_GET_LINE_CODING 0xA121
@@ -15,11 +13,16 @@ static int has_fields(const uint8_t *setup, unsigned value, unsigned index) {
     return setup[2] == value && setup[3] == 0 && setup[4] == index && setup[5] == 0;
 }
 
+static void store(struct serial_port *port, const uint8_t *line_coding) {
+    for (size_t at = 0; at < SERIAL_LINE_CODING_LENGTH; at++)
+        port->line_coding[at] = line_coding[at];
+}
+
 void serial_start(struct serial_port *port, uint8_t interface) {
     static const uint8_t at_start[SERIAL_LINE_CODING_LENGTH] = {0x00, 0xC2, 0x01, 0x00, 0, 0, 8};
     port->interface = interface;
     port->lines = 0;
-    memcpy(port->line_coding, at_start, sizeof port->line_coding);
+    store(port, at_start);
 }
 
 int serial_setup(struct serial_port *port, const uint8_t *setup, struct application_data *data) {
@@ -50,6 +53,6 @@ static int is_line_coding(const uint8_t *bytes) {
 int serial_take(struct serial_port *port, const uint8_t *setup, const uint8_t *bytes, size_t length) {
     if (request_of(setup) != REQUEST_SET_LINE_CODING || length != sizeof port->line_coding || !is_line_coding(bytes))
         return 0;
-    memcpy(port->line_coding, bytes, length);
+    store(port, bytes);
     return 1;
 }
