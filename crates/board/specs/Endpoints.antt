@@ -141,7 +141,7 @@ module _ {b : Board} {setSpot : Spot} {image : List ℕ} {k n : ℕ} {shown : Li
             inside = s .inside;
             lies = g .lies ∙ rw (t .answer);
             shows = sym (s .shown);
-            kind = s .bmRequestType;
+            kind = s .kind;
             long = s .long;
             good = s .good;
           })
