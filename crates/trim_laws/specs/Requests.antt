@@ -1,0 +1,32 @@
+-- "every request other than for a dropped string gets the same bytes" (document 02, L11): which requests, and what is the same.
+use Prim.Native.Nat.{ℕ, _/_, _%_}
+use mathlib.Core.Path.{_≡_}
+use mathlib.Core.Bool.{Bool, false, _&&_, not}
+use mathlib.Core.List.{List}
+use lib.Dec.{eqb}
+use Rattle.requests.specs.declared.Setup.{Setup}
+use Rattle.events.specs.declared.Answer.{Answer}
+use Rattle.events.specs.declared.Event.{Event}
+use Rattle.events.specs.declared.Event.the-variants.{Request, Malformed, StatusEnd, BusReset, Halt, PacketPassed, Power, Suspend, Resume, Wake}
+use Rattle.events.specs.Answer.{numberOf, bytesOf, partOf}
+use Rattle.events.specs.Places.{bytesIn}
+use Rattle.trimming.specs.Asked.{left}
+
+-- GET_DESCRIPTOR of a string that trimming drops
+abbrev pub asksDropped : List ℕ → Event → Bool
+asksDropped set (Request s) = eqb (s .bRequest) 0x06 && eqb (s .wValue / 256) 3 && not (left set 3 (s .wValue % 256))
+asksDropped set Malformed = false
+asksDropped set StatusEnd = false
+asksDropped set BusReset = false
+asksDropped set (Halt a) = false
+asksDropped set (PacketPassed a) = false
+asksDropped set (Power source) = false
+asksDropped set Suspend = false
+asksDropped set Resume = false
+asksDropped set Wake = false
+
+-- two answers, each from a set of its own, with one serial block: the same number, the same bytes, and the same bytes in the part
+pub record SaysSame (set other serial : List ℕ) (x y : Answer) : Type 0 where
+  pub number : numberOf x ≡ numberOf y
+  pub bytes : bytesOf x ≡ bytesOf y
+  pub shown : bytesIn set serial (partOf x) ≡ bytesIn other serial (partOf y)
