@@ -38,10 +38,11 @@ fn event(number: u8, set: &[u8], serial: &[u8], image: &mut [u8], what: Event) -
         return Answer::Refused(7);
     }
     let was = records::load(image);
-    let outcome = steps::step_opened(number, set, serial, was, what);
-    let next = outcome.device;
+    let reaction = steps::react(number, set, serial, was, what);
+    let change = reaction.next;
+    let next = records::changed(change, was);
     records::store(next, image);
-    outcome.answer
+    reaction.answer
 }
 
 // Answers a setup: its number; the bytes handed back and how many count; the part of the set or the serial block.

@@ -23,8 +23,11 @@ returns-2 c =
 load-requires : tie.Need-load-requires
 load-requires c κs = search needs
 
-step-opened-requires : tie.Need-step-opened-requires
-step-opened-requires c κs = search needs
+react-requires : tie.Need-react-requires
+react-requires c κs = search needs
+
+changed-requires : tie.Need-changed-requires
+changed-requires c κs = search needs
 
 store-requires : tie.Need-store-requires
 store-requires c κs = search needs
@@ -34,13 +37,15 @@ same-length c = search needs
 
 returns-3 : tie.Need-returns-3
 returns-3 c =
-    let start = c .before .before .before .before .before .before .before .before in
+    let start = c .before .before .before .before .before .before .before .before .before in
     let a = start .before .before .before .before .args in
     let b = lent (a .set .now) (a .serial .now) in
-    let s = c .before .before .before .before .before .step-opened .ensures ∙ ap (λ (d : Device). step b d (a .what)) (c .before .before .before .before .before .before .load .ensures) in
+    let s = c .before .before .before .before .before .before .react .ensures
+    ∙ ap (λ (d : Device). step b d (a .what)) (c .before .before .before .before .before .before .before .load .ensures) in
     let q = event-whole b (a .image .now) (a .what) (start .if1 .left) in (
       ap (λ (o : Outcome). o .answer) s ∙ ap (λ (r : Reply). r .answer) (sym q),
-      c .before .before .store .ensures ∙ ap (λ (o : Outcome). imageOf (o .device)) s ∙ ap (λ (r : Reply). r .image) (sym q),
+      c .before .before .store .ensures ∙ ap imageOf (c .before .before .before .before .changed .ensures) ∙ ap (λ (o : Outcome). imageOf (o .device)) s
+          ∙ ap (λ (r : Reply). r .image) (sym q),
     )
 
 pub event-spec : {M : Type 1} → statement M
@@ -50,7 +55,8 @@ event-spec =
     returns
     returns-2
     load-requires
-    step-opened-requires
+    react-requires
+    changed-requires
     store-requires
     same-length
     returns-3)
