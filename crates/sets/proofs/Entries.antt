@@ -6,8 +6,9 @@ use mathlib.Core.Path.{_≡_, refl, sym, ap, _∙_}
 use mathlib.Core.List.{List, [], _∷_}
 use mathlib.Core.Bool.{Bool, true, false, _&&_, _||_, and-false}
 use mathlib.Core.Option.{some, none}
-use lib.Dec.{eqb, leb}
-use borrow.Author.Tests.{eq-eqb, ne-eqb}
+use lib.Dec.{eqb, leb, ltb}
+use borrow.Author.Tests.{eqb-true, eqb-false, ltb-true, ltb-false, lt-ltb, le-ltb, eq-eqb, ne-eqb}
+use Rattle.octets.proofs.Sentences.{cases}
 use lib.ListN.{length, take, drop, getElem?, length-drop, drop-of-length-le}
 use lib.Seq.{getD-take, drop-drop, take-all, take-nil}
 use Rattle.octets.specs.Octets.{byte, part}
@@ -141,6 +142,27 @@ module _ {A : Type 0} (f : A → Bool) (x : A) (xs : List A) (k : ℕ) where
 
   pub kth-other : f x ≡ false → getElem? (only f (x ∷ xs)) k ≡ getElem? (only f xs) k
   kth-other p = rw (only-later f x xs p)
+
+-- ---- the order by one number
+module _ (k l i k′ l′ i′ : ℕ) (hl : l < 65536) (hi : i < 256) (hl′ : l′ < 65536) (hi′ : i′ < 256) where
+  under : 16777216 * k + 256 * l + i < 16777216 * k′ + 256 * l′ + i′ → ltb (16777216 * k + 256 * l + i) (16777216 * k′ + 256 * l′ + i′) ≡ true
+  under = lt-ltb (16777216 * k + 256 * l + i) (16777216 * k′ + 256 * l′ + i′)
+
+  over : 16777216 * k′ + 256 * l′ + i′ ≤ 16777216 * k + 256 * l + i → ltb (16777216 * k + 256 * l + i) (16777216 * k′ + 256 * l′ + i′) ≡ false
+  over = le-ltb (16777216 * k + 256 * l + i) (16777216 * k′ + 256 * l′ + i′)
+
+  pub by-rank : ltb (16777216 * k + 256 * l + i) (16777216 * k′ + 256 * l′ + i′) ≡ (ltb k k′ || (eqb k k′ && (ltb l l′ || (eqb l l′ && ltb i i′))))
+  by-rank = cases (ltb k k′)
+      (λ p. let q = ltb-true k k′ p in rw p (under (omega arith)))
+      (λ p. let q = ltb-false k k′ p in rw p (cases (eqb k k′)
+      (λ r. let s = eqb-true k k′ r in rw r (cases (ltb l l′)
+      (λ t. let u = ltb-true l l′ t in rw t (under (omega arith)))
+      (λ t. let u = ltb-false l l′ t in rw t (cases (eqb l l′)
+      (λ v. let w = eqb-true l l′ v in rw v (cases (ltb i i′)
+      (λ x. let y = ltb-true i i′ x in rw x (under (omega arith)))
+      (λ x. let y = ltb-false i i′ x in rw x (over (omega arith)))))
+      (λ v. let w = eqb-false l l′ v in rw v (over (omega arith)))))))
+      (λ r. let s = eqb-false k k′ r in rw r (over (omega arith)))))
 
 -- ---- group 2, entry by entry
 unfoldable pub contentsFrom : Limits → ℕ → Bool → Entry → ℕ → List Entry → Bool

@@ -1,14 +1,14 @@
 -- `sets::contents::count_of` meets its contract: those counted and those left are all. No axiom.
-use Prim.Native.Nat.{_+_, _-_, _≤_}
+use Prim.Native.Nat.{_+_, _-_, _*_, _≤_}
 use native.Mathlib.Nat.{zero-add}
 use native.Mathlib.Omega.{arith}
 use mathlib.Core.List.{[], _∷_}
-use mathlib.Core.Path.{_≡_, ap, _∙_}
-use lib.ListN.{length}
+use mathlib.Core.Path.{_≡_, refl, sym, ap, _∙_}
+use lib.ListN.{length, drop}
 use borrow.Author.Needs.{needs}
 use borrow.Author.Tests.{eq-eqb, ne-eqb}
 use Rattle.octets.specs.Sentences.{only}
-use Rattle.sets.specs.Contents.{isKind, entriesOf}
+use Rattle.sets.specs.Contents.{entryOf, isKind, entriesOf}
 use Rattle.sets.proofs.Entries.{rest, rest-start, next-entry, no-entry, only-here, only-later, only-empty}
 use Rattle.sets.proofs.contents.count_of.Statement.{statement}
 use Rattle.sets.proofs.contents.count_of.Tie as tie
@@ -20,12 +20,9 @@ abbrev μ-loop : tie.MeasureT-loop
 μ-loop set kind count n₀ i₀ n i = count - i
 
 -- the entries from here on, where one is left and where none is
-turn : (c : tie.After-entry-at Inv-loop μ-loop)
-    → rest (c .before .before .before .before .before .args .set .now) (c .before .before .loop .i)
-    ≡ c .entry-at .result ∷ rest (c .before .before .before .before .before .args .set .now) (c .before .before .loop .i + 1)
-turn c =
-    next-entry (c .before .before .before .before .before .args .set .now) (c .before .before .before .peek .result) (c .before .before .before .peek .ensures)
-    (c .before .before .loop .i) (c .before .loop-test .taken) (c .entry-at .result) (c .entry-at .ensures)
+turn : (c : tie.After-kind-at Inv-loop μ-loop)
+    → rest (c .before .before .before .before .before .args .set .now) (c .before .before .loop .i) ≡ entryOf (drop (4 + 8 * c .before .before .loop .i) (c .before .before .before .before .before .args .set .now)) ∷ rest (c .before .before .before .before .before .args .set .now) (c .before .before .loop .i + 1)
+turn c = next-entry (c .before .before .before .before .before .args .set .now) (c .before .before .before .peek .result) (c .before .before .before .peek .ensures) (c .before .before .loop .i) (c .before .loop-test .taken) _ refl
 
 end : (c : tie.After-loop Inv-loop μ-loop) → rest (c .before .before .before .before .args .set .now) (c .before .loop .i) ≡ []
 end c =
@@ -38,8 +35,8 @@ loop-holds : tie.Need-loop-holds Inv-loop μ-loop
 loop-holds c =
     let a = c .before .before .args in (search needs, rw zero-add (ap (λ es. length (only (isKind (a .kind)) es)) (rest-start (a .set .now))))
 
-entry-at-requires : tie.Need-entry-at-requires Inv-loop μ-loop
-entry-at-requires c κs = search needs
+kind-at-requires : tie.Need-kind-at-requires Inv-loop μ-loop
+kind-at-requires c κs = search needs
 
 add-i : tie.Need-add-i Inv-loop μ-loop
 add-i c = search needs
@@ -52,22 +49,22 @@ loop-less c = search needs
 
 loop-again : tie.Need-loop-again Inv-loop μ-loop
 loop-again c =
-    let s = c .before .before in
+    let s = c .before in
     let a = s .before .before .before .before .before .args in
     let f = isKind (a .kind) in
-    (search needs, let e = ap length (ap (only f) (turn s) ∙ only-here f _ _ (eq-eqb _ _ (c .if1 .taken))) in omega arith)
+    (search needs, let e = ap length (ap (only f) (turn s) ∙ only-here f _ _ (eq-eqb _ _ (sym (s .kind-at .ensures) ∙ c .if1 .taken))) in omega arith)
 
 loop-less-2 : tie.Need-loop-less-2 Inv-loop μ-loop
 loop-less-2 c = search needs
 
 loop-again-2 : tie.Need-loop-again-2 Inv-loop μ-loop
 loop-again-2 c =
-    let s = c .before .before in
+    let s = c .before in
     let a = s .before .before .before .before .before .args in
     let f = isKind (a .kind) in (
       search needs,
       s .before .before .loop .inv .1
-          ∙ ap (λ es. s .before .before .loop .n + length es) (ap (only f) (turn s) ∙ only-later f _ _ (ne-eqb _ _ (c .if1 .left))),
+          ∙ ap (λ es. s .before .before .loop .n + length es) (ap (only f) (turn s) ∙ only-later f _ _ (ne-eqb _ _ (λ p. c .if1 .left (s .kind-at .ensures ∙ p)))),
     )
 
 returns : tie.Need-returns Inv-loop μ-loop
@@ -85,7 +82,7 @@ count-of-spec =
     μ-loop
     peek-requires
     loop-holds
-    entry-at-requires
+    kind-at-requires
     add-i
     add-n
     loop-less

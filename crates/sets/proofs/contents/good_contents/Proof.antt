@@ -19,12 +19,12 @@ abbrev μ-loop : tie.MeasureT-loop
 μ-loop set limits count start₀ last₀ i₀ start last i = count - i
 
 -- the entries from here on, where one is left and where none is
-turn : (c : tie.After-entry-at Inv-loop μ-loop)
+turn : (c : tie.After-entry-whole Inv-loop μ-loop)
     → rest (c .before .before .before .before .before .args .set .now) (c .before .before .loop .i)
-    ≡ c .entry-at .result ∷ rest (c .before .before .before .before .before .args .set .now) (c .before .before .loop .i + 1)
+    ≡ c .entry-whole .result ∷ rest (c .before .before .before .before .before .args .set .now) (c .before .before .loop .i + 1)
 turn c =
     next-entry (c .before .before .before .before .before .args .set .now) (c .before .before .before .peek .result) (c .before .before .before .peek .ensures)
-    (c .before .before .loop .i) (c .before .loop-test .taken) (c .entry-at .result) (c .entry-at .ensures)
+    (c .before .before .loop .i) (c .before .loop-test .taken) (c .entry-whole .result) (c .entry-whole .ensures)
 
 end : (c : tie.After-loop Inv-loop μ-loop) → rest (c .before .before .before .before .args .set .now) (c .before .loop .i) ≡ []
 end c =
@@ -52,8 +52,8 @@ loop-holds c =
           ∙ ap (contentsFrom (a .limits) (total (a .set .now)) true _ _) (rest-start (a .set .now))),
     )
 
-entry-at-requires : tie.Need-entry-at-requires Inv-loop μ-loop
-entry-at-requires c κs = search needs
+entry-whole-requires : tie.Need-entry-whole-requires Inv-loop μ-loop
+entry-whole-requires c κs = search needs
 
 good-entry-requires : tie.Need-good-entry-requires Inv-loop μ-loop
 good-entry-requires c κs = search needs
@@ -89,7 +89,7 @@ loop-again c =
       omega arith,
       l .inv .1
           ∙ ap (contentsFrom (a .limits) (total (a .set .now)) (eqb (l .i) 0) (l .last) (l .start)) (turn s)
-          ∙ contents-turn (a .limits) (total (a .set .now)) (l .i) (l .last) (l .start) (s .entry-at .result) _
+          ∙ contents-turn (a .limits) (total (a .set .now)) (l .i) (l .last) (l .start) (s .entry-whole .result) _
           (rw (c .before .before .good-entry .ensures) at (not-false (c .before .before .good-entry .result) (c .before .if1 .left))),
     )
 
@@ -116,7 +116,7 @@ good-contents-spec =
     mul-start
     add-start
     loop-holds
-    entry-at-requires
+    entry-whole-requires
     good-entry-requires
     returns
     cast-start-2
