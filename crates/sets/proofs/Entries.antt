@@ -128,20 +128,34 @@ module _ (kind : ℕ) (set : List ℕ) (n : ℕ) (p : n ≡ count set) (i : ℕ)
   pub kind-end : n ≤ i → restOf kind set i ≡ []
   kind-end h = ap (only (isKind kind)) (no-entry set n p i h) ∙ only-empty (isKind kind)
 
--- the k-th of those for which f holds: found, passed, or not one of them
-module _ {A : Type 0} (f : A → Bool) (x : A) (xs : List A) (k : ℕ) where
-  pub kth-here : f x ≡ true → k ≡ 0 → getElem? (only f (x ∷ xs)) k ≡ some x
-  kth-here p q = rw (only-here f x xs p, q)
+-- ---- the law of a loop over the entries: before the i-th, what is asked of all of them is asked of those from there on. n is what the code read
+-- for the count, e for the i-th entry
+module _ {A : Type 0} (asks : List Entry → A) {whole : A} (set : List ℕ) (n : ℕ) (p : n ≡ count set) (i : ℕ) (inv : whole ≡ asks (rest set i)) where
+  pub asked-next : i < n → (e : Entry) → e ≡ entryOf (drop (4 + 8 * i) set) → whole ≡ asks (e ∷ rest set (i + 1))
+  asked-next h e q = inv ∙ ap asks (next-entry set n p i h e q)
 
-  pub kth-passed : f x ≡ true → (k ≡ 0 → ⊥) → getElem? (only f (x ∷ xs)) k ≡ getElem? (only f xs) (k - 1)
-  kth-passed p q = rw (only-here f x xs p) (go k q)
-    where
-      go : (k : ℕ) → (k ≡ 0 → ⊥) → getElem? (x ∷ only f xs) k ≡ getElem? (only f xs) (k - 1)
-      go zero q = absurd (q refl)
-      go (suc k) q = let e : suc k - 1 ≡ k = omega arith in rw e
+  pub asked-end : n ≤ i → whole ≡ asks []
+  asked-end h = inv ∙ ap asks (no-entry set n p i h)
 
-  pub kth-other : f x ≡ false → getElem? (only f (x ∷ xs)) k ≡ getElem? (only f xs) k
-  kth-other p = rw (only-later f x xs p)
+-- the same of the entries of one type: this one is of it, or not, or none is left
+module _ {A : Type 0} (kind : ℕ) (asks : List Entry → A) {whole : A} (set : List ℕ) (n : ℕ) (p : n ≡ count set) (i : ℕ) (inv : whole ≡ asks (restOf kind set i)) where
+  pub asked-here : i < n → (e : Entry) → e ≡ entryOf (drop (4 + 8 * i) set) → e .kind ≡ kind → whole ≡ asks (e ∷ restOf kind set (i + 1))
+  asked-here h e q k = inv ∙ ap asks (kind-next kind set n p i h e q k)
+
+  pub asked-other : i < n → (e : Entry) → e ≡ entryOf (drop (4 + 8 * i) set) → (e .kind ≡ kind → ⊥) → whole ≡ asks (restOf kind set (i + 1))
+  asked-other h e q k = inv ∙ ap asks (kind-other kind set n p i h e q k)
+
+  pub asked-none : n ≤ i → whole ≡ asks []
+  asked-none h = inv ∙ ap asks (kind-end kind set n p i h)
+
+-- the k-th of a list: its head, or one behind it
+module _ {A : Type 0} (x : A) (xs : List A) where
+  pub kth-here : (k : ℕ) → k ≡ 0 → getElem? (x ∷ xs) k ≡ some x
+  kth-here k q = rw q
+
+  pub kth-passed : (k : ℕ) → (k ≡ 0 → ⊥) → getElem? (x ∷ xs) k ≡ getElem? xs (k - 1)
+  kth-passed zero q = absurd (q refl)
+  kth-passed (suc k) q = let e : suc k - 1 ≡ k = omega arith in rw e
 
 -- ---- the order by one number
 module _ (k l i k′ l′ i′ : ℕ) (hl : l < 65536) (hi : i < 256) (hl′ : l′ < 65536) (hi′ : i′ < 256) where
