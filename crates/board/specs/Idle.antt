@@ -33,12 +33,12 @@ Build = List Call → List ℕ → Call → Given × List ℕ
 
 -- on every image of 32 bytes (hk_record_event can be lent no other)
 abbrev pub MeetsAll : Board → Spot → Spot → Build → Type 0
-MeetsAll b set serial build =
-    (before : List Call) (image : List ℕ) → length image ≡ 32 → (c : Call) → Meets b set serial image c (build before image c .0) (build before image c .1)
+MeetsAll b setSpot serialSpot build =
+    (before : List Call) (image : List ℕ) → length image ≡ 32 → (c : Call) → Meets b setSpot serialSpot image c (build before image c .0) (build before image c .1)
 
 -- one does
-pub byRules : (b : Board) (set serial : Spot) → MeetsAll b set serial (λ before image c. (gives b set serial image c, leaves b set serial image c))
-byRules b set serial before image long c = meets b set serial image c
+pub byRules : (b : Board) (setSpot serialSpot : Spot) → MeetsAll b setSpot serialSpot (λ before image c. (gives b setSpot serialSpot image c, leaves b setSpot serialSpot image c))
+byRules b setSpot serialSpot before image long c = meets b setSpot serialSpot image c
 
 -- ---- calls that tell a setup: hk_setup, and hk_record_event with event 0. Each law below is of either alone
 abbrev pub TellsSetups : (List ℕ → Call) → Type 0
@@ -58,14 +58,14 @@ abbrev pub unknown : List ℕ
 unknown = bytes 8 0xFFFF000000000000
 
 -- ---- on the bench set S, whatever has been called before
-module _ (set serial : Spot) (build : Build) (ok : MeetsAll S set serial build) (before : List Call) where
+module _ (setSpot serialSpot : Spot) (build : Build) (ok : MeetsAll S setSpot serialSpot build) (before : List Call) where
   module _ (call : List ℕ → Call) (tells : TellsSetups call) where
     abbrev numbered : List ℕ → ℕ
     numbered bytes = numberGiven (build before freshImage (call bytes) .0)
 
     said : (bytes : List ℕ) → numbered bytes ≡ numberOf (event S freshImage (setupEvent bytes) .answer)
-    said bytes = ap numberGiven (met S set serial (ok before freshImage refl (call bytes)) .0)
-        ∙ number-of S set serial freshImage (call bytes) ∙ ap (λ e. numberOf (event S freshImage e .answer)) (tells bytes)
+    said bytes = ap numberGiven (met S setSpot serialSpot (ok before freshImage refl (call bytes)) .0)
+        ∙ number-of S setSpot serialSpot freshImage (call bytes) ∙ ap (λ e. numberOf (event S freshImage e .answer)) (tells bytes)
 
     -- not every setup is refused: SET_ADDRESS 5 is done
     pub notRefusing : ((bytes : List ℕ) → numbered bytes ≡ 0 → ⊥) → ⊥
@@ -84,7 +84,7 @@ module _ (set serial : Spot) (build : Build) (ok : MeetsAll S set serial build) 
     pub notStill : ((bytes : List ℕ) → build before freshImage (call bytes) .1 ≡ freshImage) → ⊥
     unfolding computed
     notStill still =
-        let left = met S set serial (ok before freshImage refl (call setAddressFive)) .1 ∙ ap (λ e. event S freshImage e .image) (tells setAddressFive) in
+        let left = met S setSpot serialSpot (ok before freshImage refl (call setAddressFive)) .1 ∙ ap (λ e. event S freshImage e .image) (tells setAddressFive) in
         let p : _≡_ {A = ℕ} 5 255 = ap (λ l. byte l 2) (sym left ∙ still setAddressFive) in
         omega arith
 
@@ -92,10 +92,10 @@ module _ (set serial : Spot) (build : Build) (ok : MeetsAll S set serial build) 
 pub notRefusingToOpen : {n : ℕ} {left : List ℕ} → Opens S freshImage n left → n ≡ 0
 notRefusingToOpen o = opening refl o .1 acceptedS
 
-pub notStillWhereItStands : (set serial : Spot) {n : ℕ} {left : Device} {handed : List ℕ} {count : ℕ} {shown : List ℕ} {spot : Spot}
-    → AnswersRecordEvent S set serial fresh (Exports.numbered 0 0 setAddressFive) n left handed count shown spot → left ≡ fresh → ⊥
+pub notStillWhereItStands : (setSpot serialSpot : Spot) {n : ℕ} {left : Device} {handed : List ℕ} {count : ℕ} {shown : List ℕ} {spot : Spot}
+    → AnswersRecordEvent S setSpot serialSpot fresh (Exports.numbered 0 0 setAddressFive) n left handed count shown spot → left ≡ fresh → ⊥
 unfolding computed
-notStillWhereItStands set serial a still = let p : _≡_ {A = ℕ} 5 255 = ap (λ (d : Device). d .waiting) (sym (a .leaves) ∙ still) in omega arith
+notStillWhereItStands setSpot serialSpot a still = let p : _≡_ {A = ℕ} 5 255 = ap (λ (d : Device). d .waiting) (sym (a .leaves) ∙ still) in omega arith
 
 -- ---- the first event by the rules, and then only the echo of success
 unknown-refused : (b : Board) (image : List ℕ) → numberOf (event b image (setupEvent unknown) .answer) ≡ 0 → ⊥
@@ -106,24 +106,24 @@ unknown-refused b image = cases (eqb (length image) 32)
     (λ q. rw (p, q) (λ z. omega arith)))
     (λ p. cases (accepted b) (λ q. rw (p, q) (λ z. omega arith)) (λ q. rw (p, q) (λ z. omega arith)))
 
-module _ (b : Board) (set serial : Spot) (call : List ℕ → Call) (tells : TellsSetups call) where
+module _ (b : Board) (setSpot serialSpot : Spot) (call : List ℕ → Call) (tells : TellsSetups call) where
   -- on every board and every image, whatever came before, FF FF is no success
-  pub noEcho : {image : List ℕ} {g : Given} {left : List ℕ} → Meets b set serial image (call unknown) g left → numberGiven g ≡ 0 → ⊥
+  pub noEcho : {image : List ℕ} {g : Given} {left : List ℕ} → Meets b setSpot serialSpot image (call unknown) g left → numberGiven g ≡ 0 → ⊥
   noEcho {image} m z = unknown-refused b image
-      (sym (ap numberGiven (met b set serial m .0) ∙ number-of b set serial image (call unknown) ∙ ap (λ e. numberOf (event b image e .answer)) (tells unknown)) ∙ z)
+      (sym (ap numberGiven (met b setSpot serialSpot m .0) ∙ number-of b setSpot serialSpot image (call unknown) ∙ ap (λ e. numberOf (event b image e .answer)) (tells unknown)) ∙ z)
 
   -- so no build that answers every setup after its first call with 0 meets the statements of any board
-  pub notEchoing : (build : Build) → MeetsAll b set serial build
+  pub notEchoing : (build : Build) → MeetsAll b setSpot serialSpot build
       → ((first : Call) (bytes : List ℕ) → numberGiven (build (first ∷ []) freshImage (call bytes) .0) ≡ 0) → ⊥
   notEchoing build ok echoes = noEcho (ok (tell busReset ∷ []) freshImage refl (call unknown)) (echoes (tell busReset) unknown)
 
 -- and on S the two calls of row 4 of table P suffice: after SET_ADDRESS 5 the status end leaves another image than it was lent
-pub secondCounts : (set serial : Spot) {g h : Given} {left last : List ℕ}
-    → Meets S set serial freshImage (setup setAddressFive) g left → Meets S set serial left (tell statusEnd) h last → last ≡ left → ⊥
+pub secondCounts : (setSpot serialSpot : Spot) {g h : Given} {left last : List ℕ}
+    → Meets S setSpot serialSpot freshImage (setup setAddressFive) g left → Meets S setSpot serialSpot left (tell statusEnd) h last → last ≡ left → ⊥
 unfolding computed
-secondCounts set serial {left = left} one two still =
-    let first = met S set serial one .1 in
-    let p : _≡_ {A = ℕ} 5 (byte left 1) = sym (ap (λ l. byte (leaves S set serial l (tell statusEnd)) 1) first) ∙ ap (λ l. byte l 1) (sym (met S set serial two .1) ∙ still) in
+secondCounts setSpot serialSpot {left = left} one two still =
+    let first = met S setSpot serialSpot one .1 in
+    let p : _≡_ {A = ℕ} 5 (byte left 1) = sym (ap (λ l. byte (leaves S setSpot serialSpot l (tell statusEnd)) 1) first) ∙ ap (λ l. byte l 1) (sym (met S setSpot serialSpot two .1) ∙ still) in
     let q : byte left 1 ≡ 0 = ap (λ l. byte l 1) first in
     omega arith
 

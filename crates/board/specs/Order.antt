@@ -55,27 +55,27 @@ by-halves : {A B : Type 0} (l m : List (A × B)) → map (λ p. p .0) l ≡ map 
 by-halves l m p q = sym (halves l) ∙ rw (p, q) (halves m)
 
 -- ---- a run's calls with document 01's number, bytes and part
-module _ (b : Board) (set serial : Spot) where
+module _ (b : Board) (setSpot serialSpot : Spot) where
   abbrev valued : List ℕ → List Call → List (Call × Values)
-  valued image cs = log (λ i c. imageAnswer b i (eventOf c)) (leaves b set serial) image cs
+  valued image cs = log (λ i c. imageAnswer b i (eventOf c)) (leaves b setSpot serialSpot) image cs
 
   valued-calls : (image : List ℕ) (cs : List Call) → map (λ p. p .0) (valued image cs) ≡ cs
   valued-calls image [] = refl
-  valued-calls image (c ∷ cs) = ap (λ r. c ∷ r) (valued-calls (leaves b set serial image c) cs)
+  valued-calls image (c ∷ cs) = ap (λ r. c ∷ r) (valued-calls (leaves b setSpot serialSpot image c) cs)
 
   valued-events : (image : List ℕ) (cs : List Call)
       → log (imageAnswer b) (imageNext b) image (map eventOf cs) ≡ map (λ p. (eventOf (p .0), p .1)) (valued image cs)
   valued-events image [] = refl
-  valued-events image (c ∷ cs) = ap (λ r. (eventOf c, imageAnswer b image (eventOf c)) ∷ r) (valued-events (leaves b set serial image c) cs)
+  valued-events image (c ∷ cs) = ap (λ r. (eventOf c, imageAnswer b image (eventOf c)) ∷ r) (valued-events (leaves b setSpot serialSpot image c) cs)
 
   valued-given : (image : List ℕ) (cs : List Call)
-      → told cs (answers (gives b set serial) (leaves b set serial) image cs) ≡ map (λ p. (p .0, givenAs b set serial (p .0) (p .1))) (valued image cs)
+      → told cs (answers (gives b setSpot serialSpot) (leaves b setSpot serialSpot) image cs) ≡ map (λ p. (p .0, givenAs b setSpot serialSpot (p .0) (p .1))) (valued image cs)
   valued-given image [] = refl
-  valued-given image (c ∷ cs) = ap (λ r. (c, gives b set serial image c) ∷ r) (valued-given (leaves b set serial image c) cs)
+  valued-given image (c ∷ cs) = ap (λ r. (c, gives b setSpot serialSpot image c) ∷ r) (valued-given (leaves b setSpot serialSpot image c) cs)
 
-  run-events : (image : List ℕ) (cs : List Call) → run (leaves b set serial) image cs ≡ imageAfter b image (map eventOf cs)
+  run-events : (image : List ℕ) (cs : List Call) → run (leaves b setSpot serialSpot) image cs ≡ imageAfter b image (map eventOf cs)
   run-events image [] = refl
-  run-events image (c ∷ cs) = run-events (leaves b set serial image c) cs
+  run-events image (c ∷ cs) = run-events (leaves b setSpot serialSpot image c) cs
 
   -- ---- interface k's
   module _ (image : List ℕ) (k : ℕ) (cs : List Call) where
@@ -90,12 +90,12 @@ module _ (b : Board) (set serial : Spot) where
         let f : Event × Values → Bool = λ p. isThis k (concernsOn b (deviceOf image) (p .0)) in
         ap (only f) (valued-events image cs) ∙ only-map f (λ (p : Call × Values). (eventOf (p .0), p .1)) (valued image cs)
 
-    own-given : {gs : List Given} {last : List ℕ} → Runs b set serial image cs gs last
-        → toldTo b image k cs gs ≡ map (λ p. (p .0, givenAs b set serial (p .0) (p .1))) own
+    own-given : {gs : List Given} {last : List ℕ} → Runs b setSpot serialSpot image cs gs last
+        → toldTo b image k cs gs ≡ map (λ p. (p .0, givenAs b setSpot serialSpot (p .0) (p .1))) own
     own-given r =
         let f : Call × Given → Bool = λ p. concernsThis b image k (p .0) in
-        ap (λ gs. only f (told cs gs)) (ran b set serial r .0) ∙ ap (only f) (valued-given image cs)
-        ∙ only-map f (λ (p : Call × Values). (p .0, givenAs b set serial (p .0) (p .1))) (valued image cs)
+        ap (λ gs. only f (told cs gs)) (ran b setSpot serialSpot r .0) ∙ ap (only f) (valued-given image cs)
+        ∙ only-map f (λ (p : Call × Values). (p .0, givenAs b setSpot serialSpot (p .0) (p .1))) (valued image cs)
 
   -- ---- demand 3
   rearranged : (image : List ℕ) (xs ys : List Call) → Reordered b image xs ys → Rearranged b (deviceOf image) (map eventOf xs) (map eventOf ys)
@@ -109,12 +109,12 @@ module _ (b : Board) (set serial : Spot) where
   -- same. (Place by place: `orderPlaces` of Places.)
   pub orderFit : Bytes (b .set) → accepted b ≡ true → (image : List ℕ) → FitImage b image
       → {xs ys : List Call} {gs others : List Given} {last other : List ℕ}
-      → Runs b set serial image xs gs last → Runs b set serial image ys others other → Reordered b image xs ys
+      → Runs b setSpot serialSpot image xs gs last → Runs b setSpot serialSpot image ys others other → Reordered b image xs ys
       → (last ≡ other) × ((k : ℕ) → toldTo b image k xs gs ≡ toldTo b image k ys others)
   orderFit bytes ok image f {xs} {ys} one two r =
       let (end, heard) = orderImages b bytes ok image f (map eventOf xs) (map eventOf ys) (rearranged image xs ys r) in (
-        ran b set serial one .1 ∙ run-events image xs ∙ end ∙ sym (ran b set serial two .1 ∙ run-events image ys),
-        λ k. own-given image k xs one ∙ ap (map (λ p. (p .0, givenAs b set serial (p .0) (p .1)))) (same-own k (heard k)) ∙ sym (own-given image k ys two),
+        ran b setSpot serialSpot one .1 ∙ run-events image xs ∙ end ∙ sym (ran b setSpot serialSpot two .1 ∙ run-events image ys),
+        λ k. own-given image k xs one ∙ ap (map (λ p. (p .0, givenAs b setSpot serialSpot (p .0) (p .1)))) (same-own k (heard k)) ∙ sym (own-given image k ys two),
       )
     where
       seconds : (k : ℕ) (cs : List Call) → map (λ p. p .1) (imageHeard b image k (map eventOf cs)) ≡ map (λ p. p .1) (own image k cs)
@@ -128,15 +128,15 @@ module _ (b : Board) (set serial : Spot) where
 
   pub order : Bytes (b .set) → accepted b ≡ true → (image : List ℕ) → length image ≡ 32 → Bytes image → fitsOn b (deviceOf image) ≡ true
       → {xs ys : List Call} {gs others : List Given} {last other : List ℕ}
-      → Runs b set serial image xs gs last → Runs b set serial image ys others other → Reordered b image xs ys
+      → Runs b setSpot serialSpot image xs gs last → Runs b setSpot serialSpot image ys others other → Reordered b image xs ys
       → (last ≡ other) × ((k : ℕ) → toldTo b image k xs gs ≡ toldTo b image k ys others)
   order bytes ok image long octets fit = orderFit bytes ok image (fitImage b image long octets fit)
 
   -- so after an opening that gave 0 and any calls: two orders of what follows end the same. (C's set is of bytes.)
   pub orderAfterOpening : Bytes (b .set) → {start image now : List ℕ} {cs : List Call} {gs : List Given}
-      → length start ≡ 32 → Opens b start 0 image → Runs b set serial image cs gs now
+      → length start ≡ 32 → Opens b start 0 image → Runs b setSpot serialSpot image cs gs now
       → {xs ys : List Call} {some others : List Given} {last other : List ℕ}
-      → Runs b set serial now xs some last → Runs b set serial now ys others other → Reordered b now xs ys
+      → Runs b setSpot serialSpot now xs some last → Runs b setSpot serialSpot now ys others other → Reordered b now xs ys
       → (last ≡ other) × ((k : ℕ) → toldTo b now k xs some ≡ toldTo b now k ys others)
   orderAfterOpening bytes {now = now} l o r one two =
       let ok = opening l o .0 refl in

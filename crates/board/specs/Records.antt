@@ -26,36 +26,36 @@ use Rattle.board.specs.Runs.{Call, recordEvent, Given, numberGiven, hand
 use Rattle.board.specs.Order.{Reordered, toldTo, orderFit}
 
 -- ---- the law: the statement of a record is the statement of its image
-pub onImage : {b : Board} {set serial : Spot} {d left : Device} {e : Event} {n : ℕ} {bytes : List ℕ} {count : ℕ} {shown : List ℕ} {spot : Spot}
-    → Sized d → AnswersRecordEvent b set serial d e n left bytes count shown spot → AnswersImage b set serial (imageOf d) e n (imageOf left) bytes count shown spot
+pub onImage : {b : Board} {setSpot serialSpot : Spot} {d left : Device} {e : Event} {n : ℕ} {bytes : List ℕ} {count : ℕ} {shown : List ℕ} {spot : Spot}
+    → Sized d → AnswersRecordEvent b setSpot serialSpot d e n left bytes count shown spot → AnswersImage b setSpot serialSpot (imageOf d) e n (imageOf left) bytes count shown spot
 onImage {b} {d = d} {e = e} z a =
     let same = Images.onImage b d e z in
     record { leaves = ap imageOf (a .leaves) ∙ sym (ap (λ (r : Reply). r .image) same); answers = rw same (a .answers) }
 
 -- on every record there is such an answer
-pub answersByRules : (b : Board) (set serial : Spot) (d : Device) (e : Event) → (let a = step b d e .answer in
-    AnswersRecordEvent b set serial d e (numberOf a) (step b d e .device) (padded (bytesOf a)) (length (bytesOf a)) (bytesIn (b .set) (b .serial) (partOf a)) (spotOfPart set serial (partOf a)))
-answersByRules b set serial d e = record { leaves = refl; answers = record { number = refl; hands = refl; counts = refl; shows = refl; lies = refl } }
+pub answersByRules : (b : Board) (setSpot serialSpot : Spot) (d : Device) (e : Event) → (let a = step b d e .answer in
+    AnswersRecordEvent b setSpot serialSpot d e (numberOf a) (step b d e .device) (padded (bytesOf a)) (length (bytesOf a)) (bytesIn (b .set) (b .serial) (partOf a)) (spotOfPart setSpot serialSpot (partOf a)))
+answersByRules b setSpot serialSpot d e = record { leaves = refl; answers = record { number = refl; hands = refl; counts = refl; shows = refl; lies = refl } }
 
 -- ---- a run: each call meets its statement, and the record that it leaves is lent to the next
-pub data RecordRuns (b : Board) (set serial : Spot) : Device → List Call → List Given → Device → Type 0 where
-  ended : {d : Device} → RecordRuns b set serial d [] [] d
+pub data RecordRuns (b : Board) (setSpot serialSpot : Spot) : Device → List Call → List Given → Device → Type 0 where
+  ended : {d : Device} → RecordRuns b setSpot serialSpot d [] [] d
   called : {d left last : Device} {kind value : ℕ} {bytes : List ℕ} {n : ℕ} {handedBack : List ℕ} {count : ℕ} {shown : List ℕ} {spot : Spot} {cs : List Call} {gs : List Given}
-      → AnswersRecordEvent b set serial d (numbered kind value bytes) n left handedBack count shown spot → RecordRuns b set serial left cs gs last
-      → RecordRuns b set serial d (recordEvent kind value bytes ∷ cs) (handed n handedBack count shown spot ∷ gs) last
+      → AnswersRecordEvent b setSpot serialSpot d (numbered kind value bytes) n left handedBack count shown spot → RecordRuns b setSpot serialSpot left cs gs last
+      → RecordRuns b setSpot serialSpot d (recordEvent kind value bytes ∷ cs) (handed n handedBack count shown spot ∷ gs) last
 
 -- ---- demand 1
 -- its number is one of document 01's for that board, record and event, in its order; a refusal leaves the record as it was, but that 10 to 14
 -- drop an address still waiting, and hands nothing back; and a part lies inside the set or the serial block
-pub record RecordRefuses (b : Board) (set serial : Spot) (d : Device) (e : Event) (g : Given) (left : Device) : Type 0 where
+pub record RecordRefuses (b : Board) (setSpot serialSpot : Spot) (d : Device) (e : Event) (g : Given) (left : Device) : Type 0 where
   pub allowed : allows b d e (numberGiven g) ≡ true
   pub keeps : (numberGiven g ≡ 0 → ⊥) → left ≡ leftBy (numberGiven g) d
   pub empty : (numberGiven g ≡ 0 → ⊥) → NothingHanded g
-  pub inside : LiesInside b set serial g
+  pub inside : LiesInside b setSpot serialSpot g
 
-pub refusal : {b : Board} {set serial : Spot} {d left : Device} {e : Event} {n : ℕ} {bytes : List ℕ} {count : ℕ} {shown : List ℕ} {spot : Spot}
-    → AnswersRecordEvent b set serial d e n left bytes count shown spot → RecordRefuses b set serial d e (handed n bytes count shown spot) left
-refusal {b} {set} {serial} {d} {e = e} a =
+pub refusal : {b : Board} {setSpot serialSpot : Spot} {d left : Device} {e : Event} {n : ℕ} {bytes : List ℕ} {count : ℕ} {shown : List ℕ} {spot : Spot}
+    → AnswersRecordEvent b setSpot serialSpot d e n left bytes count shown spot → RecordRefuses b setSpot serialSpot d e (handed n bytes count shown spot) left
+refusal {b} {setSpot} {serialSpot} {d} {e = e} a =
     let h = a .answers in
     let nothing = refusalEmpty (step b d e .answer) in
     record {
@@ -66,9 +66,9 @@ refusal {b} {set} {serial} {d} {e = e} a =
     }
 
 -- ---- a run over a record is a run over its image
-module _ (b : Board) (set serial : Spot) (bytes : Bytes (b .set)) where
-  pub asImages : {d last : Device} {cs : List Call} {gs : List Given} → Sized d → RecordRuns b set serial d cs gs last
-      → Runs b set serial (imageOf d) cs gs (imageOf last) × Sized last
+module _ (b : Board) (setSpot serialSpot : Spot) (bytes : Bytes (b .set)) where
+  pub asImages : {d last : Device} {cs : List Call} {gs : List Given} → Sized d → RecordRuns b setSpot serialSpot d cs gs last
+      → Runs b setSpot serialSpot (imageOf d) cs gs (imageOf last) × Sized last
   asImages z ended = (ends, z)
   asImages {d} z (called {kind = kind} {value} {bytes = setup} a r) =
       let (rest, y) = asImages (rw (a .leaves) (stepSized b bytes d (numbered kind value setup) z)) r in
@@ -76,24 +76,24 @@ module _ (b : Board) (set serial : Spot) (bytes : Bytes (b .set)) where
 
   -- so the statements decide it
   pub decidedRecord : {d last other : Device} {cs : List Call} {gs others : List Given} → Sized d
-      → RecordRuns b set serial d cs gs last → RecordRuns b set serial d cs others other → (gs ≡ others) × (last ≡ other)
+      → RecordRuns b setSpot serialSpot d cs gs last → RecordRuns b setSpot serialSpot d cs others other → (gs ≡ others) × (last ≡ other)
   decidedRecord {last = last} {other} z one two =
       let (r, y) = asImages z one in
       let (s, x) = asImages z two in
-      let (p, q) = decided b set serial r s in
+      let (p, q) = decided b setSpot serialSpot r s in
       (p, sameImage last other y x q)
 
   -- ---- demand 2: once hk_open has opened the record's 32 bytes no call gives 8
   pub neverEightRecord : {start : List ℕ} {d last : Device} {n : ℕ} {cs : List Call} {gs : List Given} → length start ≡ 32 → Opens b start n (imageOf d)
-      → (z : Sized d) (r : RecordRuns b set serial d cs gs last) → Throughout NotEight (asImages z r .0)
-  neverEightRecord l o z r = neverEightAfter b set serial bytes l o (asImages z r .0)
+      → (z : Sized d) (r : RecordRuns b setSpot serialSpot d cs gs last) → Throughout NotEight (asImages z r .0)
+  neverEightRecord l o z r = neverEightAfter b setSpot serialSpot bytes l o (asImages z r .0)
 
   -- ---- demand 3: two orders of calls that concern different interfaces leave the same record, and each interface's calls are given the same
   pub orderRecord : accepted b ≡ true → {d last other : Device} {xs ys : List Call} {gs others : List Given} → Sized d → fitsOn b d ≡ true
-      → RecordRuns b set serial d xs gs last → RecordRuns b set serial d ys others other → Reordered b (imageOf d) xs ys
+      → RecordRuns b setSpot serialSpot d xs gs last → RecordRuns b setSpot serialSpot d ys others other → Reordered b (imageOf d) xs ys
       → (last ≡ other) × ((k : ℕ) → toldTo b (imageOf d) k xs gs ≡ toldTo b (imageOf d) k ys others)
   orderRecord ok {d} {last} {other} z fit one two r =
       let (p, y) = asImages z one in
       let (q, x) = asImages z two in
-      let (end, heard) = orderFit b set serial bytes ok (imageOf d) (imageFits b bytes ok d (fit, z)) p q r in
+      let (end, heard) = orderFit b setSpot serialSpot bytes ok (imageOf d) (imageFits b bytes ok d (fit, z)) p q r in
       (sameImage last other y x end, heard)

@@ -85,8 +85,8 @@ unpadded (SetPart offset size) = refl
 unpadded (SerialPart size) = refl
 unpadded (Refused n) = refl
 
-module _ {b : Board} {set serial : Spot} {image setup : List ℕ} {n : ℕ} {left bytes : List ℕ} {counted : ℕ} {shown : List ℕ} {spot : Spot}
-    (r : AnswersSetup b set serial image setup n left bytes counted shown spot) where
+module _ {b : Board} {setSpot serialSpot : Spot} {image setup : List ℕ} {n : ℕ} {left bytes : List ℕ} {counted : ℕ} {shown : List ℕ} {spot : Spot}
+    (r : AnswersSetup b setSpot serialSpot image setup n left bytes counted shown spot) where
   abbrev answer : Answer
   answer = event b image (setupEvent setup) .answer
 
@@ -117,8 +117,8 @@ module _ {b : Board} {set serial : Spot} {image setup : List ℕ} {n : ℕ} {lef
 
 -- ---- the whole transfer: a setup that was answered 0, and the packets of what it handed back, wherever that lies, by any cutter that meets
 -- its statement: those below the count put together are the reply, each of them is given, and every later one is refused with 15
-pub transfer : {b : Board} {set serial : Spot} {image setup : List ℕ} {left bytes : List ℕ} {counted : ℕ} {shown : List ℕ} {spot : Spot}
-    → AnswersSetup b set serial image setup 0 left bytes counted shown spot
+pub transfer : {b : Board} {setSpot serialSpot : Spot} {image setup : List ℕ} {left bytes : List ℕ} {counted : ℕ} {shown : List ℕ} {spot : Spot}
+    → AnswersSetup b setSpot serialSpot image setup 0 left bytes counted shown spot
     → (at : Spot) (number : ℕ → ℕ) (packets : ℕ → List ℕ) (place : ℕ → Spot)
     → ((k : ℕ) → CutsPacket (reply bytes counted shown) at (setupOf setup .wLength) (packetSize b) k (number k) (packets k) (place k))
     → (let many = count (length (reply bytes counted shown)) (setupOf setup .wLength) (packetSize b) in

@@ -1,11 +1,11 @@
--- The string references of a body, told beside its check: those of the interface descriptors, one after another. No axiom.
+-- The string references of a body, told beside its check: its own and those that a walk collects. No axiom.
 use Prim.Native.Nat.{ℕ, _≤_, _<_}
 use mathlib.Core.Path.{_≡_, refl, sym, ap, _∙_}
-use mathlib.Core.List.{List, [], _∷_}
+use mathlib.Core.List.{List, [], _∷_, _++_, map, flatMap, map-map}
 use mathlib.Core.Bool.{Bool, true, false, _&&_, and-true, and-false, and-assoc}
 use lib.ListN.{length}
 use Rattle.octets.specs.Sentences.{pick, _⇒_, every, only}
-use Rattle.octets.proofs.Sentences.{every-map}
+use Rattle.octets.proofs.Sentences.{every-append}
 use Rattle.descriptors.specs.declared.Stand.{Stand}
 use Rattle.descriptors.specs.declared.Step.{Step}
 use Rattle.descriptors.specs.declared.check.Verdict.{Verdict}
@@ -13,50 +13,70 @@ use Rattle.descriptors.specs.Cut.{cut, descriptorsOf}
 use Rattle.descriptors.specs.Descriptor.{isInterface, iInterface}
 use Rattle.descriptors.specs.Interfaces.{grouped}
 use Rattle.descriptors.specs.Configuration.{iConfiguration, behind, groupsOf, configurationReferences}
-use Rattle.descriptors.specs.Walk.{before, stepOf}
-use Rattle.descriptors.specs.Check.{verdict}
-use Rattle.descriptors.proofs.Walk.{spanned}
-use Rattle.descriptors.proofs.Ahead.{ahead, ahead-end, ahead-step, heads}
+use Rattle.descriptors.specs.Walk.{before, stepOf, collected}
+use Rattle.descriptors.specs.Check.{referenceOf, referring, verdict}
+use Rattle.descriptors.proofs.Walk.{spanned, collect-end, collect-on, collected-flat}
+use Rattle.descriptors.proofs.Ahead.{ahead, heads}
 use Rattle.descriptors.proofs.CheckWhole.{check-first}
 
--- ---- the references of a configuration are its own and its interfaces'
-every-only : {A : Type 0} (f g : A → Bool) (xs : List A) → every f (only g xs) ≡ every (λ x. g x ⇒ f x) xs
-unfolding every only
-every-only f g [] = refl
-every-only f g (x ∷ xs) = go (g x) (every-only f g xs)
+-- ---- the references of a configuration are its own and those that the walk collects behind its first descriptor
+only-flat : (ds : List (List ℕ)) → map iInterface (only isInterface ds) ≡ flatMap referenceOf ds
+unfolding only flatMap
+only-flat [] = refl
+only-flat (d ∷ ds) = go (isInterface d) (only-flat ds)
   where
-    go : (b : Bool) → every f (only g xs) ≡ every (λ x. g x ⇒ f x) xs → every f (pick b (x ∷ only g xs) (only g xs)) ≡ ((b ⇒ f x) && every (λ x. g x ⇒ f x) xs)
-    go true e = rw e
+    go : (b : Bool) → map iInterface (only isInterface ds) ≡ flatMap referenceOf ds
+        → map iInterface (pick b (d ∷ only isInterface ds) (only isInterface ds)) ≡ pick b (iInterface d ∷ []) [] ++ flatMap referenceOf ds
+    go true e = ap (_∷_ (iInterface d)) e
     go false e = e
+
+references-flat : (body : List ℕ) → configurationReferences body ≡ iConfiguration body ∷ flatMap referenceOf (behind (descriptorsOf (cut body)))
+unfolding configurationReferences groupsOf
+references-flat body =
+    let ds = behind (descriptorsOf (cut body)) in
+    ap (_∷_ (iConfiguration body)) (sym (map-map iInterface (λ g. g .head) (grouped ds .groups)) ∙ ap (map iInterface) (heads ds) ∙ only-flat ds)
+
+pub references-walked : (body : List ℕ) (at : ℕ) → ahead body at ≡ behind (descriptorsOf (cut body)) → configurationReferences body ≡ iConfiguration body ∷ collected referring body before at
+references-walked body at e =
+    references-flat body ∙ ap (λ ds. iConfiguration body ∷ flatMap referenceOf ds) (sym e) ∙ ap (_∷_ (iConfiguration body)) (sym (collected-flat referring referenceOf (λ at last d. refl) body before at))
 
 module _ (f : ℕ → Bool) where
   -- what is asked of a descriptor's own reference
   abbrev pub ofInterface : List ℕ → Bool
   ofInterface d = isInterface d ⇒ f (iInterface d)
 
+  every-flat : (ds : List (List ℕ)) → every f (flatMap referenceOf ds) ≡ every ofInterface ds
+  unfolding every flatMap
+  every-flat [] = refl
+  every-flat (d ∷ ds) = go (isInterface d) (every-flat ds)
+    where
+      go : (b : Bool) → every f (flatMap referenceOf ds) ≡ every ofInterface ds → every f (pick b (iInterface d ∷ []) [] ++ flatMap referenceOf ds) ≡ ((b ⇒ f (iInterface d)) && every ofInterface ds)
+      go true e = rw e
+      go false e = e
+
   pub references-all : (body : List ℕ) → every f (configurationReferences body) ≡ (f (iConfiguration body) && every ofInterface (behind (descriptorsOf (cut body))))
-  unfolding configurationReferences groupsOf every
-  references-all body =
-      let ds = behind (descriptorsOf (cut body)) in
-      rw (every-map f (λ g. iInterface (g .head)) (grouped ds .groups), ← every-map (λ d. f (iInterface d)) (λ g. g .head) (grouped ds .groups), heads ds, every-only)
+  unfolding every
+  references-all body = ap (every f) (references-flat body) ∙ ap (λ b. f (iConfiguration body) && b) (every-flat (behind (descriptorsOf (cut body))))
 
   -- behind the first descriptor
   pub references-behind : (body : List ℕ) (step : Step) → step ≡ stepOf body 0 before → 0 < step .end
-      → every f (configurationReferences body) ≡ (f (iConfiguration body) && every ofInterface (ahead body (step .end)))
-  unfolding descriptorsOf
-  references-behind body step e m = references-all body ∙ ap (λ cs. f (iConfiguration body) && every ofInterface (behind (descriptorsOf cs))) (check-first body step e m)
+      → every f (configurationReferences body) ≡ (f (iConfiguration body) && every f (collected referring body before (step .end)))
+  unfolding descriptorsOf every
+  references-behind body step e m = ap (every f) (references-walked body (step .end) (sym (ap (λ cs. behind (descriptorsOf cs)) (check-first body step e m))))
 
--- ---- the loop: `total` is what is asked of every descriptor, and the invariant that `sofar` holds and it is asked of those ahead
-module _ (f : List ℕ → Bool) (body : List ℕ) (at : ℕ) (sofar total : Bool) (inv : total ≡ (sofar && every f (ahead body at))) where
+-- ---- the loop: `total` is asked of every reference, and the invariant that `sofar` holds and it is asked of those still to collect
+module _ (f : ℕ → Bool) (body : List ℕ) (stand : Stand) (at : ℕ) (sofar total : Bool) (inv : total ≡ (sofar && every f (collected referring body stand at))) where
   pub asked-all : length body ≤ at → total ≡ sofar
   unfolding every
-  asked-all h = inv ∙ ap (λ ds. sofar && every f ds) (ahead-end body at h) ∙ and-true sofar
+  asked-all h = inv ∙ ap (λ rs. sofar && every f rs) (collect-end referring body stand at h) ∙ and-true sofar
 
-  pub asked-on : (stand : Stand) (step : Step) → step ≡ stepOf body at stand → at < length body → at < step .end
-      → total ≡ ((sofar && f (spanned body at (step .end))) && every f (ahead body (step .end)))
-  unfolding every
-  asked-on stand step e h m =
-      inv ∙ ap (λ ds. sofar && every f ds) (ahead-step body at stand h step e m) ∙ sym (and-assoc sofar (f (spanned body at (step .end))) (every f (ahead body (step .end))))
+  pub asked-on : (step : Step) → step ≡ stepOf body at stand → at < length body → at < step .end
+      → total ≡ ((sofar && every f (referenceOf (spanned body at (step .end)))) && every f (collected referring body (step .stand) (step .end)))
+  asked-on step e h m =
+      let d = spanned body at (step .end) in
+      let rest = collected referring body (step .stand) (step .end) in
+      inv ∙ ap (λ rs. sofar && every f rs) (collect-on referring body stand at e h m) ∙ ap (λ b. sofar && b) (every-append f (referenceOf d) rest)
+      ∙ sym (and-assoc sofar (every f (referenceOf d)) (every f rest))
 
 -- ---- verdicts
 pub refused : {good : Bool} (refers : Bool) → false ≡ good → verdict false false ≡ verdict good refers

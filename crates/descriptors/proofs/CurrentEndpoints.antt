@@ -8,7 +8,7 @@ use mathlib.Core.Logic.{_⊎_, inl, inr}
 use mathlib.Core.List.{List, [], _∷_, map, List·Memᴰ, List·Memᴰ·head, List·Memᴰ·tail, List·Memᴰ·not-nil, List·Memᴰ·cases-cons}
 use mathlib.Core.Bool.{Bool, true, false, _&&_}
 use mathlib.Core.Option.{some, none}
-use lib.ListN.{length, drop, getD, getElem?, length-take, length-drop}
+use lib.ListN.{length, drop, getD, getElem?}
 use lib.Seq.{getD-take, getD-drop}
 use lib.Dec.{eqb, leb, ltb}
 use borrow.Author.Tests.{ne-eqb, le-leb, ltb-true, ltb-false}
@@ -25,7 +25,7 @@ use Rattle.descriptors.specs.Walk.{before, standOf, stepOf, orElse, walk
 use Rattle.descriptors.specs.Lookup.{listed, lists, listsOne}
 use Rattle.descriptors.specs.Endpoints.{DescriptorAt, beginsCurrent, currentFrom, currentDescriptors}
 use Rattle.descriptors.specs.Seek.{foundAt, Seek, passing, seeking}
-use Rattle.descriptors.proofs.Walk.{spanned}
+use Rattle.descriptors.proofs.Walk.{spanned, span-length}
 use Rattle.descriptors.proofs.Ahead.{ahead, Place, steps, turn, ahead-end, Begun, at-first, endpointsUnder, endpoints-begin}
 use Rattle.descriptors.proofs.Surveying.{only-step}
 
@@ -120,9 +120,6 @@ counted-member true at d rest p m = go (List·Memᴰ·cases-cons m)
     go (inl e) = inl (refl, e)
     go (inr n) = inr n
 counted-member false at d rest p m = inr m
-
-pub span-length : (body : List ℕ) {at end : ℕ} → at < end → end ≤ length body → length (spanned body at end) ≡ end - at
-span-length body h l = rw (length-take, length-drop) (omega arith)
 
 -- the descriptor at a place, and the place behind it
 record Next (body : List ℕ) (at : ℕ) : Type 0 where

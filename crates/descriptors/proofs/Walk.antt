@@ -1,14 +1,15 @@
 -- A walk over the descriptors of a body, a descriptor at a time: its laws, once for every walk. No axiom.
 use Prim.Native.Nat.{ℕ, zero, suc, _+_, _-_, _≤_, _<_}
-use native.Mathlib.Nat.{not-suc-le-zero, le-of-suc-le-suc, add-sub-cancel-left}
+use native.Mathlib.Nat.{not-suc-le-zero, le-of-suc-le-suc, add-sub-cancel-left, add-zero}
 use native.Mathlib.Numerals.{add-one}
 use native.Mathlib.Omega.{arith}
 use mathlib.Core.Path.{_≡_, refl, sym, ap, _∙_}
-use mathlib.Core.List.{List, [], _∷_}
+use mathlib.Core.Logic.{_⊎_, inl, inr, ⊎-elim}
+use mathlib.Core.List.{List, [], _∷_, _++_, flatMap, append-nil, append-assoc}
 use mathlib.Core.Bool.{Bool, true, false, _&&_, and-false}
 use mathlib.Core.Option.{some, none}
-use lib.ListN.{length, take, drop, length-drop, drop-of-length-le}
-use lib.Seq.{drop-cons, drop-drop}
+use lib.ListN.{length, take, drop, length-take, length-drop, drop-of-length-le}
+use lib.Seq.{drop-cons, drop-drop, getD-take, getD-drop}
 use lib.Dec.{leb, ltb}
 use borrow.Author.Tests.{lt-leb, le-leb, lt-ltb, leb-true, leb-false, ltb-true}
 use Rattle.octets.specs.Octets.{byte, part}
@@ -17,7 +18,7 @@ use Rattle.octets.proofs.Sentences.{cases, both}
 use Rattle.descriptors.specs.declared.Stand.{Stand}
 use Rattle.descriptors.specs.declared.Step.{Step}
 use Rattle.descriptors.specs.Cut.{Cutting, whole, broken, descriptor, cut, cutAfter, descriptorsOf, wellCut}
-use Rattle.descriptors.specs.Walk.{standOf, stepsOn, stepOf, Walk, orElse, walked, gathering}
+use Rattle.descriptors.specs.Walk.{standOf, stepsOn, stepOf, Walk, orElse, walked, gathering, Collection, collecting, collected}
 
 -- ---- cutting
 after-drop : (k : ℕ) (xs : List ℕ) → k ≤ length xs → cutAfter k xs ≡ cut (drop k xs)
@@ -74,6 +75,9 @@ well-broken = refl
 abbrev pub spanned : List ℕ → ℕ → ℕ → List ℕ
 spanned body at end = take (end - at) (drop at body)
 
+pub span-length : (body : List ℕ) {at end : ℕ} → at < end → end ≤ length body → length (spanned body at end) ≡ end - at
+span-length body h l = rw (length-take, length-drop) (omega arith)
+
 -- a descriptor that is whole: it begins inside the body and ends there
 pub record Whole (body : List ℕ) (at : ℕ) : Type 0 where
   pub begins : at < length body
@@ -113,16 +117,20 @@ module _ (body : List ℕ) (at : ℕ) (stand : Stand) (h : at < length body) whe
               let n : byte body at ≤ length body - at = leb-true (byte body at) (length body - at) r in
               rw p (record { inside = omega arith; cuts = rw add-sub-cancel-left (cut-step body at h l n); stands = rw add-sub-cancel-left })
 
-  -- it stood still: the body is broken
-  pub stuck : stepOf body at stand .end ≤ at → wellCut (cut (drop at body)) ≡ false
-  stuck m = cases (leb 2 (byte body at))
+  -- it stood still: the body is broken, there or by a descriptor that runs past its end
+  pub breaks : stepOf body at stand .end ≤ at
+      → (cut (drop at body) ≡ broken) ⊎ ((length body - at < byte body at) × (cut (drop at body) ≡ descriptor (part body at (byte body at)) broken))
+  breaks m = cases (leb 2 (byte body at))
       (λ q. cases (leb (byte body at) (length body - at))
       (λ r.
       let l : 2 ≤ byte body at = leb-true 2 (byte body at) q in
       let e : stepOf body at stand .end ≡ at + byte body at = rw (two q r) in
       absurd (omega arith))
-      (λ r. rw (cut-long body at h (leb-true 2 (byte body at) q) (leb-false (byte body at) (length body - at) r), well-descriptor) well-broken))
-      (λ q. rw (cut-small body at h (leb-false 2 (byte body at) q)) well-broken)
+      (λ r. let n = leb-false (byte body at) (length body - at) r in inr (n, cut-long body at h (leb-true 2 (byte body at) q) n)))
+      (λ q. inl (cut-small body at h (leb-false 2 (byte body at) q)))
+
+  pub stuck : stepOf body at stand .end ≤ at → wellCut (cut (drop at body)) ≡ false
+  stuck m = ⊎-elim (λ e. rw e well-broken) (λ p. rw (p .1, well-descriptor) well-broken) (breaks m)
 
 -- a well-cut body stays well cut further on
 module _ (body : List ℕ) (at : ℕ) (stand : Stand) (h : at < length body) (m : at < stepOf body at stand .end) where
@@ -176,6 +184,71 @@ module _ {W X : Type 0} (on : W → Stand → List ℕ → W) (q : W → X) (tot
   gathers w last whole = sym (none-left (q w) last)
   gathers w last broken = sym (none-left (q w) last)
   gathers w last (descriptor d ds) = gathers (on w (standOf last d) d) (standOf last d) ds ∙ sym (one-more w last d (descriptorsOf ds))
+
+-- ---- what a walk that collects has still to collect
+module _ {X : Type 0} (adds : ℕ → Stand → List ℕ → List X) where
+  collect-more : (w : Collection X) (last : Stand) (cs : Cutting) → walked (collecting adds) w last cs ≡ w .items ++ walked (collecting adds) (record { at = w .at; items = [] }) last cs
+  unfolding walked
+  collect-more w last whole = sym (append-nil (w .items))
+  collect-more w last broken = sym (append-nil (w .items))
+  collect-more w last (descriptor d ds) =
+      let stand = standOf last d in
+      let a = adds (w .at) stand d in
+      let rest = walked (collecting adds) (record { at = w .at + length d; items = [] }) stand ds in
+      collect-more (record { at = w .at + length d; items = w .items ++ a }) stand ds
+      ∙ append-assoc (w .items) a rest
+      ∙ ap (λ (l : List X). w .items ++ l) (sym (collect-more (record { at = w .at + length d; items = a }) stand ds))
+
+  module _ (body : List ℕ) (last : Stand) (at : ℕ) where
+    begins : Walking (collecting adds) body (collected adds body last at) (record { at = at; items = [] }) last at
+    begins = record { rest = refl }
+
+    pub collect-end : length body ≤ at → collected adds body last at ≡ []
+    collect-end h = sym (walk-end begins h)
+
+    module _ {step : Step} (e : step ≡ stepOf body at last) (h : at < length body) where
+      -- a step on: what the descriptor adds, and what those behind it do
+      pub collect-on : at < step .end → collected adds body last at ≡ adds at (step .stand) (spanned body at (step .end)) ++ collected adds body (step .stand) (step .end)
+      collect-on m =
+          let d = spanned body at (step .end) in
+          let place : at + length d ≡ step .end = omega (arith, span-length body m (walk-inside begins e h m)) in
+          let next = walk-on begins e h m refl refl in
+          next .rest ∙ collect-more _ (step .stand) (cut (drop (step .end) body))
+          ∙ ap (λ (n : ℕ). adds at (step .stand) d ++ walked (collecting adds) (record { at = n; items = [] }) (step .stand) (cut (drop (step .end) body))) place
+
+  -- where neither its place nor where it stands counts: what the descriptors add one by one
+  module _ (tells : List ℕ → List X) (plain : (at : ℕ) (last : Stand) (d : List ℕ) → adds at (standOf last d) d ≡ tells d) where
+    collects-flat : (at : ℕ) (last : Stand) (cs : Cutting) → walked (collecting adds) (record { at = at; items = [] }) last cs ≡ flatMap tells (descriptorsOf cs)
+    unfolding walked descriptorsOf flatMap
+    collects-flat at last whole = refl
+    collects-flat at last broken = refl
+    collects-flat at last (descriptor d ds) =
+        collect-more (record { at = at + length d; items = adds at (standOf last d) d }) (standOf last d) ds ∙ rw (plain at last d, collects-flat (at + length d) (standOf last d) ds)
+
+    pub collected-flat : (body : List ℕ) (last : Stand) (at : ℕ) → collected adds body last at ≡ flatMap tells (descriptorsOf (cut (drop at body)))
+    collected-flat body last at = collects-flat at last (cut (drop at body))
+
+  -- where a descriptor that runs past the body's end adds nothing: from where the walk stands still there is nothing to collect
+  module _ (nothing : (at : ℕ) (stand : Stand) (d : List ℕ) → length d < byte d 0 → adds at stand d ≡ []) (body : List ℕ) (last : Stand) (at : ℕ) where
+    abbrev broke : List ℕ
+    broke = part body at (byte body at)
+
+    short : length body - at < byte body at → length broke < byte broke 0
+    short l =
+        let first : byte broke 0 ≡ byte body at = getD-take (byte body at) (drop at body) 0 0 (omega arith) ∙ rw (getD-drop, add-zero) in
+        rw (first, length-take, length-drop) (omega arith)
+
+    off : walked (collecting adds) (record { at = at; items = [] }) last broken ≡ []
+    unfolding walked
+    off = refl
+
+    cut-off : (d : List ℕ) → walked (collecting adds) (record { at = at; items = [] }) last (descriptor d broken) ≡ adds at (standOf last d) d
+    unfolding walked
+    cut-off d = refl
+
+    pub collect-stuck : {step : Step} → step ≡ stepOf body at last → at < length body → step .end ≤ at → collected adds body last at ≡ []
+    collect-stuck {step} e h m =
+        ⊎-elim (λ p. rw p off) (λ p. rw (p .1) (cut-off broke ∙ nothing at (standOf last broke) broke (short (p .0)))) (breaks body at last h (rw e at m))
 
 -- ---- a test of each descriptor, from the state w on, and of the end
 unfoldable pub holding : {W : Type 0} → (W → Stand → Stand → List ℕ → Bool) → (W → Stand → Stand → List ℕ → W) → (W → Stand → Bool) → W → Stand → List (List ℕ) → Bool

@@ -1,6 +1,6 @@
 -- Working definitions for the check of a configuration body, a descriptor at a time; no promise cites them.
 use Prim.Native.Nat.{ℕ, _+_, _-_}
-use mathlib.Core.List.{List}
+use mathlib.Core.List.{List, [], _∷_}
 use mathlib.Core.Bool.{Bool, _&&_, _||_, not}
 use lib.ListN.{length}
 use lib.Dec.{eqb, leb}
@@ -79,10 +79,14 @@ beginning = record { coming = 0; setting = 0; interface = 0; seen = 0 }
 abbrev pub checking : Limits → ℕ → Walk Progress Bool
 checking limits n = testing (allowed limits) onward (ended n)
 
--- the string reference of a descriptor, and every one of a configuration, is in a table
-abbrev pub interfaceRefers : List ℕ → List ℕ → Bool
-interfaceRefers names d = isInterface d ⇒ has names (iInterface d)
+-- the string reference of a descriptor, if it has one; the walk that collects those behind the first
+abbrev pub referenceOf : List ℕ → List ℕ
+referenceOf d = pick (isInterface d) (iInterface d ∷ []) []
 
+abbrev pub referring : ℕ → Stand → List ℕ → List ℕ
+referring at stand d = referenceOf d
+
+-- every reference of a configuration is in a table
 abbrev pub configurationRefers : List ℕ → List ℕ → Bool
 configurationRefers names body = every (has names) (configurationReferences body)
 

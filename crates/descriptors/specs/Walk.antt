@@ -1,16 +1,16 @@
 -- Working definitions for the contracts of walks over a body; no promise cites them.
 use Prim.Native.Nat.{ℕ, _+_, _-_}
-use mathlib.Core.List.{List}
+use mathlib.Core.List.{List, [], _++_}
 use mathlib.Core.Bool.{Bool, true, false, _&&_}
 use mathlib.Core.Option.{Option, some, none}
-use lib.ListN.{length}
+use lib.ListN.{length, drop}
 use lib.Dec.{leb, ltb}
 use Rattle.octets.specs.Octets.{byte, part}
 use Rattle.octets.specs.Sentences.{pick}
 use Rattle.descriptors.specs.declared.Setting.{Setting}
 use Rattle.descriptors.specs.declared.Stand.{Stand}
 use Rattle.descriptors.specs.declared.Step.{Step}
-use Rattle.descriptors.specs.Cut.{Cutting, whole, broken, descriptor}
+use Rattle.descriptors.specs.Cut.{Cutting, whole, broken, descriptor, cut}
 use Rattle.descriptors.specs.Descriptor.{isInterface, bInterfaceNumber, bAlternateSetting}
 
 -- the setting of a stand
@@ -69,3 +69,20 @@ testing test on finish = record {
   finish = finish;
   astray = λ w. false;
 }
+
+-- and one that collects a list: what a descriptor adds to it, given where it begins in the body, where it stands, and its bytes
+pub record Collection (X : Type 0) : Type 0 where
+  pub at : ℕ
+  pub items : List X
+
+abbrev pub collecting : {X : Type 0} → (ℕ → Stand → List ℕ → List X) → Walk (Collection X) (List X)
+collecting adds = record {
+  stop = λ w last stand d. none;
+  on = λ w last stand d. record { at = w .at + length d; items = w .items ++ adds (w .at) stand d };
+  finish = λ w stand. w .items;
+  astray = λ w. w .items;
+}
+
+-- what it collects from a place in a body on, behind a descriptor that stands at `last`
+abbrev pub collected : {X : Type 0} → (ℕ → Stand → List ℕ → List X) → List ℕ → Stand → ℕ → List X
+collected adds body last at = walked (collecting adds) (record { at = at; items = [] }) last (cut (drop at body))

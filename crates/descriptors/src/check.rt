@@ -10,12 +10,13 @@ ghost use mathlib.Core.Bool.{false, _&&_};
 ghost use Rattle.descriptors.specs.Limits.{within, doubled, named};
 ghost use Rattle.descriptors.specs.Descriptor.{goodAddress, goodAttributes, sized, goodSize, goodInterval, goodEndpoint};
 ghost use Rattle.descriptors.specs.Configuration.{goodHead, goodConfiguration};
-ghost use Rattle.descriptors.specs.Cut.{cut, descriptorsOf};
-ghost use Rattle.descriptors.specs.Walk.{before, walked};
-ghost use Rattle.descriptors.specs.Check.{placed, fresh, mayBegin, mayList, allowed, atInterface, atEndpoint, onward, ended, beginning, checking, interfaceRefers, configurationRefers, verdict};
+ghost use Rattle.descriptors.specs.Cut.{cut};
+ghost use Rattle.descriptors.specs.Walk.{before, walked, collected};
+ghost use Rattle.descriptors.specs.Check.{placed, fresh, mayBegin, mayList, allowed, atInterface, atEndpoint, onward, ended, beginning, checking, referenceOf, referring, configurationRefers, verdict};
 ghost use lib.ListN.{drop};
 ghost use Prim.Native.Nat.{_-_};
 ghost use Rattle.octets.specs.Sentences.{pick, every};
+ghost use Rattle.octets.specs.Table.{has};
 
 // How far the check of a body is: how many endpoints of this setting are still to come; and, a bit for each address, the addresses of
 // this setting, of this interface's settings, and of all that was seen. Where it stands is the step's to say.
@@ -281,7 +282,7 @@ pub fn refuse() -> Verdict
 
 // Whether every reference is in `names`, after one more descriptor; only an interface's has one, so that others cost nothing.
 fn still_refers(d: &[u8], refers: bool, names: &[u32; 8]) -> bool
-    ensures { λ r. ⌜ r ≡ (refers && interfaceRefers (now (names .entry)) (now (d .entry))) ⌝ }
+    ensures { λ r. ⌜ r ≡ (refers && every (has (now (names .entry))) (referenceOf (now (d .entry)))) ⌝ }
 {
     if octets::peek(d, 1) == 4 {
         return refers & holds(names, octets::peek(d, 8));
@@ -291,7 +292,7 @@ fn still_refers(d: &[u8], refers: bool, names: &[u32; 8]) -> bool
 
 // The descriptors from `from` on, for so many interfaces.
 fn good_rest(body: &[u8], from: usize, interfaces: u8, limits: Limits, names: &[u32; 8]) -> Verdict
-    ensures { λ r. ⌜ r ≡ verdict (walked (checking limits interfaces) beginning before (cut (drop from (now (body .entry))))) (every (interfaceRefers (now (names .entry))) (descriptorsOf (cut (drop from (now (body .entry)))))) ⌝ }
+    ensures { λ r. ⌜ r ≡ verdict (walked (checking limits interfaces) beginning before (cut (drop from (now (body .entry))))) (every (has (now (names .entry))) (collected referring (now (body .entry)) before from)) ⌝ }
 {
     let mut progress = start();
     let mut refers = true;

@@ -18,10 +18,10 @@ use Rattle.sets.specs.Contents.{entries, entriesOf, bodyOf, isKind}
 use Rattle.sets.specs.Contents as contents
 use Rattle.sets.specs.Device.{deviceBody, iManufacturer, iProduct, iSerialNumber, bMaxPacketSize0, bDeviceClass, bDeviceSubClass, bNumConfigurations, goodDevice, goodDeviceEntries}
 use Rattle.sets.specs.Strings.{references}
-use Rattle.sets.specs.Opening.{numberedFrom, goodDevices, goodConfigurations, opening}
+use Rattle.sets.specs.Opening.{numberedFrom, goodDevices, goodConfigurations, opening, lent}
 use Rattle.sets.proofs.Groups.{Groups, groups}
 use Rattle.sets.proofs.References.{references-set}
-use Rattle.set_writer.specs.Writer.{lent, opensAs}
+use Rattle.set_writer.specs.Writer.{opensAs}
 use Rattle.pieces.specs.Held.{pieceFor, piecesIn}
 use Rattle.pieces.proofs.ReadBack.{read-back}
 use Rattle.dumps.specs.Dump.{splits, deviceIn, configurationsIn}

@@ -14,11 +14,11 @@ use Rattle.descriptors.specs.Limits.{fullSpeed}
 use Rattle.sets.specs.Contents.{entriesOf, bodyOf, total, count, bodiesAt, goodFrame}
 use Rattle.sets.specs.Device.{deviceBody, iSerialNumber}
 use Rattle.sets.specs.Strings.{references, languages, stringZero, goodString, languageZero, goodLanguages, listed, zeroThere, notSerial, goodReference, goodStrings}
-use Rattle.sets.specs.Opening.{opening}
+use Rattle.sets.specs.Opening.{lent, opening}
 use Rattle.sets.proofs.Groups.{groups}
 use Rattle.pieces.specs.Pieces.{Piece}
 use Rattle.pieces.specs.Laid.{laid}
-use Rattle.set_writer.specs.Writer.{lent, opensAs, handing}
+use Rattle.set_writer.specs.Writer.{opensAs, handing}
 use Rattle.dumps.specs.Dump.{flat, splits, deviceIn, configurationsIn}
 use Rattle.dumps.specs.Zeroed.{zeroedDevice, zeroedConfiguration, zeroed}
 use Rattle.dumps.specs.Imported.{piecesFor, imported}

@@ -17,12 +17,12 @@ use Rattle.sets.specs.Contents as contents
 use Rattle.sets.specs.Device.{deviceBody, iSerialNumber, goodDevice, goodDeviceEntries}
 use Rattle.sets.specs.Strings.{references, languages, goodReference, goodStrings}
 use Rattle.descriptors.specs.declared.Limits.{Limits}
-use Rattle.sets.specs.Opening.{Board, numberedFrom, goodDevices, goodConfigurations, goodBlock, opening}
+use Rattle.sets.specs.Opening.{Board, lent, numberedFrom, goodDevices, goodConfigurations, goodBlock, opening}
 use Rattle.pieces.specs.Pieces.{Piece}
 use Rattle.pieces.specs.Laid as pieces
 use Rattle.pieces.specs.Laid.{bodies, laid}
 use Rattle.pieces.proofs.LaidOut.{laid-frame, laid-contents}
-use Rattle.set_writer.specs.Writer.{lent, opensAs}
+use Rattle.set_writer.specs.Writer.{opensAs}
 use Rattle.pieces.specs.Held.{pieceFor}
 use Rattle.dumps.specs.Dump.{flat}
 use Rattle.dumps.specs.Imported.{devicePiece, configurationPiece, numbered}

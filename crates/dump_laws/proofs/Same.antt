@@ -14,9 +14,10 @@ use Rattle.sets.specs.Contents.{entries, isKind, before, total, bodiesAt, endTo
 use Rattle.sets.specs.Strings.{references}
 use Rattle.octets.specs.Octets.{Bytes}
 use Rattle.sets.proofs.Entries.{every-cons}
+use Rattle.sets.specs.Opening.{lent}
 use Rattle.pieces.specs.Pieces.{Piece}
 use Rattle.pieces.specs.Laid.{laid}
-use Rattle.set_writer.specs.Writer.{lent, opensAs}
+use Rattle.set_writer.specs.Writer.{opensAs}
 use Rattle.pieces.specs.Held.{pieceFor, piecesIn}
 use Rattle.pieces.proofs.Canonical.{canonical}
 use Rattle.dumps.specs.Dump.{deviceIn, configurationsIn}

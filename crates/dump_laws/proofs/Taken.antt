@@ -16,9 +16,9 @@ use Rattle.sets.specs.Contents.{entries, entriesOf, bodyOf, isKind, total, coun
 use Rattle.sets.specs.Contents as contents
 use Rattle.sets.specs.Device.{deviceBody}
 use Rattle.sets.specs.Strings.{references}
-use Rattle.sets.specs.Opening.{opening}
+use Rattle.sets.specs.Opening.{lent, opening}
 use Rattle.pieces.specs.Laid.{laid}
-use Rattle.set_writer.specs.Writer.{lent, opensAs}
+use Rattle.set_writer.specs.Writer.{opensAs}
 use Rattle.pieces.proofs.Canonical.{entries-length}
 use Rattle.dumps.specs.Imported.{imported}
 use Rattle.exporting.specs.Export.{exported, own}

@@ -70,38 +70,34 @@ fn put_device(out: &mut [u8], from: usize, body: &[u8]) -> usize
     end
 }
 
-// Whether the bytes from a place on are a type 4 descriptor that has an iInterface.
-fn has_name(body: &[u8], at: usize, size: u8) -> bool
-    ensures { λ r. ⌜ r ≡ hasName (drop at (now (body .entry))) size ⌝ }
+// Whether a descriptor is of type 4, whole, and has an iInterface.
+fn has_name(d: &[u8]) -> bool
+    ensures { λ r. ⌜ r ≡ hasName (now (d .entry)) ⌝ }
 {
-    (octets::peek(pieces::tail(body, at), 1) == 4) & (9 <= size)
+    (octets::peek(d, 1) == 4) & (9 <= d.len()) & (octets::peek(d, 0) as usize == d.len())
 }
 
-// From one descriptor to the next; from a bLength of 0 to the next byte.
-fn stride(size: u8) -> usize
-    ensures { λ r. ⌜ (r ≡ 1 + (size - 1)) × (r ≤ 256) ⌝ }
-{
-    if size == 0 {
-        return 1;
-    }
-    size as usize
-}
-
-// A configuration body, its references zeroed.
+// A configuration body, its references zeroed. Where it breaks off the walk is over: such a set is refused.
 fn put_configuration(out: &mut [u8], from: usize, body: &[u8]) -> usize
     requires { ⌜ Room (now out) from (now body) ⌝ }
     ensures { λ r. ⌜ Wrote (now (out .entry)) from (zeroedConfiguration (now (body .entry))) (now (out .exit)) r ⌝ }
 {
-    let end = writing::put_bytes(out, from, body);
+    let behind = writing::put_bytes(out, from, body);
     blank(out, from, body.len(), 6, true);
+    let mut stand = descriptors::outside();
     let mut at = 0;
     while at < body.len() {
-        let size = body[at];
-        let wanted = has_name(body, at, size);
+        let step = descriptors::advance(body, at, stand);
+        let end = step.end;
+        if end <= at {
+            return behind;
+        }
+        let wanted = has_name(&body[at..end]);
         blank(out, from, body.len(), at + 8, wanted);
-        at += stride(size);
+        stand = step.stand;
+        at = end;
     }
-    end
+    behind
 }
 
 // What stands before a piece's body.

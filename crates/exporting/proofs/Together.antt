@@ -17,10 +17,9 @@ use Rattle.descriptors.specs.Limits.{named, fullSpeed}
 use Rattle.sets.specs.declared.Entry.{Entry}
 use Rattle.sets.specs.Contents.{entries, bodyOf, bodies, before, isKind, entriesOf, total, count, bodiesAt, endToEnd, goodFrame, goodContents}
 use Rattle.sets.specs.Device.{headBody, goodDeviceEntries}
-use Rattle.sets.specs.Opening.{goodDevices, opening}
+use Rattle.sets.specs.Opening.{goodDevices, opening, lent}
 use Rattle.sets.proofs.Entries.{only-later, only-empty, every-cons}
 use Rattle.sets.proofs.Groups.{groups}
-use Rattle.set_writer.specs.Writer.{lent}
 use Rattle.dumps.specs.Dump.{flat}
 use Rattle.exporting.specs.declared.Dumped.{Dumped}
 use Rattle.exporting.specs.Export.{exported, exporting, share, shares, Exports}

@@ -9,10 +9,10 @@ use Rattle.descriptors.specs.Limits.{fullSpeed}
 use Rattle.sets.specs.declared.Entry.{Entry}
 use Rattle.sets.specs.Contents.{entriesOf, bodies}
 use Rattle.sets.specs.Device.{deviceBody}
-use Rattle.sets.specs.Opening.{opening}
+use Rattle.sets.specs.Opening.{lent, opening}
 use Rattle.pieces.specs.Pieces.{Piece}
 use Rattle.pieces.specs.Held.{pieceFor}
-use Rattle.set_writer.specs.Writer.{lent, Filled}
+use Rattle.set_writer.specs.Writer.{Filled}
 use Rattle.dumps.specs.Dump.{flat}
 use Rattle.exporting.specs.declared.Dumped.{Dumped}
 

@@ -7,9 +7,9 @@ use lib.ListN.{length}
 use lib.Dec.{ltb}
 use Rattle.octets.specs.Sentences.{pick}
 use Rattle.descriptors.specs.Limits.{fullSpeed}
-use Rattle.sets.specs.Opening.{opening}
+use Rattle.sets.specs.Opening.{lent, opening}
 use Rattle.set_writer.specs.declared.Report.{Report}
-use Rattle.set_writer.specs.Writer.{lent, opensAs, handing, Filled}
+use Rattle.set_writer.specs.Writer.{opensAs, handing, Filled}
 use Rattle.dumps.specs.Dump.{splits}
 use Rattle.dumps.specs.Imported.{piecesFor, imported}
 

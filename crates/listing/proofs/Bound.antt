@@ -23,8 +23,8 @@ use Rattle.sets.specs.View.{openingOf}
 use Rattle.sets.proofs.Groups.{Groups, groups}
 use Rattle.listing.specs.Listing.{digits, fields, line, acceptedWord, refusedWord, configurationLines, acceptedLines, listing}
 use Rattle.listing.specs.Listed.{room}
-use Rattle.listing.specs.Written.{descriptorLine, descriptorLines}
-use Rattle.listing.proofs.Lines.{differ, headLine, good-descriptors, configuration-lines}
+use Rattle.listing.specs.Written.{descriptorLines}
+use Rattle.listing.proofs.Lines.{descriptorLine, differ, headLine, lines-flat, good-cut, good-descriptors, configuration-lines}
 
 -- ---- a line: its word, six bytes for each field, and the line feed
 digits-length : (n x : ℕ) → length (digits n x) ≤ n
@@ -100,10 +100,9 @@ module _ (limits : Limits) where
       omega (arith, leb-true 9 (length d) (conjunct 1 head (conjunct 0 rules p)), flat-length descriptorLine (goodDescriptor limits) descriptor-length ds (conjunct 1 rules p))
 
   configuration-length : (body : List ℕ) → goodConfiguration limits body ≡ true → length (configurationLines body) ≤ 3 * length body
-  unfolding descriptorLines
   configuration-length body p =
       let ds = descriptorsOf (cut body) in
-      omega (arith, ap length (configuration-lines limits body p) ∙ length-append (headLine body) (descriptorLines body), line-length (67 ∷ []) (bConfigurationValue body ∷ bNumInterfaces body ∷ []), descriptors-length (length body) ds (good-descriptors limits body p), cut-lengths 0 body)
+      omega (arith, ap length (configuration-lines limits body p) ∙ length-append (headLine body) (descriptorLines body), ap length (lines-flat body (good-cut limits body p)), line-length (67 ∷ []) (bConfigurationValue body ∷ bNumInterfaces body ∷ []), descriptors-length (length body) ds (good-descriptors limits body p), cut-lengths 0 body)
 
 -- ---- a set
 -- the bodies of one type, of entries that lie end to end

@@ -5,6 +5,7 @@ use mathlib.Core.Path.{_≡_, refl, sym, ap, _∙_}
 use mathlib.Core.List.{List, [], _∷_, _++_, map, flatMap, append-assoc}
 use mathlib.Core.Bool.{Bool, true, false, _&&_}
 use lib.ListN.{length, drop, getD, drop-of-length-le}
+use Rattle.octets.specs.Octets.{byte}
 use Rattle.octets.specs.Sentences.{pick, _⇒_, every, only, pairs, isEmpty}
 use Rattle.octets.proofs.Sentences.{cases, both, conjunct}
 use Rattle.descriptors.specs.declared.Limits.{Limits}
@@ -12,18 +13,16 @@ use Rattle.descriptors.specs.Cut.{cut, descriptorsOf, wellCut}
 use Rattle.descriptors.specs.Descriptor.{isInterface, isEndpoint, goodDescriptor}
 use Rattle.descriptors.specs.Interfaces.{grouped, begunBy, settingOf, endpointsOf, goodSettings, counted, apart, goodInterfaces}
 use Rattle.descriptors.specs.Configuration.{bNumInterfaces, bConfigurationValue, goodHead, goodDescriptors, goodConfiguration, behind, groupsOf}
-use Rattle.descriptors.specs.Walk.{standOf}
+use Rattle.descriptors.specs.Walk.{before, standOf}
 use Rattle.sets.specs.declared.Entry.{Entry}
 use Rattle.sets.specs.Contents.{entryOf, entries, bodyOf, bodies, isKind, count}
 use Rattle.sets.proofs.Entries.{rest, rest-start, next-entry, no-entry, every-cons}
 use Rattle.listing.specs.Listing.{decimal, fields, line, endpointLine, interfaceLines, configurationLines}
-use Rattle.writing.specs.Written.{Room}
-use Rattle.listing.specs.Written.{interfaceLine, descriptorLine, lineAt, descriptorLines, entryLines, goodListed}
+use Rattle.listing.specs.Written.{interfaceLine, telling, descriptorLines, entryLines, goodListed}
 use Rattle.descriptors.specs.declared.Stand.{Stand}
-use Rattle.descriptors.specs.declared.Step.{Step}
-use Rattle.descriptors.proofs.Walk.{spanned}
-use Rattle.descriptors.proofs.Ahead.{Begun, Turn, ahead, ahead-end}
-use Rattle.writing.proofs.Written.{Going, begun, one-more}
+use Rattle.descriptors.proofs.Walk.{collected-flat}
+use Rattle.descriptors.proofs.Ahead.{at-first}
+use Rattle.writing.proofs.Written.{one-more}
 
 -- ---- the fields of a line
 fields-more : (x : ℕ) (xs : List ℕ) → fields (x ∷ xs) ≡ 32 ∷ decimal x ++ fields xs
@@ -49,6 +48,13 @@ pub flat-none : {A : Type 0} (f : A → List ℕ) → flatMap f [] ≡ []
 unfolding flatMap
 flat-none f = refl
 
+-- the line of a descriptor, by itself: an interface descriptor stands under the setting that it begins
+abbrev pub descriptorLine : List ℕ → List ℕ
+descriptorLine d = pick (isInterface d) (interfaceLine (begunBy d) d) (pick (isEndpoint d) (endpointLine d) [])
+
+line-here : (at : ℕ) (last : Stand) (d : List ℕ) → telling at (standOf last d) d ≡ descriptorLine d
+line-here at last d = cases (isInterface d) (λ p. rw p) (λ p. rw p)
+
 -- the lines of descriptors by interface are their own lines in order; those of the loose ones come first
 by-descriptor : (ds : List (List ℕ)) → flatMap endpointLine (grouped ds .loose) ++ flatMap interfaceLines (grouped ds .groups) ≡ flatMap descriptorLine ds
 unfolding flatMap grouped
@@ -69,30 +75,17 @@ none-loose : (ds : List (List ℕ)) → isEmpty ds ≡ true → flatMap endpoint
 none-loose [] p = flat-none endpointLine
 none-loose (d ∷ ds) p = absurd (differ p)
 
-pub in-order : (body : List ℕ) → isEmpty (grouped (behind (descriptorsOf (cut body))) .loose) ≡ true
+-- what the walk behind the first descriptor collects is the lines of the descriptors
+pub lines-flat : (body : List ℕ) → wellCut (cut body) ≡ true → descriptorLines body ≡ flatMap descriptorLine (behind (descriptorsOf (cut body)))
+lines-flat body w =
+    collected-flat telling descriptorLine line-here body before (byte body 0) ∙ ap (flatMap descriptorLine) (at-first body (byte body 0) w refl .all)
+
+in-order : (body : List ℕ) → wellCut (cut body) ≡ true → isEmpty (grouped (behind (descriptorsOf (cut body))) .loose) ≡ true
     → flatMap interfaceLines (groupsOf body) ≡ descriptorLines body
-unfolding groupsOf descriptorLines
-in-order body p =
+unfolding groupsOf
+in-order body w p =
     let ds = behind (descriptorsOf (cut body)) in
-    ap (λ (l : List ℕ). l ++ flatMap interfaceLines (grouped ds .groups)) (sym (none-loose (grouped ds .loose) p)) ∙ by-descriptor ds
-
--- an interface descriptor stands under the setting that it begins
-line-here : (last : Stand) (d : List ℕ) → lineAt (standOf last d) d ≡ descriptorLine d
-line-here last d = cases (isInterface d) (λ p. rw p) (λ p. rw p)
-
--- the lines of the descriptors ahead, in a walk: all of them, those behind the next descriptor, none
-module _ {body : List ℕ} {at : ℕ} where
-  pub lines-begin : Begun body at → (out : List ℕ) (place : ℕ) → Room out place (descriptorLines body)
-      → Going out place (descriptorLines body) out place (flatMap descriptorLine (ahead body at))
-  unfolding descriptorLines
-  lines-begin b out place h = rw (b .all) (begun out place (descriptorLines body) h)
-
-  pub next-lines : {stand : Stand} {step : Step} → Turn body at stand step
-      → flatMap descriptorLine (ahead body at) ≡ lineAt (step .stand) (spanned body at (step .end)) ++ flatMap descriptorLine (ahead body (step .end))
-  next-lines {stand} t = ap (flatMap descriptorLine) (t .next) ∙ flat-cons descriptorLine _ _ ∙ rw (t .stands, line-here stand)
-
-pub no-lines : (body : List ℕ) (at : ℕ) → length body ≤ at → flatMap descriptorLine (ahead body at) ≡ []
-no-lines body at h = ap (flatMap descriptorLine) (ahead-end body at h) ∙ flat-none descriptorLine
+    ap (λ (l : List ℕ). l ++ flatMap interfaceLines (grouped ds .groups)) (sym (none-loose (grouped ds .loose) p)) ∙ by-descriptor ds ∙ sym (lines-flat body w)
 
 -- ---- a configuration that is accepted
 module _ (limits : Limits) (body : List ℕ) (p : goodConfiguration limits body ≡ true) where
@@ -121,7 +114,7 @@ headLine body = line (67 ∷ []) (bConfigurationValue body ∷ bNumInterfaces bo
 
 pub configuration-lines : (limits : Limits) (body : List ℕ) → goodConfiguration limits body ≡ true → configurationLines body ≡ headLine body ++ descriptorLines body
 configuration-lines limits body p =
-    ap (λ (l : List ℕ). headLine body ++ l) (in-order body (behind-good limits (length body) (descriptorsOf (cut body)) (good-descriptors limits body p) .1))
+    ap (λ (l : List ℕ). headLine body ++ l) (in-order body (good-cut limits body p) (behind-good limits (length body) (descriptorsOf (cut body)) (good-descriptors limits body p) .1))
 
 -- ---- the configurations of a set, entry by entry
 by-entry : (set : List ℕ) (es : List Entry) → flatMap configurationLines (map (bodyOf set) (only (isKind 2) es)) ≡ flatMap (entryLines set) es

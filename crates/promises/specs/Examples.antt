@@ -1,5 +1,5 @@
 -- Sets to compute on: by their bytes, and by their pieces; the bench set S and the titrator T.
-use Prim.Native.Nat.{ℕ, zero, suc, _+_, _*_, _/_, _%_}
+use Prim.Native.Nat.{ℕ, zero, suc, _+_, _/_, _%_}
 use mathlib.Core.List.{List, [], _∷_, _++_, flatMap}
 use lib.ListN.{length}
 use Rattle.octets.specs.Sentences.{every, any, only, first, pairs, neighbours, below, from}
@@ -8,8 +8,10 @@ use Rattle.descriptors.specs.Interfaces.{grouped, endpointsOf, endsAt}
 use Rattle.descriptors.specs.Configuration.{goodDescriptors, goodConfiguration, groupsOf, configurationOf, configurationReferences, cleared}
 use Rattle.sets.specs.Contents.{entriesFrom, goodFrame, endToEnd, goodContents}
 use Rattle.sets.specs.Strings.{words, languages, references, goodStrings}
-use Rattle.sets.specs.Opening.{Board, goodDevices, numberedFrom, goodConfigurations, goodBlock, opening}
+use Rattle.sets.specs.Opening.{Board, lent, goodDevices, numberedFrom, goodConfigurations, goodBlock, opening}
 use Rattle.sets.specs.View.{viewOf}
+use Rattle.pieces.specs.Pieces.{Piece}
+use Rattle.pieces.specs.Laid.{contents, bodies, laid}
 use Rattle.records.specs.Image.{fourBytes, bytesOfFour, deviceOf, imageOf}
 use Rattle.records.specs.Fits.{fits}
 use Rattle.requests.specs.Table.{refusal}
@@ -27,31 +29,16 @@ bytesBefore (suc n) x rest = bytesBefore n (x / 256) (x % 256 ∷ rest)
 abbrev pub bytes : ℕ → ℕ → List ℕ
 bytes n x = bytesBefore n x []
 
--- ---- a set from its pieces, laid out as document 01 says
-pub record Piece : Type 0 where
-  pub kind : ℕ
-  pub index : ℕ
-  pub language : ℕ
-  pub body : List ℕ
-
+-- ---- a board of a set from its pieces
 abbrev pub piece : ℕ → ℕ → ℕ → List ℕ → Piece
 piece k i l b = record { kind = k; index = i; language = l; body = b }
 
+abbrev pub board : List Piece → List ℕ → Board
+board ps serial = lent (laid ps) serial
+
+-- the two bytes of a number
 abbrev pub two : ℕ → List ℕ
 two x = x % 256 ∷ x / 256 ∷ []
-
--- the entries of pieces whose first body begins at a place
-unfoldable pub entriesAt : ℕ → List Piece → List ℕ
-entriesAt at [] = []
-entriesAt at (p ∷ ps) = p .kind ∷ p .index ∷ two (p .language) ++ two at ++ two (length (p .body)) ++ entriesAt (at + length (p .body)) ps
-
-abbrev pub laid : List Piece → List ℕ
-laid ps =
-    let contents = entriesAt (4 + 8 * length ps) ps ++ flatMap (λ p. p .body) ps in
-    two (4 + length contents) ++ length ps ∷ 0 ∷ contents
-
-abbrev pub board : List Piece → List ℕ → Board
-board ps serial = record { set = laid ps; serial = serial }
 
 -- a configuration body: value, interfaces, its string, attributes, bMaxPower, and the descriptors after the first
 abbrev pub configuration : ℕ → ℕ → ℕ → ℕ → ℕ → List (List ℕ) → List ℕ
@@ -78,7 +65,7 @@ string text = (2 + length text) ∷ 3 ∷ text
 
 -- a statement that says `unfolding computed` computes with all the definitions
 unfoldable pub computed : ℕ
-unfolding every any only first pairs neighbours below from cutAfter descriptorsOf wellCut grouped endpointsOf endsAt goodDescriptors goodConfiguration groupsOf configurationOf configurationReferences cleared entriesFrom goodFrame endToEnd goodContents words languages references goodStrings goodDevices numberedFrom goodConfigurations goodBlock opening viewOf fourBytes bytesOfFour deviceOf imageOf fits refusal getStatus clearFeature setFeature setAddress locate getDescriptor getConfiguration setConfiguration getInterface setInterface request answerSetup statusEnd halt packetPassed step event opened concerns packet digits fields listing flatMap entriesAt
+unfolding every any only first pairs neighbours below from cutAfter descriptorsOf wellCut grouped endpointsOf endsAt goodDescriptors goodConfiguration groupsOf configurationOf configurationReferences cleared entriesFrom goodFrame endToEnd goodContents words languages references goodStrings goodDevices numberedFrom goodConfigurations goodBlock opening viewOf fourBytes bytesOfFour deviceOf imageOf fits refusal getStatus clearFeature setFeature setAddress locate getDescriptor getConfiguration setConfiguration getInterface setInterface request answerSetup statusEnd halt packetPassed step event opened concerns packet digits fields listing flatMap contents bodies laid
 computed = 0
 
 -- ---- the bench set S, byte for byte as document 01 prints it

@@ -6,7 +6,8 @@ use lib.ListN.{set, take, replicate}
 use Rattle.octets.specs.Sentences.{upTo}
 use Rattle.descriptors.specs.Limits.{fullSpeed}
 use Rattle.sets.specs.Opening.{Board, opening}
-use Rattle.promises.specs.Examples.{computed, Piece, piece, board, configuration, interface, endpoint, device, string, S, titratorDevice, titratorConfiguration, titratorStrings, titratorSerial, T}
+use Rattle.pieces.specs.Pieces.{Piece}
+use Rattle.promises.specs.Examples.{computed, piece, board, configuration, interface, endpoint, device, string, S, titratorDevice, titratorConfiguration, titratorStrings, titratorSerial, T}
 
 -- a board, and the number under which it opens
 pub record Example : Type 0 where

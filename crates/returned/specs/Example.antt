@@ -6,14 +6,15 @@ use lib.ListN.{take}
 use Rattle.promises.specs.Examples.{bytes, computed, S}
 use Rattle.pieces.specs.Laid.{contents, bodies, laid}
 use Rattle.dumps.specs.Dump.{flat, splitsAfter, bodiesAfter}
-use Rattle.dumps.specs.Zeroed.{blanked, namesAfter, zeroed}
+use Rattle.descriptors.specs.Walk.{walked}
+use Rattle.dumps.specs.Zeroed.{blanked, zeroed}
 use Rattle.dumps.specs.Imported.{numbered, imported}
 use Rattle.exporting.specs.Export.{exported, exporting}
 use Rattle.importing.specs.Import.{importing}
 
 -- a statement that says `unfolding parted` computes with the definitions of dumps
 unfoldable pub parted : ℕ
-unfolding flat splitsAfter bodiesAfter blanked namesAfter numbered contents bodies laid computed
+unfolding flat splitsAfter bodiesAfter walked blanked numbered contents bodies laid computed
 parted = 0
 
 -- the bench set's device and configuration, with references 1 to 5

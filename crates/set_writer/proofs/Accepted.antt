@@ -15,7 +15,7 @@ use Rattle.descriptors.specs.declared.Limits.{Limits}
 use Rattle.descriptors.specs.Limits.{named}
 use Rattle.sets.specs.declared.Entry.{Entry}
 use Rattle.sets.specs.Contents.{entries, before, total, bodiesAt, endToEnd, goodFrame, goodContents}
-use Rattle.sets.specs.Opening.{opening}
+use Rattle.sets.specs.Opening.{lent, opening}
 use Rattle.sets.specs.Found.{isAt}
 use Rattle.sets.proofs.Groups.{groups}
 use Rattle.pieces.specs.Pieces.{Piece, ends, pieces}
@@ -29,7 +29,7 @@ use Rattle.pieces.proofs.Precedes.{transitive, unlike}
 use Rattle.pieces.proofs.ReadBack.{read-back}
 use Rattle.pieces.proofs.Shuffled.{back}
 use Rattle.pieces.proofs.Sizes.{sorted-length}
-use Rattle.set_writer.specs.Writer.{setOf, lent, tooLarge, opensAs, handing, writing}
+use Rattle.set_writer.specs.Writer.{setOf, tooLarge, opensAs, handing, writing}
 
 -- ---- members of a list of images
 pub mapped : {A B : Type 0} (f : A → B) (xs : List A) {b : B} → List·Memᴰ b (map f xs) → (a : A) × List·Memᴰ a xs × (b ≡ f a)

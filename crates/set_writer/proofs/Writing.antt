@@ -13,7 +13,7 @@ use Rattle.octets.specs.Octets.{word}
 use Rattle.octets.specs.Sentences.{pick}
 use Rattle.octets.proofs.Sentences.{or-left, or-right}
 use Rattle.descriptors.specs.declared.Limits.{Limits}
-use Rattle.sets.specs.Opening.{opening}
+use Rattle.sets.specs.Opening.{lent, opening}
 use Rattle.pieces.specs.declared.Counted.the-variants.{Broken, Pieces}
 use Rattle.pieces.specs.Pieces.{Piece, ends, pieces}
 use Rattle.pieces.specs.Sorted.{sorted}
@@ -24,7 +24,7 @@ use Rattle.pieces.proofs.Sizes.{set-size}
 use Rattle.pieces.specs.Places.{countOf, piecesAt}
 use Rattle.writing.specs.Written as written
 use Rattle.set_writer.specs.declared.Report.{Report}
-use Rattle.set_writer.specs.Writer.{setOf, lent, tooLarge, Filled, lengthWritten}
+use Rattle.set_writer.specs.Writer.{setOf, tooLarge, Filled, lengthWritten}
 use Rattle.set_writer.specs.Reported.{Handed, Reported}
 
 abbrev pub answer : ℕ → ℕ → Report

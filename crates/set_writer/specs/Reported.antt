@@ -6,10 +6,10 @@ use mathlib.Core.List.{List}
 use lib.ListN.{length}
 use Rattle.octets.specs.Sentences.{pick}
 use Rattle.descriptors.specs.declared.Limits.{Limits}
-use Rattle.sets.specs.Opening.{opening}
+use Rattle.sets.specs.Opening.{lent, opening}
 use Rattle.pieces.specs.Pieces.{ends}
 use Rattle.set_writer.specs.declared.Report.{Report}
-use Rattle.set_writer.specs.Writer.{setOf, lent, tooLarge, handing, writing, Filled}
+use Rattle.set_writer.specs.Writer.{setOf, tooLarge, handing, writing, Filled}
 
 -- a set that is laid out, handed over
 pub record Handed (limits : Limits) (set serial buffer after : List ℕ) (r : Report) : Type 0 where

@@ -6,8 +6,9 @@ use mathlib.Core.Path.{_≡_, refl, sym, ap, _∙_}
 use mathlib.Core.List.{List, [], _∷_}
 use mathlib.Core.Bool.{Bool, true, false, _&&_, _||_, and-false}
 use mathlib.Core.Option.{some, none}
-use lib.Dec.{eqb, leb}
-use borrow.Author.Tests.{eq-eqb, ne-eqb}
+use lib.Dec.{eqb, leb, ltb}
+use borrow.Author.Tests.{eqb-true, eqb-false, ltb-true, ltb-false, lt-ltb, le-ltb, eq-eqb, ne-eqb}
+use Rattle.octets.proofs.Sentences.{cases}
 use lib.ListN.{length, take, drop, getElem?, length-drop, drop-of-length-le}
 use lib.Seq.{getD-take, drop-drop, take-all, take-nil}
 use Rattle.octets.specs.Octets.{byte, part}
@@ -127,20 +128,55 @@ module _ (kind : ℕ) (set : List ℕ) (n : ℕ) (p : n ≡ count set) (i : ℕ)
   pub kind-end : n ≤ i → restOf kind set i ≡ []
   kind-end h = ap (only (isKind kind)) (no-entry set n p i h) ∙ only-empty (isKind kind)
 
--- the k-th of those for which f holds: found, passed, or not one of them
-module _ {A : Type 0} (f : A → Bool) (x : A) (xs : List A) (k : ℕ) where
-  pub kth-here : f x ≡ true → k ≡ 0 → getElem? (only f (x ∷ xs)) k ≡ some x
-  kth-here p q = rw (only-here f x xs p, q)
+-- ---- the law of a loop over the entries: before the i-th, what is asked of all of them is asked of those from there on. n is what the code read
+-- for the count, e for the i-th entry
+module _ {A : Type 0} (asks : List Entry → A) {whole : A} (set : List ℕ) (n : ℕ) (p : n ≡ count set) (i : ℕ) (inv : whole ≡ asks (rest set i)) where
+  pub asked-next : i < n → (e : Entry) → e ≡ entryOf (drop (4 + 8 * i) set) → whole ≡ asks (e ∷ rest set (i + 1))
+  asked-next h e q = inv ∙ ap asks (next-entry set n p i h e q)
 
-  pub kth-passed : f x ≡ true → (k ≡ 0 → ⊥) → getElem? (only f (x ∷ xs)) k ≡ getElem? (only f xs) (k - 1)
-  kth-passed p q = rw (only-here f x xs p) (go k q)
-    where
-      go : (k : ℕ) → (k ≡ 0 → ⊥) → getElem? (x ∷ only f xs) k ≡ getElem? (only f xs) (k - 1)
-      go zero q = absurd (q refl)
-      go (suc k) q = let e : suc k - 1 ≡ k = omega arith in rw e
+  pub asked-end : n ≤ i → whole ≡ asks []
+  asked-end h = inv ∙ ap asks (no-entry set n p i h)
 
-  pub kth-other : f x ≡ false → getElem? (only f (x ∷ xs)) k ≡ getElem? (only f xs) k
-  kth-other p = rw (only-later f x xs p)
+-- the same of the entries of one type: this one is of it, or not, or none is left
+module _ {A : Type 0} (kind : ℕ) (asks : List Entry → A) {whole : A} (set : List ℕ) (n : ℕ) (p : n ≡ count set) (i : ℕ) (inv : whole ≡ asks (restOf kind set i)) where
+  pub asked-here : i < n → (e : Entry) → e ≡ entryOf (drop (4 + 8 * i) set) → e .kind ≡ kind → whole ≡ asks (e ∷ restOf kind set (i + 1))
+  asked-here h e q k = inv ∙ ap asks (kind-next kind set n p i h e q k)
+
+  pub asked-other : i < n → (e : Entry) → e ≡ entryOf (drop (4 + 8 * i) set) → (e .kind ≡ kind → ⊥) → whole ≡ asks (restOf kind set (i + 1))
+  asked-other h e q k = inv ∙ ap asks (kind-other kind set n p i h e q k)
+
+  pub asked-none : n ≤ i → whole ≡ asks []
+  asked-none h = inv ∙ ap asks (kind-end kind set n p i h)
+
+-- the k-th of a list: its head, or one behind it
+module _ {A : Type 0} (x : A) (xs : List A) where
+  pub kth-here : (k : ℕ) → k ≡ 0 → getElem? (x ∷ xs) k ≡ some x
+  kth-here k q = rw q
+
+  pub kth-passed : (k : ℕ) → (k ≡ 0 → ⊥) → getElem? (x ∷ xs) k ≡ getElem? xs (k - 1)
+  kth-passed zero q = absurd (q refl)
+  kth-passed (suc k) q = let e : suc k - 1 ≡ k = omega arith in rw e
+
+-- ---- the order by one number
+module _ (k l i k′ l′ i′ : ℕ) (hl : l < 65536) (hi : i < 256) (hl′ : l′ < 65536) (hi′ : i′ < 256) where
+  under : 16777216 * k + 256 * l + i < 16777216 * k′ + 256 * l′ + i′ → ltb (16777216 * k + 256 * l + i) (16777216 * k′ + 256 * l′ + i′) ≡ true
+  under = lt-ltb (16777216 * k + 256 * l + i) (16777216 * k′ + 256 * l′ + i′)
+
+  over : 16777216 * k′ + 256 * l′ + i′ ≤ 16777216 * k + 256 * l + i → ltb (16777216 * k + 256 * l + i) (16777216 * k′ + 256 * l′ + i′) ≡ false
+  over = le-ltb (16777216 * k + 256 * l + i) (16777216 * k′ + 256 * l′ + i′)
+
+  pub by-rank : ltb (16777216 * k + 256 * l + i) (16777216 * k′ + 256 * l′ + i′) ≡ (ltb k k′ || (eqb k k′ && (ltb l l′ || (eqb l l′ && ltb i i′))))
+  by-rank = cases (ltb k k′)
+      (λ p. let q = ltb-true k k′ p in rw p (under (omega arith)))
+      (λ p. let q = ltb-false k k′ p in rw p (cases (eqb k k′)
+      (λ r. let s = eqb-true k k′ r in rw r (cases (ltb l l′)
+      (λ t. let u = ltb-true l l′ t in rw t (under (omega arith)))
+      (λ t. let u = ltb-false l l′ t in rw t (cases (eqb l l′)
+      (λ v. let w = eqb-true l l′ v in rw v (cases (ltb i i′)
+      (λ x. let y = ltb-true i i′ x in rw x (under (omega arith)))
+      (λ x. let y = ltb-false i i′ x in rw x (over (omega arith)))))
+      (λ v. let w = eqb-false l l′ v in rw v (over (omega arith)))))))
+      (λ r. let s = eqb-false k k′ r in rw r (over (omega arith)))))
 
 -- ---- group 2, entry by entry
 unfoldable pub contentsFrom : Limits → ℕ → Bool → Entry → ℕ → List Entry → Bool

@@ -118,14 +118,14 @@ module _ (set : List ℕ) where
       go none p = rw (languages-of set p) (strings-none p)
 
   -- as it is asked of a table of what a reference may be, and of the configurations apart
-  pub strings-told : Bytes set → (zero names : List ℕ) (refer : Bool) → Read set zero names refer
-      → (refer && deviceRefers names (deviceBody set) && goodListed set (words (drop 2 zero))) ≡ goodStrings set
-  strings-told h zero names refer r =
-      rw (r .listed, r .told)
+  pub strings-told : Bytes set → (names : List ℕ) (refer good : Bool) → Read set names refer good → (refer && deviceRefers names (deviceBody set) && good) ≡ goodStrings set
+  strings-told h names refer good r = cases good
+      (λ p. rw (r .entries, r .told)
       (turned (every (configurationRefers names) (bodies 2 set)) (deviceRefers names (deviceBody set)) (goodListed set (languages set))
       ∙ ap (λ b. goodListed set (languages set) && b)
-      (sym (references-set (has names) set) ∙ references-alike set h (has names) (mayName set (languages set)) (λ j l. r .named j l ∙ rw (r .listed)))
-      ∙ strings-read)
+      (sym (references-set (has names) set) ∙ references-alike set h (has names) (mayName set (languages set)) (r .named p))
+      ∙ strings-read))
+      (λ p. rw (p, and-false) (rw (sym (r .entries) ∙ p) at strings-read))
     where
       turned : (c d g : Bool) → (c && d && g) ≡ (g && (d && c))
       turned true true g = sym (and-true g)

@@ -7,5 +7,6 @@ pub mod Entries
 pub mod GoodStrings
 pub mod Groups
 pub mod Lookups
+pub mod Passing
 pub mod References
 pub mod Strings

@@ -81,7 +81,7 @@ module _ (body : List ℕ) where
       rw (le-leb 1 (length (words (drop 2 body))) (omega arith), le-leb (length (words (drop 2 body))) 4 (omega arith)) (ascending (words (drop 2 body)))
 
 -- ---- the table of the indices that have a string in a language: one more entry
-any-only : {A : Type 0} (f g : A → Bool) (x : A) (xs : List A) → any f (only g (x ∷ xs)) ≡ ((g x && f x) || any f (only g xs))
+pub any-only : {A : Type 0} (f g : A → Bool) (x : A) (xs : List A) → any f (only g (x ∷ xs)) ≡ ((g x && f x) || any f (only g xs))
 unfolding any only
 any-only f g x xs = go (g x)
   where

@@ -1,20 +1,20 @@
 -- Working definitions for the contracts of the checks, rule by rule; no promise cites them.
-use Prim.Native.Nat.{ℕ, _<_}
+use Prim.Native.Nat.{ℕ, _≤_, _<_}
 use mathlib.Core.Path.{_≡_}
-use mathlib.Core.List.{List}
-use mathlib.Core.Bool.{Bool, _&&_, _||_, not}
-use lib.ListN.{length, drop}
+use mathlib.Core.List.{List, [], _∷_}
+use mathlib.Core.Bool.{Bool, true, _&&_, _||_, not}
+use lib.ListN.{length}
 use lib.Dec.{eqb, leb}
-use Rattle.octets.specs.Sentences.{pick, every}
+use Rattle.octets.specs.Sentences.{pick, every, neighbours}
 use Rattle.descriptors.specs.declared.Limits.{Limits}
 use Rattle.descriptors.specs.Limits.{named}
 use Rattle.descriptors.specs.Configuration.{bConfigurationValue, goodConfiguration}
 use Rattle.octets.specs.Table.{has}
 use Rattle.descriptors.specs.Check.{configurationRefers}
 use Rattle.sets.specs.declared.Entry.{Entry}
-use Rattle.sets.specs.Contents.{bodyOf, bodies, entriesOf, before}
+use Rattle.sets.specs.Contents.{bodyOf, bodies, bodiesAt, entries, entriesOf, before}
 use Rattle.sets.specs.Device.{deviceBody, iManufacturer, iProduct, iSerialNumber}
-use Rattle.sets.specs.Strings.{words, goodString, goodLanguages, languageZero, languages, listed, notSerial, goodReference}
+use Rattle.sets.specs.Strings.{goodString, goodLanguages, languageZero, languages, listed, notSerial, goodReference}
 
 -- an entry whose body has to begin at `start`, the first or after another
 abbrev pub goodEntry : Limits → Bool → Entry → ℕ → Entry → Bool
@@ -41,12 +41,26 @@ abbrev pub mayName : List ℕ → List ℕ → ℕ → Bool
 mayName set languages r =
     pick (goodLanguages languages) (goodReference languages (entriesOf 3 set) (iSerialNumber (deviceBody set)) r) (eqb r 0)
 
+-- a table of nothing
+abbrev pub noNames : List ℕ
+noNames = 0 ∷ 0 ∷ 0 ∷ 0 ∷ 0 ∷ 0 ∷ 0 ∷ 0 ∷ []
+
 -- the device's references are in a table
 abbrev pub deviceRefers : List ℕ → List ℕ → Bool
 deviceRefers names device = has names (iManufacturer device) && has names (iProduct device) && has names (iSerialNumber device)
 
--- what opening has read for group 5: string 0, the table of what a reference may be, and whether those of the configurations are in it
-pub record Read (set zero names : List ℕ) (refer : Bool) : Type 0 where
-  pub listed : words (drop 2 zero) ≡ languages set
-  pub named : (j : ℕ) → j < 256 → has names j ≡ mayName set (words (drop 2 zero)) j
+-- the contents are whole, and the entries ascend
+pub record Ordered (set : List ℕ) : Type 0 where
+  pub whole : bodiesAt set ≤ length set
+  pub sorted : neighbours before (entries set) ≡ true
+
+-- and so do the languages
+pub record Ascend (set languages : List ℕ) : Type 0 where
+  pub order : Ordered set
+  pub good : goodLanguages languages ≡ true
+
+-- what opening has read for group 5: whether the string entries are good, and then the table of what a reference may be, and whether those of the configurations are in it
+pub record Read (set names : List ℕ) (refer good : Bool) : Type 0 where
+  pub entries : good ≡ goodListed set (languages set)
+  pub named : good ≡ true → (j : ℕ) → j < 256 → has names j ≡ mayName set (languages set) j
   pub told : refer ≡ every (configurationRefers names) (bodies 2 set)

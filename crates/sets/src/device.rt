@@ -1,11 +1,14 @@
 // The device descriptor and the serial block. Groups 3 and 6.
 use crate::EntryFound;
 use crate::contents::body_of;
-use crate::contents::count_of;
+use crate::contents::count_whole;
 use crate::contents::entry_of;
 use descriptors::Limits;
 use octets::table::holds;
 ghost use mathlib.Core.Path.{_≡_};
+ghost use Prim.Native.Nat.{_≤_};
+ghost use lib.ListN.{length};
+ghost use Rattle.sets.specs.Contents.{bodiesAt};
 ghost use Rattle.sets.specs.Device.{goodDevice, deviceBody, iSerialNumber};
 ghost use Rattle.sets.specs.Opening.{goodDevices, goodSerial};
 ghost use Rattle.sets.specs.Checks.{deviceRefers};
@@ -35,16 +38,17 @@ pub fn device_body(set: &[u8]) -> &[u8]
     }
 }
 
-// Group 3.
+// Group 3, once the contents are whole.
 pub fn good_devices(set: &[u8], limits: Limits) -> bool
+    requires { ⌜ bodiesAt (now set) ≤ length (now set) ⌝ }
     ensures { λ r. ⌜ r ≡ goodDevices limits (now (set .entry)) ⌝ }
 {
-    if count_of(set, 1) != 1 {
+    if count_whole(set, 1) != 1 {
         return false;
     }
     match entry_of(set, 1, 0) {
         EntryFound::At(e) => {
-            let configurations = count_of(set, 2);
+            let configurations = count_whole(set, 2);
             (e.index == 0)
                 & (e.language == 0)
                 & good_device(body_of(set, e), configurations, limits)

@@ -1,9 +1,11 @@
 // The strings of a set. Group 5.
 use crate::Entry;
 use crate::EntryFound;
+use crate::Reading;
 use crate::contents::body_of;
 use crate::contents::count_of;
 use crate::contents::entry_at;
+use crate::contents::entry_whole;
 use crate::contents::find_entry;
 use crate::device::device_refers;
 use crate::device::serial_index;
@@ -11,14 +13,14 @@ use octets::table::holds;
 use octets::table::join;
 ghost use mathlib.Core.Path.{_≡_};
 ghost use Prim.Native.Nat.{ℕ, _<_};
-ghost use mathlib.Core.Bool.{_&&_, _||_};
+ghost use mathlib.Core.Bool.{true, _&&_, _||_};
 ghost use lib.ListN.{drop, getD};
-ghost use lib.Dec.{eqb};
-ghost use Rattle.octets.specs.Sentences.{any, every, member};
+ghost use lib.Dec.{eqb, ltb};
+ghost use Rattle.octets.specs.Sentences.{pick, any, every, member};
 ghost use Rattle.sets.specs.Contents.{entriesOf};
-ghost use Rattle.sets.specs.Strings.{words, isString, isStringZero, goodString, languageZero, notSerial, goodLanguages, languages, inEvery, goodStrings};
-ghost use Rattle.octets.specs.Table.{has};
-ghost use Rattle.sets.specs.Checks.{goodStringEntry, goodListed, mayName, Read};
+ghost use Rattle.sets.specs.Strings.{words, isString, isStringZero, goodString, languageZero, notSerial, goodLanguages, languages, inEvery, goodReference, goodStrings};
+ghost use Rattle.octets.specs.Table.{has, with};
+ghost use Rattle.sets.specs.Checks.{goodStringEntry, goodListed, mayName, noNames, Ordered, Ascend, Read};
 
 // String 0 lists one to four languages, nonzero and ascending.
 fn good_languages(body: &[u8]) -> bool
@@ -112,8 +114,8 @@ fn in_language(set: &[u8], language: u16, table: &[u32; 8]) -> [u32; 8]
     next
 }
 
-// The indices that have a string in every listed language; `languages` is string 0.
-fn in_every_language(set: &[u8], languages: &[u8]) -> [u32; 8]
+// The indices that have a string in every listed language, of any set: opening, which knows that the entries ascend, has them from one pass. `languages` is string 0.
+pub fn in_every_language(set: &[u8], languages: &[u8]) -> [u32; 8]
     ensures { λ r. ⌜ ((j : ℕ) → j < 256 → has r j ≡ inEvery (words (drop 2 (now (languages .entry)))) (entriesOf 3 (now (set .entry))) j) ⌝ }
 {
     let mut table = [4294967295u32; 8];
@@ -125,77 +127,139 @@ fn in_every_language(set: &[u8], languages: &[u8]) -> [u32; 8]
     table
 }
 
-// The numbers that a string reference may be; `languages` is string 0, and asked first, since the entries are read once for each language.
-pub fn names(set: &[u8], languages: &[u8]) -> [u32; 8]
-    ensures { λ r. ⌜ ((j : ℕ) → j < 256 → has r j ≡ mayName (now (set .entry)) (words (drop 2 (now (languages .entry)))) j) ⌝ }
-{
-    if good_languages(languages) {
-        let mut table = in_every_language(set, languages);
-        join(&mut table, serial_index(set));
-        join(&mut table, 0);
-        return table;
-    }
-    let mut none = [0u32; 8];
-    join(&mut none, 0);
-    none
-}
-
 // A string's body.
 fn good_string(body: &[u8]) -> bool
     ensures { λ r. ⌜ r ≡ goodString (now (body .entry)) ⌝ }
 {
     let size = body.len();
-    (octets::peek(body, 0) as usize == size)
-        & (octets::peek(body, 1) == 3)
-        & (size % 2 == 0)
-        & (size <= 254)
+    if octets::peek(body, 0) as usize != size {
+        return false;
+    }
+    if octets::peek(body, 1) != 3 {
+        return false;
+    }
+    (size % 2 == 0) & (size <= 254)
 }
 
-// A string entry, its body, and whether its language is listed.
+// A string entry, its body, and whether its language is listed. Each test ends it by itself: one after another they cost less than together.
 fn good_string_entry(body: &[u8], e: Entry, listed: bool, serial: u8) -> bool
     ensures { λ r. ⌜ r ≡ (goodString (now (body .entry)) && languageZero e && (isStringZero e || listed) && notSerial serial e) ⌝ }
 {
-    let index_zero = e.index == 0;
-    let language_zero = e.language == 0;
-    good_string(body)
-        & ((!language_zero | index_zero) & (!index_zero | language_zero))
-        & ((index_zero & language_zero) | listed)
-        & (!(1 <= serial) | !(e.index == serial))
+    if !good_string(body) {
+        return false;
+    }
+    if e.index == 0 {
+        return e.language == 0;
+    }
+    if e.language == 0 {
+        return false;
+    }
+    if e.index == serial {
+        return false;
+    }
+    listed
 }
 
-// Every string entry; `languages` is string 0.
-fn good_string_entries(set: &[u8], languages: &[u8], serial: u8) -> bool
-    ensures { λ r. ⌜ r ≡ every (goodStringEntry (now (set .entry)) (words (drop 2 (now (languages .entry)))) serial) (entriesOf 3 (now (set .entry))) ⌝ }
+// Whether string 0 lists a language, where it lists another; most often that is the same.
+fn lists_beside(body: &[u8], known: u16, language: u16) -> bool
+    requires { ⌜ member known (words (drop 2 (now body))) ≡ true ⌝ }
+    ensures { λ r. ⌜ r ≡ member language (words (drop 2 (now (body .entry)))) ⌝ }
+{
+    if known == language {
+        return true;
+    }
+    lists(body, language)
+}
+
+// Whether an entry is a string in a language after this one, where more are listed.
+fn is_later(e: Entry, language: u16, more: bool) -> bool
+    ensures { λ r. ⌜ r ≡ (eqb (e .kind) 3 && ltb language (e .language) && more) ⌝ }
+{
+    (e.kind == 3) & (language < e.language) & more
+}
+
+// What was seen in the last language that is listed: nothing, where more are listed than the entries came to.
+fn seen_last(next: [u32; 8], more: bool) -> [u32; 8]
+    ensures { λ r. ⌜ r ≡ pick more noNames next ⌝ }
+{
+    if more {
+        return [0u32; 8];
+    }
+    next
+}
+
+// A table with what a reference may be besides: the serial number's index, and 0.
+fn with_serial(names: [u32; 8], serial: u8) -> [u32; 8]
+    ensures { λ r. ⌜ r ≡ with (with names serial) 0 ⌝ }
+{
+    let mut table = names;
+    join(&mut table, serial);
+    join(&mut table, 0);
+    table
+}
+
+// The string entries, where string 0 lists good languages: whether they are good, and then what a reference may be. One pass, since the entries ascend by language and
+// so do the languages: `table` has the indices that every language before this one has, `next` those of them that were seen in this one.
+fn read_listed(set: &[u8], languages: &[u8], serial: u8) -> Reading
+    requires { ⌜ Ascend (now set) (words (drop 2 (now languages))) ⌝ }
+    ensures { λ r. ⌜ (r .good ≡ every (goodStringEntry (now (set .entry)) (words (drop 2 (now (languages .entry)))) serial) (entriesOf 3 (now (set .entry)))) × (r .good ≡ true → (j : ℕ) → j < 256 → has (r .names) j ≡ goodReference (words (drop 2 (now (languages .entry)))) (entriesOf 3 (now (set .entry))) serial j) ⌝ }
 {
     let count = octets::peek(set, 2);
+    let mut table = [4294967295u32; 8];
+    let mut next = [0u32; 8];
+    let mut at = 2;
+    let mut language = octets::word(languages, 2);
     let mut i: u8 = 0;
     while i < count {
-        let e = entry_at(set, i);
+        let e = entry_whole(set, i);
+        if is_later(e, language, at + 3 < languages.len()) {
+            at += 2;
+            language = octets::word(languages, at);
+            table = next;
+            next = [0u32; 8];
+            continue;
+        }
         i += 1;
         if e.kind == 3 {
-            let listed = lists(languages, e.language);
+            let listed = lists_beside(languages, language, e.language);
             if !good_string_entry(body_of(set, e), e, listed, serial) {
-                return false;
+                return Reading {
+                    good: false,
+                    names: next,
+                };
+            }
+            if is_listed(e, language, &table) {
+                join(&mut next, e.index);
             }
         }
     }
-    true
+    let seen = seen_last(next, at + 3 < languages.len());
+    Reading {
+        good: true,
+        names: with_serial(seen, serial),
+    }
 }
 
-// The string entries; `languages` is string 0, without which there is no string.
-fn good_listed_strings(set: &[u8], languages: &[u8]) -> bool
-    ensures { λ r. ⌜ r ≡ goodListed (now (set .entry)) (words (drop 2 (now (languages .entry)))) ⌝ }
+// The strings of a set; `languages` is string 0, without which there is no string.
+pub fn read(set: &[u8], languages: &[u8]) -> Reading
+    requires { ⌜ Ordered (now set) ⌝ }
+    ensures { λ r. ⌜ (r .good ≡ goodListed (now (set .entry)) (words (drop 2 (now (languages .entry))))) × (r .good ≡ true → (j : ℕ) → j < 256 → has (r .names) j ≡ mayName (now (set .entry)) (words (drop 2 (now (languages .entry)))) j) ⌝ }
 {
     if good_languages(languages) {
-        return good_string_entries(set, languages, serial_index(set));
+        return read_listed(set, languages, serial_index(set));
     }
-    count_of(set, 3) == 0
+    let mut none = [0u32; 8];
+    join(&mut none, 0);
+    Reading {
+        good: count_of(set, 3) == 0,
+        names: none,
+    }
 }
 
-// Group 5, once it is known whether the references of the configurations are in `names`.
-pub fn good_strings(set: &[u8], languages: &[u8], names: &[u32; 8], refer: bool) -> bool
-    requires { ⌜ Read (now set) (now languages) (now names) refer ⌝ }
+// Group 5, once the strings are read and it is known whether the references of the configurations are in `names`.
+pub fn good_strings(set: &[u8], good: bool, names: &[u32; 8], refer: bool) -> bool
+    requires { ⌜ Read (now set) (now names) refer good ⌝ }
     ensures { λ r. ⌜ r ≡ goodStrings (now (set .entry)) ⌝ }
 {
-    refer & device_refers(set, names) & good_listed_strings(set, languages)
+    refer & device_refers(set, names) & good
 }

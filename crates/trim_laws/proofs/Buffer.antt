@@ -18,14 +18,13 @@ use Rattle.sets.specs.Contents as sets
 use Rattle.sets.specs.Contents.{entries, bodies, goodFrame}
 use Rattle.sets.specs.Device.{deviceBody, iSerialNumber}
 use Rattle.sets.specs.Strings.{words, languagesIn, languages}
-use Rattle.sets.specs.Opening.{opening}
+use Rattle.sets.specs.Opening.{lent, opening}
 use Rattle.sets.specs.Found.{isAt}
 use Rattle.sets.proofs.Groups.{groups}
 use Rattle.sets.proofs.Strings.{string-zero}
 use Rattle.pieces.specs.Pieces.{Piece}
 use Rattle.pieces.specs.Laid.{total, laid}
 use Rattle.pieces.proofs.Laid.{laid-length}
-use Rattle.set_writer.specs.Writer.{lent}
 use Rattle.pieces.specs.Held.{pieceFor}
 use Rattle.pieces.proofs.Canonical.{canonical}
 use Rattle.pieces.proofs.Stream.{two-bytes}

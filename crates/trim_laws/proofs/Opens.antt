@@ -14,14 +14,13 @@ use Rattle.sets.specs.declared.Entry.{Entry}
 use Rattle.sets.specs.Contents.{entries, entriesOf, count, goodFrame, goodContents}
 use Rattle.sets.specs.Device.{deviceBody, iSerialNumber, goodDeviceEntries}
 use Rattle.sets.specs.Strings.{references, goodStrings}
-use Rattle.sets.specs.Opening.{Board, opening, goodDevices}
+use Rattle.sets.specs.Opening.{Board, lent, opening, goodDevices}
 use Rattle.sets.proofs.Groups.{Groups, groups}
 use Rattle.octets.specs.Octets.{Bytes}
 use Rattle.pieces.specs.Pieces.{Piece}
 use Rattle.pieces.specs.Sorted.{precedes}
 use Rattle.pieces.specs.Laid.{total, laid}
 use Rattle.pieces.proofs.Laid.{laid-length}
-use Rattle.set_writer.specs.Writer.{lent}
 use Rattle.pieces.specs.Held.{pieceFor, piecesIn}
 use Rattle.pieces.proofs.Canonical.{canonical}
 use Rattle.pieces.proofs.Ascending.{neighbours-ascend}

@@ -19,10 +19,9 @@ use Rattle.descriptors.specs.Configuration.{bConfigurationValue, goodConfigurat
 use Rattle.sets.specs.declared.Entry.{Entry}
 use Rattle.sets.specs.Contents.{entriesFrom, entries, bodies, entriesOf, before, count, total, bodiesAt, endToEnd, goodFrame, goodContents}
 use Rattle.sets.specs.Device.{deviceBody, iSerialNumber}
-use Rattle.sets.specs.Opening.{opening, numberedFrom, goodConfigurations}
+use Rattle.sets.specs.Opening.{opening, numberedFrom, goodConfigurations, lent}
 use Rattle.sets.proofs.Groups.{Groups, groups}
 use Rattle.pieces.specs.Laid.{laid}
-use Rattle.set_writer.specs.Writer.{lent}
 use Rattle.pieces.specs.Held.{pieceFor}
 use Rattle.keeping.specs.Keeping as keeping
 use Rattle.keeping.specs.Keeping.{walkable, keepsBy, tableNames, zeroStays}

@@ -7,10 +7,9 @@ use lib.Dec.{eqb}
 use Rattle.octets.specs.Sentences.{pick, only}
 use Rattle.descriptors.specs.declared.Limits.{Limits}
 use Rattle.sets.specs.Contents.{entries}
-use Rattle.sets.specs.Opening.{opening}
+use Rattle.sets.specs.Opening.{lent, opening}
 use Rattle.pieces.specs.Pieces.{Piece}
 use Rattle.pieces.specs.Laid.{laid}
-use Rattle.set_writer.specs.Writer.{lent}
 use Rattle.pieces.specs.Held.{pieceFor}
 use Rattle.keeping.specs.Keeping.{kept}
 

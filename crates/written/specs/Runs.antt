@@ -4,7 +4,7 @@ use mathlib.Core.Path.{_≡_, refl}
 use mathlib.Core.Bool.{true}
 use mathlib.Core.List.{List, reverse}
 use Rattle.descriptors.specs.Limits.{fullSpeed}
-use Rattle.sets.specs.Opening.{Board}
+use Rattle.sets.specs.Opening.{Board, lent}
 use Rattle.sets.specs.View.{viewOf}
 use Rattle.octets.specs.Octets.{Bytes}
 use Rattle.records.specs.declared.Device.{Device}
@@ -13,7 +13,7 @@ use Rattle.records.specs.Device.{Sized}
 use Rattle.events.specs.declared.Event.{Event}
 use Rattle.pieces.specs.Pieces.{streamOf}
 use Rattle.pieces.specs.Held.{piecesIn}
-use Rattle.set_writer.specs.Writer.{setOf, lent, writing}
+use Rattle.set_writer.specs.Writer.{setOf, writing}
 use Rattle.promises.specs.Keeps.{FitImage, Reached, reachedFits}
 use Rattle.promises.specs.Rearranged.{Rearranged, after, heard}
 use Rattle.promises.specs.Order.{order}

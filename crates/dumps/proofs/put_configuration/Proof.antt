@@ -1,22 +1,24 @@
--- `dumps::put_configuration` meets its contract: written, and the places from here on have still to be blanked. No axiom.
-use Prim.Native.Nat.{ℕ, _+_, _-_}
+-- `dumps::put_configuration` meets its contract: written, and the places that the walk has still to collect have still to be blanked. No axiom.
+use Prim.Native.Nat.{ℕ, _+_, _-_, _≤_}
 use native.Mathlib.Omega.{arith}
 use mathlib.Core.Path.{_≡_, refl}
-use mathlib.Core.Bool.{true}
-use mathlib.Core.List.{List, _∷_}
+use mathlib.Core.List.{List}
 use lib.ListN.{length}
-use Rattle.dumps.proofs.Blanking.{Blanking, begun, one, over, names, names-on, names-end}
+use Rattle.descriptors.specs.Walk.{before, collected}
+use Rattle.descriptors.proofs.Walk.{moved, collect-end, collect-stuck}
+use Rattle.dumps.specs.Zeroed.{nameAt}
+use Rattle.dumps.proofs.Blanking.{Blanking, one, none-past, names-on, finished}
 use borrow.Author.Needs.{needs}
 use Rattle.dumps.proofs.put_configuration.Statement.{statement}
 use Rattle.dumps.proofs.put_configuration.Tie as tie
 
 abbrev Inv-loop : tie.InvT-loop
-Inv-loop out₀ from body end at₀ out at =
+Inv-loop out₀ from body behind stand₀ at₀ out stand at =
     (length out ≡ length out₀) ×
-    ((start goal : List ℕ) → Blanking start from (length body) goal out₀ (names body 0) → Blanking start from (length body) goal out (names body at))
+    ((start goal : List ℕ) → Blanking start from (length body) goal out₀ (collected nameAt body before 0) → Blanking start from (length body) goal out (collected nameAt body stand at))
 
 abbrev μ-loop : tie.MeasureT-loop
-μ-loop out₀ from body end at₀ out at = length body - at
+μ-loop out₀ from body behind stand₀ at₀ out stand at = length body - at
 
 put-bytes-requires : tie.Need-put-bytes-requires Inv-loop μ-loop
 put-bytes-requires c κs = search needs
@@ -24,11 +26,40 @@ put-bytes-requires c κs = search needs
 blank-requires : tie.Need-blank-requires Inv-loop μ-loop
 blank-requires c κs = search needs
 
-loop-holds : tie.Need-loop-holds Inv-loop μ-loop
-loop-holds c = (refl, λ start goal b. b)
+outside-requires : tie.Need-outside-requires Inv-loop μ-loop
+outside-requires c κs = search needs
 
-shared-slice-read-size : tie.Need-shared-slice-read-size Inv-loop μ-loop
-shared-slice-read-size c = search needs
+loop-holds : tie.Need-loop-holds Inv-loop μ-loop
+loop-holds c = (refl, λ start goal b. rw (c .outside .ensures) b)
+
+advance-requires : tie.Need-advance-requires Inv-loop μ-loop
+advance-requires c κs = search needs
+
+same-length : tie.Need-same-length Inv-loop μ-loop
+same-length c = search needs
+
+returns : tie.Need-returns Inv-loop μ-loop
+returns c =
+    let l = c .before .before .before .loop in
+    let body = c .before .before .before .before .before .before .before .before .before .before .before .before .before .before .before .args .body .now in
+    finished _ _ (c .before .before .before .before .before .before .before .before .before .before .before .put-bytes .ensures) (c .before .before .before .before .before .before .before .blank .ensures) (l .inv .1)
+    (collect-stuck nameAt none-past body (l .stand) (l .at) (c .before .advance .ensures) (c .before .before .loop-test .taken) (c .if1 .taken))
+
+-- the descriptor at hand ends inside the body
+inside : (c : tie.Else1 Inv-loop μ-loop) → c .before .advance .result .end ≤ length (c .before .before .before .before .before .before .before .before .before .before .before .before .before .before .before .args .body .now)
+inside c =
+    let l = c .before .before .before .loop in
+    let e = c .before .advance .ensures in
+    rw e (moved (c .before .before .before .before .before .before .before .before .before .before .before .before .before .before .before .args .body .now) (l .at) (l .stand) (c .before .before .loop-test .taken) (rw e at (c .if1 .left)) .inside)
+
+sub-has-name : tie.Need-sub-has-name Inv-loop μ-loop
+sub-has-name c = search needs
+
+part-has-name-start : tie.Need-part-has-name-start Inv-loop μ-loop
+part-has-name-start c = search needs
+
+part-has-name-end : tie.Need-part-has-name-end Inv-loop μ-loop
+part-has-name-end c = inside c
 
 has-name-requires : tie.Need-has-name-requires Inv-loop μ-loop
 has-name-requires c κs = search needs
@@ -39,35 +70,28 @@ add-blank c = search needs
 blank-requires-2 : tie.Need-blank-requires-2 Inv-loop μ-loop
 blank-requires-2 c κs = search needs
 
-stride-requires : tie.Need-stride-requires Inv-loop μ-loop
-stride-requires c κs = search needs
-
-add-at : tie.Need-add-at Inv-loop μ-loop
-add-at c = search needs
-
 loop-less : tie.Need-loop-less Inv-loop μ-loop
-loop-less c = search needs
+loop-less c = let w = c .before .before .before .before .before .before .before in omega (arith, inside w, w .if1 .left, w .before .before .loop-test .taken)
 
 loop-again : tie.Need-loop-again Inv-loop μ-loop
 loop-again c =
-    let body = c .before .before .before .before .before .before .before .before .before .before .before .before .before .before .before .before .before .before .before .args .body .now in
-    let s = c .before .before .before .before .before .before .before .before .loop in
-    let e = names-on body (s .at) (c .before .before .before .before .before .before .before .loop-test .taken) _ (c .before .before .before .before .before .has-name .ensures) _ (c .stride .ensures .0) in (
-      omega (arith, s .inv .0),
-      λ start goal b. one (s .at + 8) (c .before .before .before .before .before .has-name .result) (c .before .before .before .blank2 .ensures) (rw e at (s .inv .1 start goal b)),
+    let w = c .before .before .before .before .before .before .before in
+    let body = w .before .before .before .before .before .before .before .before .before .before .before .before .before .before .before .args .body .now in
+    let l = w .before .before .before .loop in
+    let s = w .before .advance in
+    let named = c .before .before .before .before .before .has-name in
+    let e = names-on body (l .stand) (l .at) (s .ensures) (w .before .before .loop-test .taken) (w .if1 .left) (named .result) (named .ensures) in (
+      omega (arith, l .inv .0),
+      λ start goal b. one (l .at + 8) (named .result) (c .before .before .before .blank2 .ensures) (rw e at (l .inv .1 start goal b)),
     )
 
-same-length : tie.Need-same-length Inv-loop μ-loop
-same-length c = search needs
+same-length-2 : tie.Need-same-length-2 Inv-loop μ-loop
+same-length-2 c = search needs
 
-returns : tie.Need-returns Inv-loop μ-loop
-returns c =
-    let a = c .before .before .before .before .before .before .before .before .before .before .before .before .args in
-    let body = a .body .now in
-    let s = c .before .loop in
-    let w = c .before .before .before .before .before .before .before .before .put-bytes .ensures in
-    let b = one 6 true (c .before .before .before .before .blank .ensures) (begun (6 ∷ names body 0) w) in
-    over (w .place) (rw (names-end body (s .at) (c .loop-test .left)) at (s .inv .1 _ _ b))
+returns-2 : tie.Need-returns-2 Inv-loop μ-loop
+returns-2 c =
+    let l = c .before .loop in
+    finished _ _ (c .before .before .before .before .before .before .before .before .before .put-bytes .ensures) (c .before .before .before .before .before .blank .ensures) (l .inv .1) (collect-end nameAt (c .before .before .before .before .before .before .before .before .before .before .before .before .before .args .body .now) (l .stand) (l .at) (c .loop-test .left))
 
 pub put-configuration-spec : {M : Type 1} → statement M
 put-configuration-spec =
@@ -77,14 +101,18 @@ put-configuration-spec =
     μ-loop
     put-bytes-requires
     blank-requires
+    outside-requires
     loop-holds
-    shared-slice-read-size
+    advance-requires
+    same-length
+    returns
+    sub-has-name
+    part-has-name-start
+    part-has-name-end
     has-name-requires
     add-blank
     blank-requires-2
-    stride-requires
-    add-at
     loop-less
     loop-again
-    same-length
-    returns)
+    same-length-2
+    returns-2)

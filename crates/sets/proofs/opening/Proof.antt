@@ -7,6 +7,7 @@ use Rattle.descriptors.proofs.CheckReferences.{told}
 use Rattle.sets.specs.Contents.{goodFrame, goodContents}
 use Rattle.sets.specs.Strings.{goodStrings}
 use Rattle.sets.specs.Opening.{lent, goodDevices, goodConfigurations, goodBlock, opening}
+use Rattle.sets.proofs.Passing.{frame-whole, ordered}
 use borrow.Author.Needs.{needs}
 use Rattle.sets.proofs.opening.Statement.{statement}
 use Rattle.sets.proofs.opening.Tie as tie
@@ -22,11 +23,11 @@ devices : (c : tie.Else3) → let a = c .before .before .before .before .before 
 devices c = sym (c .before .good-devices .ensures) ∙ not-false (c .before .good-devices .result) (c .if3 .left)
 
 configurations : (c : tie.Else4)
-    → let a = c .before .before .before .before .before .before .before .before .before .before .before .before .before .before .args in goodConfigurations (a .limits) (a .set .now) ≡ true
+    → let a = c .before .before .before .before .before .before .before .before .before .before .before .before .before .before .before .args in goodConfigurations (a .limits) (a .set .now) ≡ true
 configurations c = let v = c .before .before .good-configurations in sym (ap (λ v. v .good) (v .ensures)) ∙ not-false (v .result .good) (c .if4 .left)
 
 strings : (c : tie.Else5)
-    → goodStrings (c .before .before .before .before .before .before .before .before .before .before .before .before .before .before .before .before .before .args .set .now) ≡ true
+    → goodStrings (c .before .before .before .before .before .before .before .before .before .before .before .before .before .before .before .before .before .before .args .set .now) ≡ true
 strings c = sym (c .before .good-strings .ensures) ∙ not-false (c .before .good-strings .result) (c .if5 .left)
 
 good-frame-requires : tie.Need-good-frame-requires
@@ -37,14 +38,14 @@ unfolding opening
 returns c = rw (sym (c .before .good-frame .ensures) ∙ not-true (c .before .good-frame .result) (c .if1 .taken))
 
 good-contents-requires : tie.Need-good-contents-requires
-good-contents-requires c κs = search needs
+good-contents-requires c κs = frame-whole _ (frame c)
 
 returns-2 : tie.Need-returns-2
 unfolding opening
 returns-2 c = rw (frame (c .before .before), sym (c .before .good-contents .ensures) ∙ not-true (c .before .good-contents .result) (c .if2 .taken))
 
 good-devices-requires : tie.Need-good-devices-requires
-good-devices-requires c κs = search needs
+good-devices-requires c κs = frame-whole _ (frame (c .before .before))
 
 returns-3 : tie.Need-returns-3
 unfolding opening
@@ -53,8 +54,8 @@ returns-3 c = let g = c .before .before in rw (frame (g .before .before), conten
 string-zero-requires : tie.Need-string-zero-requires
 string-zero-requires c κs = search needs
 
-names-requires : tie.Need-names-requires
-names-requires c κs = search needs
+read-requires : tie.Need-read-requires
+read-requires c κs = ordered _ _ (frame (c .before .before .before .before .before)) (contents (c .before .before .before))
 
 good-configurations-requires : tie.Need-good-configurations-requires
 good-configurations-requires c κs = search needs
@@ -62,7 +63,7 @@ good-configurations-requires c κs = search needs
 returns-4 : tie.Need-returns-4
 unfolding opening
 returns-4 c =
-    let g = c .before .before .before .before .before .before in
+    let g = c .before .before .before .before .before .before .before in
     let v = c .before .before .good-configurations in
     rw (
       frame (g .before .before .before .before),
@@ -75,9 +76,10 @@ good-strings-requires : tie.Need-good-strings-requires
 good-strings-requires c κs =
     let g = c .before in
     let v = g .before .before .good-configurations in
+    let l = g .before .before .before .before .before .before .string-zero .ensures in
     record {
-      listed = g .before .before .before .before .before .string-zero .ensures;
-      named = g .before .before .before .before .names .ensures;
+      entries = rw l at (g .before .before .before .before .before .read .ensures .0);
+      named = λ p j q. rw l at (g .before .before .before .before .before .read .ensures .1 p j q);
       told = told (v .result) _ _ (v .ensures) (not-false (v .result .good) (g .if4 .left));
     }
 
@@ -85,7 +87,7 @@ returns-5 : tie.Need-returns-5
 unfolding opening
 returns-5 c =
     let g = c .before .before .before in
-    let d = g .before .before .before .before .before .before in
+    let d = g .before .before .before .before .before .before .before in
     rw (
       frame (d .before .before .before .before),
       contents (d .before .before),
@@ -102,16 +104,16 @@ good-serial-requires c κs = search needs
 
 -- all but the serial block is good
 met : (c : tie.Else5) {b : Bool}
-    → let a = c .before .before .before .before .before .before .before .before .before .before .before .before .before .before .before .before .before .args in
+    → let a = c .before .before .before .before .before .before .before .before .before .before .before .before .before .before .before .before .before .before .args in
     goodBlock (a .set .now) (a .serial .now) ≡ b → pick (not b) 6 0 ≡ opening (a .limits) (lent (a .set .now) (a .serial .now))
 unfolding opening
 met c p =
     let g = c .before .before .before in
-    let d = g .before .before .before .before .before .before in
+    let d = g .before .before .before .before .before .before .before in
     rw (frame (d .before .before .before .before), contents (d .before .before), devices d, configurations g, strings c, p)
 
 block : (c : tie.After-good-serial)
-    → let a = c .before .before .before .before .before .before .before .before .before .before .before .before .before .before .before .before .before .before .before .args in
+    → let a = c .before .before .before .before .before .before .before .before .before .before .before .before .before .before .before .before .before .before .before .before .args in
     goodBlock (a .set .now) (a .serial .now) ≡ c .good-serial .result
 unfolding goodBlock
 block c = sym (rw (c .before .serial-index .ensures) at (c .good-serial .ensures))
@@ -133,7 +135,7 @@ opening-spec =
     good-devices-requires
     returns-3
     string-zero-requires
-    names-requires
+    read-requires
     good-configurations-requires
     returns-4
     good-strings-requires

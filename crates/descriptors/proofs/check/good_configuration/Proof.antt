@@ -8,10 +8,9 @@ use lib.Seq.{length-take-le}
 use Rattle.octets.specs.Sentences.{every}
 use Rattle.octets.specs.Table.{has}
 use Rattle.descriptors.specs.Cut.{cut}
-use Rattle.descriptors.specs.Walk.{before, stepOf, walked}
-use Rattle.descriptors.specs.Check.{beginning, checking, interfaceRefers}
+use Rattle.descriptors.specs.Walk.{before, stepOf, walked, collected}
+use Rattle.descriptors.specs.Check.{beginning, checking, referring}
 use Rattle.descriptors.specs.Configuration.{bNumInterfaces, iConfiguration, goodConfiguration}
-use Rattle.descriptors.proofs.Ahead.{ahead}
 use Rattle.descriptors.proofs.CheckWhole.{check-none, head-inside, check-head}
 use Rattle.descriptors.proofs.CheckReferences.{references-behind, refused, with-more}
 use borrow.Author.Needs.{needs}
@@ -78,7 +77,7 @@ returns-2 c =
       references-behind (has (a .names .now)) body _ (stepped (w .before)) (went w),
     )
     (with-more (c .before .before .before .good-rest .result) (walked (checking (a .limits) (bNumInterfaces (take end body))) beginning before (cut (drop end body)))
-    (every (interfaceRefers (a .names .now)) (ahead body end)) (has (a .names .now) (iConfiguration body)) (rw (c .before .before .before .before .peek .ensures) at (c .before .before .before .good-rest .ensures)))
+    (every (has (a .names .now)) (collected referring body before end)) (has (a .names .now) (iConfiguration body)) (rw (c .before .before .before .before .peek .ensures) at (c .before .before .before .good-rest .ensures)))
 
 refuse-requires-2 : tie.Need-refuse-requires-2
 refuse-requires-2 c κs = search needs

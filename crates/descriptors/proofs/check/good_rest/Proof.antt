@@ -6,11 +6,11 @@ use mathlib.Core.Bool.{_&&_}
 use lib.ListN.{length, drop}
 use borrow.Author.Needs.{needs}
 use Rattle.octets.specs.Sentences.{every}
+use Rattle.octets.specs.Table.{has}
 use Rattle.descriptors.specs.Cut.{cut}
-use Rattle.descriptors.specs.Walk.{before, walked}
-use Rattle.descriptors.specs.Check.{beginning, checking, interfaceRefers}
+use Rattle.descriptors.specs.Walk.{before, walked, collected}
+use Rattle.descriptors.specs.Check.{beginning, checking, referring}
 use Rattle.descriptors.proofs.Walk.{Walking, walk-inside, walk-stop, walk-on, walk-end}
-use Rattle.descriptors.proofs.Ahead.{ahead}
 use Rattle.descriptors.proofs.CheckWhole.{check-stuck}
 use Rattle.descriptors.proofs.CheckReferences.{asked-all, asked-on, refused}
 use Rattle.descriptors.proofs.check.good_rest.Statement.{statement}
@@ -19,7 +19,7 @@ use Rattle.descriptors.proofs.check.good_rest.Tie as tie
 abbrev Inv-loop : tie.InvT-loop
 Inv-loop body from interfaces limits names progress₀ refers₀ last₀ at₀ progress refers last at =
     Walking (checking limits interfaces) body (walked (checking limits interfaces) beginning before (cut (drop from body))) progress last at
-    × (every (interfaceRefers names) (ahead body from) ≡ (refers && every (interfaceRefers names) (ahead body at)))
+    × (every (has names) (collected referring body before from) ≡ (refers && every (has names) (collected referring body last at)))
 
 abbrev μ-loop : tie.MeasureT-loop
 μ-loop body from interfaces limits names progress₀ refers₀ last₀ at₀ progress refers last at = length body - at
@@ -36,7 +36,7 @@ outside-requires : tie.Need-outside-requires Inv-loop μ-loop
 outside-requires c κs = search needs
 
 loop-holds : tie.Need-loop-holds Inv-loop μ-loop
-loop-holds c = (record { rest = rw (c .before .start .ensures, c .outside .ensures) }, refl)
+loop-holds c = (record { rest = rw (c .before .start .ensures, c .outside .ensures) }, rw (c .outside .ensures))
 
 advance-requires : tie.Need-advance-requires Inv-loop μ-loop
 advance-requires c κs = search needs
@@ -103,7 +103,7 @@ loop-again c =
       walk-on (l .inv .0) (s .ensures) (w .before .before .loop-test .taken) (w .if1 .left)
           (rw (sym (c .before .before .before .before .before .before .is-allowed .ensures) ∙ c .before .before .before .before .before .if2 .taken)) (c .before .before .before .move-on .ensures),
       rw (c .before .still-refers .ensures)
-          (asked-on (interfaceRefers (a .names .now)) (a .body .now) (l .at) (l .refers) _ (l .inv .1) (l .last) (s .result) (s .ensures) (w .before .before .loop-test .taken) (w .if1 .left)),
+          (asked-on (has (a .names .now)) (a .body .now) (l .last) (l .at) (l .refers) _ (l .inv .1) (s .result) (s .ensures) (w .before .before .loop-test .taken) (w .if1 .left)),
     )
 
 refuse-requires-2 : tie.Need-refuse-requires-2 Inv-loop μ-loop
@@ -125,7 +125,7 @@ returns-3 c =
     let a = c .before .before .before .before .before .before .args in
     let l = c .before .before .loop in
     rw (
-      asked-all (interfaceRefers (a .names .now)) (a .body .now) (l .at) (l .refers) _ (l .inv .1) (c .before .loop-test .left),
+      asked-all (has (a .names .now)) (a .body .now) (l .last) (l .at) (l .refers) _ (l .inv .1) (c .before .loop-test .left),
       ← walk-end (l .inv .0) (c .before .loop-test .left),
       ← c .may-end .ensures,
     )

@@ -7,9 +7,9 @@ use borrow.Author.Needs.{needs}
 use Rattle.descriptors.specs.Cut.{cut}
 use Rattle.descriptors.specs.Walk.{before, walked}
 use Rattle.descriptors.specs.Seek.{Seek, seeking}
-use Rattle.descriptors.proofs.Walk.{spanned, Walking, walk-stop, walk-on, walk-end}
+use Rattle.descriptors.proofs.Walk.{spanned, span-length, Walking, walk-stop, walk-on, walk-end}
 use Rattle.descriptors.proofs.Ahead.{Place, at-first, steps, turn}
-use Rattle.descriptors.proofs.CurrentEndpoints.{stops, passes, goes-on, span-length, finds}
+use Rattle.descriptors.proofs.CurrentEndpoints.{stops, passes, goes-on, finds}
 use Rattle.descriptors.proofs.endpoints.find.Statement.{statement}
 use Rattle.descriptors.proofs.endpoints.find.Tie as tie
 

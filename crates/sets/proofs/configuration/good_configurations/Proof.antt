@@ -1,8 +1,8 @@
 -- `sets::configuration::good_configurations` meets its contract: what is asked of all configurations is asked of those left. No axiom.
-use Prim.Native.Nat.{_+_, _-_, _≤_, _<_}
+use Prim.Native.Nat.{_-_, _≤_, _<_}
 use native.Mathlib.Omega.{arith}
 use mathlib.Core.Bool.{_&&_, and-true, and-assoc}
-use mathlib.Core.List.{[], _∷_, map}
+use mathlib.Core.List.{map}
 use mathlib.Core.Path.{_≡_, refl, sym, ap, _∙_}
 use lib.ListN.{length}
 use borrow.Author.Needs.{needs}
@@ -17,7 +17,7 @@ use Rattle.sets.specs.Contents.{bodyOf, bodies, isKind}
 use Rattle.sets.specs.Checks.{goodNumbered}
 use Rattle.sets.specs.Opening.{goodConfigurations}
 use Rattle.sets.proofs.Configurations.{goodFrom, good-start, good-end, good-more}
-use Rattle.sets.proofs.Entries.{rest-start, restOf, kind-next, kind-other, kind-end, every-cons, every-empty}
+use Rattle.sets.proofs.Entries.{rest-start, restOf, asked-here, asked-other, asked-none, every-cons, every-empty}
 use Rattle.sets.proofs.configuration.good_configurations.Statement.{statement}
 use Rattle.sets.proofs.configuration.good_configurations.Tie as tie
 
@@ -28,25 +28,6 @@ Inv-loop set limits names count index₀ seen₀ refers₀ i₀ index seen refer
 
 abbrev μ-loop : tie.MeasureT-loop
 μ-loop set limits names count index₀ seen₀ refers₀ i₀ index seen refers i = count - i
-
--- the configurations from here on, where this entry is one, where it is not, and where no entry is left
-turn : (c : tie.After-entry-at Inv-loop μ-loop) → c .entry-at .result .kind ≡ 2
-    → restOf 2 (c .before .before .before .before .before .args .set .now) (c .before .before .loop .i)
-    ≡ c .entry-at .result ∷ restOf 2 (c .before .before .before .before .before .args .set .now) (c .before .before .loop .i + 1)
-turn c =
-    kind-next 2 (c .before .before .before .before .before .args .set .now) (c .before .before .before .peek .result) (c .before .before .before .peek .ensures)
-    (c .before .before .loop .i) (c .before .loop-test .taken) (c .entry-at .result) (c .entry-at .ensures)
-
-pass : (c : tie.After-entry-at Inv-loop μ-loop) → (c .entry-at .result .kind ≡ 2 → ⊥)
-    → restOf 2 (c .before .before .before .before .before .args .set .now) (c .before .before .loop .i)
-    ≡ restOf 2 (c .before .before .before .before .before .args .set .now) (c .before .before .loop .i + 1)
-pass c =
-    kind-other 2 (c .before .before .before .before .before .args .set .now) (c .before .before .before .peek .result) (c .before .before .before .peek .ensures)
-    (c .before .before .loop .i) (c .before .loop-test .taken) (c .entry-at .result) (c .entry-at .ensures)
-
-end : (c : tie.After-loop Inv-loop μ-loop) → restOf 2 (c .before .before .before .before .args .set .now) (c .before .loop .i) ≡ []
-end c =
-    kind-end 2 (c .before .before .before .before .args .set .now) (c .before .before .peek .result) (c .before .before .peek .ensures) (c .before .loop .i) (c .loop-test .left)
 
 -- a value is a byte
 small : (c : tie.After-peek2 Inv-loop μ-loop) → bConfigurationValue (bodyOf (c .before .before .before .before .before .before .before .before .before .args .set .now) (c .before .before .before .before .entry-at .result)) < 256
@@ -105,8 +86,7 @@ returns c =
     c .refuse .ensures
     ∙ refused _
     (sym
-    (l .inv .2
-    ∙ ap (goodFrom (a .limits) (a .set .now) (l .index) (l .seen)) (turn s (c .before .before .before .before .before .before .before .before .if1 .taken))
+    (asked-here 2 (goodFrom (a .limits) (a .set .now) (l .index) (l .seen)) (a .set .now) _ (s .before .before .before .peek .ensures) (l .i) (l .inv .2) (s .before .loop-test .taken) _ (s .entry-at .ensures) (c .before .before .before .before .before .before .before .before .if1 .taken)
     ∙ good-more (a .limits) (a .set .now) (l .index) (l .seen) (s .entry-at .result) _ (small (c .before .before .before .before .before .before)) (l .inv .1)
     ∙ rw (sym (ap (λ v. v .good) (asked v)), not-true (v .good-configuration-entry .result .good) (c .before .if2 .taken))))
 
@@ -125,17 +105,16 @@ loop-again c =
     let s = v .before .before .before .before .before .before .before in
     let a = s .before .before .before .before .before .args in
     let l = s .before .before .loop in
-    let next = turn s (c .before .before .before .before .before .before .before .before .before .before .if1 .taken) in
+    let kind = c .before .before .before .before .before .before .before .before .before .before .if1 .taken in
     let good = not-false (v .good-configuration-entry .result .good) (c .before .before .before .if2 .left) in
     let f = configurationRefers (a .names .now) in (
       omega arith,
       rw (c .join .ensures) (with-long (l .seen) _ (l .inv .1)),
-      l .inv .2
-          ∙ ap (goodFrom (a .limits) (a .set .now) (l .index) (l .seen)) next
+      asked-here 2 (goodFrom (a .limits) (a .set .now) (l .index) (l .seen)) (a .set .now) _ (s .before .before .before .peek .ensures) (l .i) (l .inv .2) (s .before .loop-test .taken) _ (s .entry-at .ensures) kind
           ∙ good-more (a .limits) (a .set .now) (l .index) (l .seen) (s .entry-at .result) _ (small (v .before .before .before)) (l .inv .1)
           ∙ rw (sym (ap (λ v. v .good) (asked v)), good, c .join .ensures, v .before .before .before .peek2 .ensures, v .before .before .before .before .body-of .ensures),
       rw (told (v .good-configuration-entry .result) _ (f (bodyOf (a .set .now) (s .entry-at .result))) (asked v) good)
-          (l .inv .3 ∙ ap (λ es. l .refers && every f (map (bodyOf (a .set .now)) es)) next ∙ rw every-cons (sym (and-assoc (l .refers) _ _))),
+          (asked-here 2 (λ es. l .refers && every f (map (bodyOf (a .set .now)) es)) (a .set .now) _ (s .before .before .before .peek .ensures) (l .i) (l .inv .3) (s .before .loop-test .taken) _ (s .entry-at .ensures) kind ∙ rw every-cons (sym (and-assoc (l .refers) _ _))),
     )
 
 loop-less-2 : tie.Need-loop-less-2 Inv-loop μ-loop
@@ -146,11 +125,11 @@ loop-again-2 c =
     let s = c .before .before in
     let a = s .before .before .before .before .before .args in
     let l = s .before .before .loop in
-    let next = pass s (c .if1 .left) in (
+    let f = configurationRefers (a .names .now) in (
       omega arith,
       l .inv .1,
-      l .inv .2 ∙ ap (goodFrom (a .limits) (a .set .now) (l .index) (l .seen)) next,
-      l .inv .3 ∙ ap (λ es. l .refers && every (configurationRefers (a .names .now)) (map (bodyOf (a .set .now)) es)) next,
+      asked-other 2 (goodFrom (a .limits) (a .set .now) (l .index) (l .seen)) (a .set .now) _ (s .before .before .before .peek .ensures) (l .i) (l .inv .2) (s .before .loop-test .taken) _ (s .entry-at .ensures) (c .if1 .left),
+      asked-other 2 (λ es. l .refers && every f (map (bodyOf (a .set .now)) es)) (a .set .now) _ (s .before .before .before .peek .ensures) (l .i) (l .inv .3) (s .before .loop-test .taken) _ (s .entry-at .ensures) (c .if1 .left),
     )
 
 returns-2 : tie.Need-returns-2 Inv-loop μ-loop
@@ -158,8 +137,8 @@ returns-2 c =
     let a = c .before .before .before .before .args in
     let l = c .before .loop in
     let f = configurationRefers (a .names .now) in
-    let good = l .inv .2 ∙ ap (goodFrom (a .limits) (a .set .now) (l .index) (l .seen)) (end c) ∙ good-end (a .limits) (a .set .now) (l .index) (l .seen) in
-    let refer = l .inv .3 ∙ ap (λ es. l .refers && every f (map (bodyOf (a .set .now)) es)) (end c) ∙ ap (λ b. l .refers && b) (every-empty f) ∙ and-true (l .refers) in
+    let good = asked-none 2 (goodFrom (a .limits) (a .set .now) (l .index) (l .seen)) (a .set .now) _ (c .before .before .peek .ensures) (l .i) (l .inv .2) (c .loop-test .left) ∙ good-end (a .limits) (a .set .now) (l .index) (l .seen) in
+    let refer = asked-none 2 (λ es. l .refers && every f (map (bodyOf (a .set .now)) es)) (a .set .now) _ (c .before .before .peek .ensures) (l .i) (l .inv .3) (c .loop-test .left) ∙ ap (λ b. l .refers && b) (every-empty f) ∙ and-true (l .refers) in
     rw (good, refer)
 
 pub good-configurations-spec : {M : Type 1} → statement M

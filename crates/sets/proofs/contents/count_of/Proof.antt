@@ -2,34 +2,20 @@
 use Prim.Native.Nat.{_+_, _-_, _≤_}
 use native.Mathlib.Nat.{zero-add}
 use native.Mathlib.Omega.{arith}
-use mathlib.Core.List.{[], _∷_}
-use mathlib.Core.Path.{_≡_, ap, _∙_}
+use mathlib.Core.Path.{_≡_, refl, sym, ap, _∙_}
 use lib.ListN.{length}
 use borrow.Author.Needs.{needs}
-use borrow.Author.Tests.{eq-eqb, ne-eqb}
 use Rattle.octets.specs.Sentences.{only}
 use Rattle.sets.specs.Contents.{isKind, entriesOf}
-use Rattle.sets.proofs.Entries.{rest, rest-start, next-entry, no-entry, only-here, only-later, only-empty}
+use Rattle.sets.proofs.Entries.{rest-start, restOf, asked-here, asked-other, asked-none}
 use Rattle.sets.proofs.contents.count_of.Statement.{statement}
 use Rattle.sets.proofs.contents.count_of.Tie as tie
 
 abbrev Inv-loop : tie.InvT-loop
-Inv-loop set kind count n₀ i₀ n i = (n ≤ i) × (length (entriesOf kind set) ≡ n + length (only (isKind kind) (rest set i)))
+Inv-loop set kind count n₀ i₀ n i = (n ≤ i) × (length (entriesOf kind set) ≡ n + length (restOf kind set i))
 
 abbrev μ-loop : tie.MeasureT-loop
 μ-loop set kind count n₀ i₀ n i = count - i
-
--- the entries from here on, where one is left and where none is
-turn : (c : tie.After-entry-at Inv-loop μ-loop)
-    → rest (c .before .before .before .before .before .args .set .now) (c .before .before .loop .i)
-    ≡ c .entry-at .result ∷ rest (c .before .before .before .before .before .args .set .now) (c .before .before .loop .i + 1)
-turn c =
-    next-entry (c .before .before .before .before .before .args .set .now) (c .before .before .before .peek .result) (c .before .before .before .peek .ensures)
-    (c .before .before .loop .i) (c .before .loop-test .taken) (c .entry-at .result) (c .entry-at .ensures)
-
-end : (c : tie.After-loop Inv-loop μ-loop) → rest (c .before .before .before .before .args .set .now) (c .before .loop .i) ≡ []
-end c =
-    no-entry (c .before .before .before .before .args .set .now) (c .before .before .peek .result) (c .before .before .peek .ensures) (c .before .loop .i) (c .loop-test .left)
 
 peek-requires : tie.Need-peek-requires Inv-loop μ-loop
 peek-requires c κs = search needs
@@ -38,8 +24,8 @@ loop-holds : tie.Need-loop-holds Inv-loop μ-loop
 loop-holds c =
     let a = c .before .before .args in (search needs, rw zero-add (ap (λ es. length (only (isKind (a .kind)) es)) (rest-start (a .set .now))))
 
-entry-at-requires : tie.Need-entry-at-requires Inv-loop μ-loop
-entry-at-requires c κs = search needs
+kind-at-requires : tie.Need-kind-at-requires Inv-loop μ-loop
+kind-at-requires c κs = search needs
 
 add-i : tie.Need-add-i Inv-loop μ-loop
 add-i c = search needs
@@ -52,29 +38,26 @@ loop-less c = search needs
 
 loop-again : tie.Need-loop-again Inv-loop μ-loop
 loop-again c =
-    let s = c .before .before in
+    let s = c .before in
     let a = s .before .before .before .before .before .args in
-    let f = isKind (a .kind) in
-    (search needs, let e = ap length (ap (only f) (turn s) ∙ only-here f _ _ (eq-eqb _ _ (c .if1 .taken))) in omega arith)
+    let l = s .before .before .loop in
+    (search needs, let e = asked-here (a .kind) (λ es. l .n + length es) (a .set .now) _ (s .before .before .before .peek .ensures) (l .i) (l .inv .1) (s .before .loop-test .taken) _ refl (sym (s .kind-at .ensures) ∙ c .if1 .taken) in omega arith)
 
 loop-less-2 : tie.Need-loop-less-2 Inv-loop μ-loop
 loop-less-2 c = search needs
 
 loop-again-2 : tie.Need-loop-again-2 Inv-loop μ-loop
 loop-again-2 c =
-    let s = c .before .before in
+    let s = c .before in
     let a = s .before .before .before .before .before .args in
-    let f = isKind (a .kind) in (
-      search needs,
-      s .before .before .loop .inv .1
-          ∙ ap (λ es. s .before .before .loop .n + length es) (ap (only f) (turn s) ∙ only-later f _ _ (ne-eqb _ _ (c .if1 .left))),
-    )
+    let l = s .before .before .loop in
+    (search needs, asked-other (a .kind) (λ es. l .n + length es) (a .set .now) _ (s .before .before .before .peek .ensures) (l .i) (l .inv .1) (s .before .loop-test .taken) _ refl (λ p. c .if1 .left (s .kind-at .ensures ∙ p)))
 
 returns : tie.Need-returns Inv-loop μ-loop
 returns c =
     let a = c .before .before .before .before .args in
-    let f = isKind (a .kind) in
-    let e = ap length (ap (only f) (end c) ∙ only-empty f) in
+    let l = c .before .loop in
+    let e = asked-none (a .kind) (λ es. l .n + length es) (a .set .now) _ (c .before .before .peek .ensures) (l .i) (l .inv .1) (c .loop-test .left) in
     omega arith
 
 pub count-of-spec : {M : Type 1} → statement M
@@ -85,7 +68,7 @@ count-of-spec =
     μ-loop
     peek-requires
     loop-holds
-    entry-at-requires
+    kind-at-requires
     add-i
     add-n
     loop-less

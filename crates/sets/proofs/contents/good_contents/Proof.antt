@@ -2,13 +2,12 @@
 use Prim.Native.Nat.{_+_, _-_, _*_, _≤_}
 use native.Mathlib.Omega.{arith}
 use mathlib.Core.Bool.{true}
-use mathlib.Core.List.{[], _∷_}
 use mathlib.Core.Path.{_≡_, sym, ap, _∙_}
 use lib.Dec.{eqb}
 use borrow.Author.Needs.{needs}
 use borrow.Author.Tests.{not-true, not-false}
 use Rattle.sets.specs.Contents.{total, goodContents}
-use Rattle.sets.proofs.Entries.{rest, rest-start, next-entry, no-entry, contentsFrom, contents-all, contents-turn, contents-more, contents-end}
+use Rattle.sets.proofs.Entries.{rest, rest-start, asked-next, asked-end, contentsFrom, contents-all, contents-turn, contents-more, contents-end}
 use Rattle.sets.proofs.contents.good_contents.Statement.{statement}
 use Rattle.sets.proofs.contents.good_contents.Tie as tie
 
@@ -17,18 +16,6 @@ Inv-loop set limits count start₀ last₀ i₀ start last i = (start ≤ 2044 +
 
 abbrev μ-loop : tie.MeasureT-loop
 μ-loop set limits count start₀ last₀ i₀ start last i = count - i
-
--- the entries from here on, where one is left and where none is
-turn : (c : tie.After-entry-at Inv-loop μ-loop)
-    → rest (c .before .before .before .before .before .args .set .now) (c .before .before .loop .i)
-    ≡ c .entry-at .result ∷ rest (c .before .before .before .before .before .args .set .now) (c .before .before .loop .i + 1)
-turn c =
-    next-entry (c .before .before .before .before .before .args .set .now) (c .before .before .before .peek .result) (c .before .before .before .peek .ensures)
-    (c .before .before .loop .i) (c .before .loop-test .taken) (c .entry-at .result) (c .entry-at .ensures)
-
-end : (c : tie.After-loop Inv-loop μ-loop) → rest (c .before .before .before .before .args .set .now) (c .before .loop .i) ≡ []
-end c =
-    no-entry (c .before .before .before .before .args .set .now) (c .before .before .peek .result) (c .before .before .peek .ensures) (c .before .loop .i) (c .loop-test .left)
 
 peek-requires : tie.Need-peek-requires Inv-loop μ-loop
 peek-requires c κs = search needs
@@ -52,8 +39,8 @@ loop-holds c =
           ∙ ap (contentsFrom (a .limits) (total (a .set .now)) true _ _) (rest-start (a .set .now))),
     )
 
-entry-at-requires : tie.Need-entry-at-requires Inv-loop μ-loop
-entry-at-requires c κs = search needs
+entry-whole-requires : tie.Need-entry-whole-requires Inv-loop μ-loop
+entry-whole-requires c κs = search needs
 
 good-entry-requires : tie.Need-good-entry-requires Inv-loop μ-loop
 good-entry-requires c κs = search needs
@@ -64,8 +51,7 @@ returns c =
     let a = s .before .before .before .before .before .args in
     let l = s .before .before .loop in
     sym
-    (l .inv .1
-    ∙ ap (contentsFrom (a .limits) (total (a .set .now)) (eqb (l .i) 0) (l .last) (l .start)) (turn s)
+    (asked-next (contentsFrom (a .limits) (total (a .set .now)) (eqb (l .i) 0) (l .last) (l .start)) (a .set .now) _ (s .before .before .before .peek .ensures) (l .i) (l .inv .1) (s .before .loop-test .taken) _ (s .entry-whole .ensures)
     ∙ contents-more (a .limits) (total (a .set .now)) _ _ _ _ _
     ∙ rw (← c .before .good-entry .ensures, not-true (c .before .good-entry .result) (c .if1 .taken)))
 
@@ -87,9 +73,8 @@ loop-again c =
     let a = s .before .before .before .before .before .args in
     let l = s .before .before .loop in (
       omega arith,
-      l .inv .1
-          ∙ ap (contentsFrom (a .limits) (total (a .set .now)) (eqb (l .i) 0) (l .last) (l .start)) (turn s)
-          ∙ contents-turn (a .limits) (total (a .set .now)) (l .i) (l .last) (l .start) (s .entry-at .result) _
+      asked-next (contentsFrom (a .limits) (total (a .set .now)) (eqb (l .i) 0) (l .last) (l .start)) (a .set .now) _ (s .before .before .before .peek .ensures) (l .i) (l .inv .1) (s .before .loop-test .taken) _ (s .entry-whole .ensures)
+          ∙ contents-turn (a .limits) (total (a .set .now)) (l .i) (l .last) (l .start) (s .entry-whole .result) _
           (rw (c .before .before .good-entry .ensures) at (not-false (c .before .before .good-entry .result) (c .before .if1 .left))),
     )
 
@@ -103,7 +88,7 @@ returns-2 : tie.Need-returns-2 Inv-loop μ-loop
 returns-2 c =
     let a = c .before .before .before .before .before .args in
     let l = c .before .before .loop in
-    rw (c .word .ensures) (sym (l .inv .1 ∙ ap (contentsFrom (a .limits) (total (a .set .now)) (eqb (l .i) 0) (l .last) (l .start)) (end (c .before)) ∙ contents-end (a .limits) (total (a .set .now)) _ _ _))
+    rw (c .word .ensures) (sym (asked-end (contentsFrom (a .limits) (total (a .set .now)) (eqb (l .i) 0) (l .last) (l .start)) (a .set .now) _ (c .before .before .before .peek .ensures) (l .i) (l .inv .1) (c .before .loop-test .left) ∙ contents-end (a .limits) (total (a .set .now)) _ _ _))
 
 pub good-contents-spec : {M : Type 1} → statement M
 good-contents-spec =
@@ -116,7 +101,7 @@ good-contents-spec =
     mul-start
     add-start
     loop-holds
-    entry-at-requires
+    entry-whole-requires
     good-entry-requires
     returns
     cast-start-2

@@ -7,14 +7,14 @@ use Rattle.sets.proofs.Devices.{devices-one, devices-other, devices-mis
 use Rattle.sets.proofs.device.good_devices.Statement.{statement}
 use Rattle.sets.proofs.device.good_devices.Tie as tie
 
-count-of-requires : tie.Need-count-of-requires
-count-of-requires c κs = search needs
+count-whole-requires : tie.Need-count-whole-requires
+count-whole-requires c κs = search needs
 
 returns : tie.Need-returns
 unfolding goodDevices
 returns c =
     let a = c .before .before .before .args in
-    devices-other (a .set .now) (a .limits) (entriesOf 1 (a .set .now)) (λ p. c .if1 .taken (c .before .count-of .ensures ∙ p))
+    devices-other (a .set .now) (a .limits) (entriesOf 1 (a .set .now)) (λ p. c .if1 .taken (c .before .count-whole .ensures ∙ p))
 
 entry-of-requires : tie.Need-entry-of-requires
 entry-of-requires c κs = search needs
@@ -22,8 +22,8 @@ entry-of-requires c κs = search needs
 enum-known-e : tie.Need-enum-known-e
 enum-known-e c = search needs
 
-count-of-requires-2 : tie.Need-count-of-requires-2
-count-of-requires-2 c κs = search needs
+count-whole-requires-2 : tie.Need-count-whole-requires-2
+count-whole-requires-2 c κs = search needs
 
 body-of-requires : tie.Need-body-of-requires
 body-of-requires c κs = search needs
@@ -39,8 +39,8 @@ unfolding goodDevices
 returns-2 c =
     let s = c .before .before .before .before .before .before .before .before in
     let a = s .before .before .before .before .args in
-    rw (c .good-device .ensures, c .before .body-of .ensures, c .before .before .before .before .count-of2 .ensures)
-    (devices-one (a .set .now) (a .limits) (entriesOf 1 (a .set .now)) (sym (s .before .before .count-of .ensures) ∙ s .before .if1 .left)
+    rw (c .good-device .ensures, c .before .body-of .ensures, c .before .before .before .before .count-whole2 .ensures)
+    (devices-one (a .set .now) (a .limits) (entriesOf 1 (a .set .now)) (sym (s .before .before .count-whole .ensures) ∙ s .before .if1 .left)
     (sym (s .entry-of .ensures) ∙ c .before .before .before .before .before .before .e .given .1))
 
 returns-3 : tie.Need-returns-3
@@ -54,11 +54,11 @@ pub good-devices-spec : {M : Type 1} → statement M
 good-devices-spec =
     tie.close
     (tie.spec
-    count-of-requires
+    count-whole-requires
     returns
     entry-of-requires
     enum-known-e
-    count-of-requires-2
+    count-whole-requires-2
     body-of-requires
     good-device-requires
     enum-told

@@ -1,4 +1,6 @@
 -- `sets::string::good_string` meets its contract. No axiom.
+use mathlib.Core.Bool.{and-false}
+use borrow.Author.Tests.{eq-eqb, ne-eqb}
 use borrow.Author.Needs.{needs}
 use Rattle.sets.proofs.string.good_string.Statement.{statement}
 use Rattle.sets.proofs.string.good_string.Tie as tie
@@ -6,14 +8,21 @@ use Rattle.sets.proofs.string.good_string.Tie as tie
 peek-requires : tie.Need-peek-requires
 peek-requires c κs = search needs
 
-cast-result : tie.Need-cast-result
-cast-result c = search needs
+cast-if1 : tie.Need-cast-if1
+cast-if1 c = search needs
+
+returns : tie.Need-returns
+returns c = rw (← c .before .peek .ensures, ne-eqb _ _ (c .if1 .taken))
 
 peek-requires-2 : tie.Need-peek-requires-2
 peek-requires-2 c κs = search needs
 
-returns : tie.Need-returns
-returns c = rw (c .before .peek .ensures, c .peek2 .ensures)
+returns-2 : tie.Need-returns-2
+returns-2 c = rw (← c .before .peek2 .ensures, ne-eqb _ _ (c .if2 .taken), and-false)
+
+returns-3 : tie.Need-returns-3
+returns-3 c = rw (← c .before .peek2 .ensures, ← c .before .before .before .peek .ensures, eq-eqb _ _ (c .if2 .left), eq-eqb _ _ (c .before .before .if1 .left))
 
 pub good-string-spec : {M : Type 1} → statement M
-good-string-spec = tie.close (tie.spec peek-requires cast-result peek-requires-2 returns)
+good-string-spec =
+    tie.close (tie.spec peek-requires cast-if1 returns peek-requires-2 returns-2 returns-3)

@@ -7,16 +7,13 @@ use Rattle.sets.proofs.string.good_strings.Tie as tie
 device-refers-requires : tie.Need-device-refers-requires
 device-refers-requires c κs = search needs
 
-good-listed-strings-requires : tie.Need-good-listed-strings-requires
-good-listed-strings-requires c κs = search needs
-
 returns : tie.Need-returns
 returns c =
-    let i = c .before .before .before .before in
+    let i = c .before .before in
     let a = i .args in
-    rw (c .good-listed-strings .ensures, c .before .device-refers .ensures)
-    (strings-told (a .set .now) (λ k. c .before .before .before .shared-slice-known .given k .fits) (a .languages .now) (a .names .now) (a .refer) (i .pre))
+    rw (c .device-refers .ensures)
+    (strings-told (a .set .now) (λ k. c .before .shared-slice-known .given k .fits) (a .names .now) (a .refer) (a .good) (i .pre))
 
 pub good-strings-spec : {M : Type 1} → statement M
 good-strings-spec =
-    tie.close (tie.spec device-refers-requires good-listed-strings-requires returns)
+    tie.close (tie.spec device-refers-requires returns)

@@ -1,7 +1,6 @@
 -- `sets::string::in_language` meets its contract: those in the new table, and those that the entries left still add, are all. No axiom.
-use Prim.Native.Nat.{ℕ, _+_, _-_, _<_}
+use Prim.Native.Nat.{ℕ, _-_, _<_}
 use mathlib.Core.Bool.{_&&_, _||_, and-false, or-false}
-use mathlib.Core.List.{[], _∷_}
 use mathlib.Core.Path.{_≡_, refl, sym, ap, _∙_}
 use lib.ListN.{length}
 use borrow.Author.Needs.{needs}
@@ -10,7 +9,7 @@ use Rattle.octets.specs.Table.{has}
 use Rattle.octets.proofs.Tables.{has-none, with-long}
 use Rattle.sets.specs.Contents.{isKind, entriesOf}
 use Rattle.sets.specs.Strings.{isString}
-use Rattle.sets.proofs.Entries.{rest, rest-start, next-entry, no-entry, any-empty, only-empty}
+use Rattle.sets.proofs.Entries.{rest, rest-start, asked-next, asked-none, any-empty}
 use Rattle.sets.proofs.Strings.{entry-in, entry-past}
 use Rattle.sets.proofs.string.in_language.Statement.{statement}
 use Rattle.sets.proofs.string.in_language.Tie as tie
@@ -20,18 +19,6 @@ Inv-loop set language table count next₀ i₀ next i = (length next ≡ 8) × (
 
 abbrev μ-loop : tie.MeasureT-loop
 μ-loop set language table count next₀ i₀ next i = count - i
-
--- the entries from here on, where one is left and where none is
-turn : (c : tie.After-entry-at Inv-loop μ-loop)
-    → rest (c .before .before .before .before .before .args .set .now) (c .before .before .loop .i)
-    ≡ c .entry-at .result ∷ rest (c .before .before .before .before .before .args .set .now) (c .before .before .loop .i + 1)
-turn c =
-    next-entry (c .before .before .before .before .before .args .set .now) (c .before .before .before .peek .result) (c .before .before .before .peek .ensures)
-    (c .before .before .loop .i) (c .before .loop-test .taken) (c .entry-at .result) (c .entry-at .ensures)
-
-end : (c : tie.After-loop Inv-loop μ-loop) → rest (c .before .before .before .before .args .set .now) (c .before .loop .i) ≡ []
-end c =
-    no-entry (c .before .before .before .before .args .set .now) (c .before .before .peek .result) (c .before .before .peek .ensures) (c .before .loop .i) (c .loop-test .left)
 
 peek-requires : tie.Need-peek-requires Inv-loop μ-loop
 peek-requires c κs = search needs
@@ -62,7 +49,7 @@ loop-again c =
     let a = s .before .before .before .before .before .args in
     let l = s .before .before .loop in (
       rw (c .join .ensures) (with-long (l .next) _ (l .inv .0)),
-      λ j h. l .inv .1 j h ∙ ap (λ es. has (l .next) j || (has (a .table .now) j && any (isString j (a .language)) (only (isKind 3) es))) (turn s) ∙ entry-in (a .table .now) (l .next) (a .language) (s .entry-at .result) _ j (l .inv .0) (search needs) (sym (c .before .before .before .is-listed .ensures) ∙ c .before .before .if1 .taken) ∙ rw (c .join .ensures),
+      λ j h. asked-next (λ es. has (l .next) j || (has (a .table .now) j && any (isString j (a .language)) (only (isKind 3) es))) (a .set .now) _ (s .before .before .before .peek .ensures) (l .i) (l .inv .1 j h) (s .before .loop-test .taken) _ (s .entry-at .ensures) ∙ entry-in (a .table .now) (l .next) (a .language) (s .entry-at .result) _ j (l .inv .0) (search needs) (sym (c .before .before .before .is-listed .ensures) ∙ c .before .before .if1 .taken) ∙ rw (c .join .ensures),
     )
 
 loop-less-2 : tie.Need-loop-less-2 Inv-loop μ-loop
@@ -74,18 +61,16 @@ loop-again-2 c =
     let a = s .before .before .before .before .before .args in
     let l = s .before .before .loop in (
       l .inv .0,
-      λ j h. l .inv .1 j h ∙ ap (λ es. has (l .next) j || (has (a .table .now) j && any (isString j (a .language)) (only (isKind 3) es))) (turn s) ∙ entry-past (a .table .now) (l .next) (a .language) (s .entry-at .result) _ j
+      λ j h. asked-next (λ es. has (l .next) j || (has (a .table .now) j && any (isString j (a .language)) (only (isKind 3) es))) (a .set .now) _ (s .before .before .before .peek .ensures) (l .i) (l .inv .1 j h) (s .before .loop-test .taken) _ (s .entry-at .ensures) ∙ entry-past (a .table .now) (l .next) (a .language) (s .entry-at .result) _ j
           (sym (c .before .is-listed .ensures) ∙ c .if1 .left),
     )
 
 returns : tie.Need-returns Inv-loop μ-loop
 returns c =
-    let s = c .before in
-    let a = s .before .before .before .args in
+    let a = c .before .before .before .before .args in
+    let l = c .before .loop in
     λ j h. sym
-    (s .loop .inv .1 j h
-    ∙ ap (λ es. has (s .loop .next) j || (has (a .table .now) j && any (isString j (a .language)) es))
-    (ap (only (isKind 3)) (end c) ∙ only-empty (isKind 3))
+    (asked-none 3 (λ es. has (l .next) j || (has (a .table .now) j && any (isString j (a .language)) es)) (a .set .now) _ (c .before .before .peek .ensures) (l .i) (l .inv .1 j h) (c .loop-test .left)
     ∙ rw (any-empty, and-false, or-false))
 
 pub in-language-spec : {M : Type 1} → statement M

@@ -1,0 +1,78 @@
+-- `sets::contents::count_whole` meets its contract: those counted and those left are all. No axiom.
+use Prim.Native.Nat.{_+_, _-_, _≤_}
+use native.Mathlib.Nat.{zero-add}
+use native.Mathlib.Omega.{arith}
+use mathlib.Core.Path.{_≡_, ap}
+use lib.ListN.{length}
+use borrow.Author.Needs.{needs}
+use Rattle.octets.specs.Sentences.{only}
+use Rattle.sets.specs.Contents.{isKind, entriesOf}
+use Rattle.sets.proofs.Entries.{rest-start, restOf, asked-here, asked-other, asked-none}
+use Rattle.sets.proofs.contents.count_whole.Statement.{statement}
+use Rattle.sets.proofs.contents.count_whole.Tie as tie
+
+abbrev Inv-loop : tie.InvT-loop
+Inv-loop set kind count n₀ i₀ n i = (n ≤ i) × (length (entriesOf kind set) ≡ n + length (restOf kind set i))
+
+abbrev μ-loop : tie.MeasureT-loop
+μ-loop set kind count n₀ i₀ n i = count - i
+
+peek-requires : tie.Need-peek-requires Inv-loop μ-loop
+peek-requires c κs = search needs
+
+loop-holds : tie.Need-loop-holds Inv-loop μ-loop
+loop-holds c =
+    let a = c .before .before .args in (search needs, rw zero-add (ap (λ es. length (only (isKind (a .kind)) es)) (rest-start (a .set .now))))
+
+entry-whole-requires : tie.Need-entry-whole-requires Inv-loop μ-loop
+entry-whole-requires c κs = search needs
+
+add-i : tie.Need-add-i Inv-loop μ-loop
+add-i c = search needs
+
+add-n : tie.Need-add-n Inv-loop μ-loop
+add-n c = search needs
+
+loop-less : tie.Need-loop-less Inv-loop μ-loop
+loop-less c = search needs
+
+loop-again : tie.Need-loop-again Inv-loop μ-loop
+loop-again c =
+    let s = c .before .before in
+    let a = s .before .before .before .before .before .args in
+    let l = s .before .before .loop in
+    (search needs, let e = asked-here (a .kind) (λ es. l .n + length es) (a .set .now) _ (s .before .before .before .peek .ensures) (l .i) (l .inv .1) (s .before .loop-test .taken) _ (s .entry-whole .ensures) (c .if1 .taken) in omega arith)
+
+loop-less-2 : tie.Need-loop-less-2 Inv-loop μ-loop
+loop-less-2 c = search needs
+
+loop-again-2 : tie.Need-loop-again-2 Inv-loop μ-loop
+loop-again-2 c =
+    let s = c .before .before in
+    let a = s .before .before .before .before .before .args in
+    let l = s .before .before .loop in
+    (search needs, asked-other (a .kind) (λ es. l .n + length es) (a .set .now) _ (s .before .before .before .peek .ensures) (l .i) (l .inv .1) (s .before .loop-test .taken) _ (s .entry-whole .ensures) (c .if1 .left))
+
+returns : tie.Need-returns Inv-loop μ-loop
+returns c =
+    let a = c .before .before .before .before .args in
+    let l = c .before .loop in
+    let e = asked-none (a .kind) (λ es. l .n + length es) (a .set .now) _ (c .before .before .peek .ensures) (l .i) (l .inv .1) (c .loop-test .left) in
+    omega arith
+
+pub count-whole-spec : {M : Type 1} → statement M
+count-whole-spec =
+    tie.close
+    (tie.spec
+    Inv-loop
+    μ-loop
+    peek-requires
+    loop-holds
+    entry-whole-requires
+    add-i
+    add-n
+    loop-less
+    loop-again
+    loop-less-2
+    loop-again-2
+    returns)

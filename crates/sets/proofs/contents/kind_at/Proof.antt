@@ -1,0 +1,28 @@
+-- `sets::contents::kind_at` meets its contract. No axiom.
+use Prim.Native.Nat.{_+_, _*_}
+use native.Mathlib.Omega.{arith}
+use mathlib.Core.Path.{_≡_, sym, ap, _∙_}
+use lib.Seq.{getD-drop}
+use borrow.Author.Needs.{needs}
+use Rattle.octets.specs.Octets.{byte}
+use Rattle.sets.proofs.contents.kind_at.Statement.{statement}
+use Rattle.sets.proofs.contents.kind_at.Tie as tie
+
+mul-peek : tie.Need-mul-peek
+mul-peek c = search needs
+
+add-peek : tie.Need-add-peek
+add-peek c = search needs
+
+peek-requires : tie.Need-peek-requires
+peek-requires c κs = search needs
+
+returns : tie.Need-returns
+returns c =
+    let a = c .before .before .args in
+    let at = 4 + 8 * a .i in
+    let e : at ≡ at + 0 = omega arith in
+    c .peek .ensures ∙ ap (byte (a .set .now)) e ∙ sym (getD-drop at (a .set .now) 0 0)
+
+pub kind-at-spec : {M : Type 1} → statement M
+kind-at-spec = tie.close (tie.spec mul-peek add-peek peek-requires returns)

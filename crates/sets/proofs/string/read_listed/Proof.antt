@@ -1,0 +1,165 @@
+-- `sets::string::read_listed` meets its contract: one step of the pass after another. No axiom.
+use Prim.Native.Nat.{_+_, _-_}
+use mathlib.Core.Bool.{false≢true}
+use mathlib.Core.List.{[], _∷_}
+use mathlib.Core.Path.{_≡_, sym, _∙_}
+use lib.ListN.{length, drop}
+use borrow.Author.Tests.{not-true, not-false}
+use Rattle.sets.specs.Strings.{words}
+use Rattle.sets.specs.Checks.{goodStringEntry}
+use Rattle.sets.proofs.Entries.{rest, restOf, next-entry, kind-end}
+use borrow.Author.Needs.{needs}
+use Rattle.sets.proofs.Passing.{Passing, begins, listed-here, moves, other, refused, skips, takes, all-good, names-read}
+use Rattle.sets.proofs.string.read_listed.Statement.{statement}
+use Rattle.sets.proofs.string.read_listed.Tie as tie
+
+abbrev Inv-loop : tie.InvT-loop
+Inv-loop set languages serial count table₀ next₀ at₀ language₀ i₀ table next at language i = Passing set languages serial table next at language i
+
+abbrev μ-loop : tie.MeasureT-loop
+μ-loop set languages serial count table₀ next₀ at₀ language₀ i₀ table next at language i = (count - i) + (length languages - at)
+
+-- the entries from here on, where one is left and where none is
+turn : (c : tie.After-entry-whole Inv-loop μ-loop) → rest (c .before .before .before .before .before .before .before .args .set .now) (c .before .before .loop .i) ≡ c .entry-whole .result ∷ rest (c .before .before .before .before .before .before .before .args .set .now) (c .before .before .loop .i + 1)
+turn c = next-entry (c .before .before .before .before .before .before .before .args .set .now) (c .before .before .before .before .peek .result) (c .before .before .before .before .peek .ensures) (c .before .before .loop .i) (c .before .loop-test .taken) (c .entry-whole .result) (c .entry-whole .ensures)
+
+end : (c : tie.After-loop Inv-loop μ-loop) → restOf 3 (c .before .before .before .before .before .before .args .set .now) (c .before .loop .i) ≡ []
+end c = kind-end 3 (c .before .before .before .before .before .before .args .set .now) (c .before .before .before .peek .result) (c .before .before .before .peek .ensures) (c .before .loop .i) (c .loop-test .left)
+
+-- what is asked of this entry
+verdict : (c : tie.After-good-string-entry Inv-loop μ-loop)
+    → goodStringEntry (c .before .before .before .before .before .before .before .before .before .before .before .before .before .before .args .set .now) (words (drop 2 (c .before .before .before .before .before .before .before .before .before .before .before .before .before .before .args .languages .now))) (c .before .before .before .before .before .before .before .before .before .before .before .before .before .before .args .serial) (c .before .before .before .before .before .before .before .entry-whole .result) ≡ c .good-string-entry .result
+verdict c = rw (← c .before .body-of .ensures, ← c .before .before .lists-beside .ensures) (sym (c .good-string-entry .ensures))
+
+peek-requires : tie.Need-peek-requires Inv-loop μ-loop
+peek-requires c κs = search needs
+
+word-requires : tie.Need-word-requires Inv-loop μ-loop
+word-requires c κs = search needs
+
+loop-holds : tie.Need-loop-holds Inv-loop μ-loop
+loop-holds c = rw (c .word .ensures) (begins (c .before .before .before .before .args .set .now) (c .before .before .before .before .args .languages .now) (c .before .before .before .before .args .serial) (c .before .before .before .before .pre .order) (c .before .before .before .before .pre .good))
+
+entry-whole-requires : tie.Need-entry-whole-requires Inv-loop μ-loop
+entry-whole-requires c κs = search needs
+
+add-is-later : tie.Need-add-is-later Inv-loop μ-loop
+add-is-later c = search needs
+
+is-later-requires : tie.Need-is-later-requires Inv-loop μ-loop
+is-later-requires c κs = search needs
+
+add-at : tie.Need-add-at Inv-loop μ-loop
+add-at c = search needs
+
+word-requires-2 : tie.Need-word-requires-2 Inv-loop μ-loop
+word-requires-2 c κs = search needs
+
+loop-less : tie.Need-loop-less Inv-loop μ-loop
+loop-less c = search needs
+
+loop-again : tie.Need-loop-again Inv-loop μ-loop
+loop-again c =
+    let s = c .before .before .before in
+    rw (c .word2 .ensures) (moves _ _ _ (s .before .before .loop .inv) (s .entry-whole .result) _ (turn s) (sym (c .before .before .is-later .ensures) ∙ c .before .if1 .taken))
+
+add-i : tie.Need-add-i Inv-loop μ-loop
+add-i c = search needs
+
+lists-beside-requires : tie.Need-lists-beside-requires Inv-loop μ-loop
+lists-beside-requires c κs = listed-here _ _ _ (c .before .before .before .before .before .before .loop .inv)
+
+body-of-requires : tie.Need-body-of-requires Inv-loop μ-loop
+body-of-requires c κs = search needs
+
+good-string-entry-requires : tie.Need-good-string-entry-requires Inv-loop μ-loop
+good-string-entry-requires c κs = search needs
+
+returns : tie.Need-returns Inv-loop μ-loop
+returns c =
+    let s = c .before .before .before .before .before .before .before .before in (
+      refused _ _ _ (s .before .before .loop .inv) (s .entry-whole .result) (turn s) (c .before .before .before .before .if2 .taken) (verdict (c .before) ∙ not-true (c .before .good-string-entry .result) (c .if3 .taken)),
+      λ p. absurd (false≢true p),
+    )
+
+is-listed-requires : tie.Need-is-listed-requires Inv-loop μ-loop
+is-listed-requires c κs = search needs
+
+join-requires : tie.Need-join-requires Inv-loop μ-loop
+join-requires c κs = search needs
+
+loop-less-2 : tie.Need-loop-less-2 Inv-loop μ-loop
+loop-less-2 c = search needs
+
+loop-again-2 : tie.Need-loop-again-2 Inv-loop μ-loop
+loop-again-2 c =
+    let s = c .before .before .before .before .before .before .before .before .before .before .before .before .before in
+    rw (c .join .ensures)
+    (takes _ _ _ (s .before .before .loop .inv) (s .entry-whole .result) (turn s) (c .before .before .before .before .before .before .before .before .before .if2 .taken) (sym (c .before .before .before .before .before .before .before .before .before .before .before .before .is-later .ensures) ∙ c .before .before .before .before .before .before .before .before .before .before .before .if1 .left)
+    (verdict (c .before .before .before .before .before .before) ∙ not-false (c .before .before .before .before .before .before .good-string-entry .result) (c .before .before .before .before .before .if3 .left)) (search needs) (sym (c .before .before .before .is-listed .ensures) ∙ c .before .before .if4 .taken))
+
+loop-less-3 : tie.Need-loop-less-3 Inv-loop μ-loop
+loop-less-3 c = search needs
+
+loop-again-3 : tie.Need-loop-again-3 Inv-loop μ-loop
+loop-again-3 c =
+    let s = c .before .before .before .before .before .before .before .before .before .before .before in
+    skips _ _ _ (s .before .before .loop .inv) (s .entry-whole .result) (turn s) (c .before .before .before .before .before .before .before .if2 .taken) (sym (c .before .before .before .before .before .before .before .before .before .before .is-later .ensures) ∙ c .before .before .before .before .before .before .before .before .before .if1 .left)
+    (verdict (c .before .before .before .before) ∙ not-false (c .before .before .before .before .good-string-entry .result) (c .before .before .before .if3 .left)) (sym (c .before .is-listed .ensures) ∙ c .if4 .left)
+
+loop-less-4 : tie.Need-loop-less-4 Inv-loop μ-loop
+loop-less-4 c = search needs
+
+loop-again-4 : tie.Need-loop-again-4 Inv-loop μ-loop
+loop-again-4 c = let s = c .before .before .before .before in other _ _ _ (s .before .before .loop .inv) (s .entry-whole .result) (turn s) (c .if2 .left)
+
+add-seen-last : tie.Need-add-seen-last Inv-loop μ-loop
+add-seen-last c = search needs
+
+seen-last-requires : tie.Need-seen-last-requires Inv-loop μ-loop
+seen-last-requires c κs = search needs
+
+with-serial-requires : tie.Need-with-serial-requires Inv-loop μ-loop
+with-serial-requires c κs = search needs
+
+returns-2 : tie.Need-returns-2 Inv-loop μ-loop
+returns-2 c =
+    let w = c .before .before in
+    let l = w .before .loop in (
+      all-good _ _ _ (l .inv) (end w),
+      λ p j q. rw (c .with-serial .ensures, c .before .seen-last .ensures) (names-read _ _ _ (l .inv) (end w) (search needs) j q),
+    )
+
+pub read-listed-spec : {M : Type 1} → statement M
+read-listed-spec =
+    tie.close
+    (tie.spec
+    Inv-loop
+    μ-loop
+    peek-requires
+    word-requires
+    loop-holds
+    entry-whole-requires
+    add-is-later
+    is-later-requires
+    add-at
+    word-requires-2
+    loop-less
+    loop-again
+    add-i
+    lists-beside-requires
+    body-of-requires
+    good-string-entry-requires
+    returns
+    is-listed-requires
+    join-requires
+    loop-less-2
+    loop-again-2
+    loop-less-3
+    loop-again-3
+    loop-less-4
+    loop-again-4
+    add-seen-last
+    seen-last-requires
+    with-serial-requires
+    returns-2)
