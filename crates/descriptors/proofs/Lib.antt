@@ -2,6 +2,7 @@ pub mod Walk
 pub mod CheckOrder
 pub mod CheckAddresses
 pub mod CheckWhole
+pub mod GoodBody
 pub mod Ahead
 pub mod CheckReferences
 pub mod EndpointBits
