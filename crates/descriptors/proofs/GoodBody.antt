@@ -2,14 +2,15 @@
 use Prim.Native.Nat.{ℕ}
 use mathlib.Core.Path.{_≡_, refl}
 use mathlib.Core.List.{List, [], _∷_}
-use mathlib.Core.Bool.{Bool, true, false≢true}
+use mathlib.Core.Bool.{true, false≢true}
 use lib.ListN.{length}
-use Rattle.octets.specs.Sentences.{every}
+use Rattle.octets.specs.Sentences.{_⇒_, every}
 use Rattle.octets.proofs.Sentences.{both, conjunct}
 use Rattle.descriptors.specs.declared.Limits.{Limits}
 use Rattle.descriptors.specs.Cut.{cut, descriptorsOf, wellCut}
 use Rattle.descriptors.specs.Descriptor.{goodDescriptor}
 use Rattle.descriptors.specs.Interfaces.{grouped, goodInterfaces}
+use Rattle.descriptors.specs.Companion.{goodCompanions}
 use Rattle.descriptors.specs.Configuration.{bNumInterfaces, goodHead, goodDescriptors, goodConfiguration, behind}
 
 -- of descriptors: the first, and those behind it
@@ -24,7 +25,7 @@ pub good-descriptors : (limits : Limits) (size : ℕ) (ds : List (List ℕ)) →
 unfolding goodDescriptors
 good-descriptors limits size [] p = absurd (false≢true p)
 good-descriptors limits size (d ∷ ds) p =
-    let rules = goodHead size d ∷ every (goodDescriptor limits) ds ∷ goodInterfaces (bNumInterfaces d) (grouped ds) ∷ [] in
+    let rules = goodHead size d ∷ every (goodDescriptor limits) ds ∷ goodInterfaces (bNumInterfaces d) (grouped ds) ∷ (limits .companions ⇒ goodCompanions (d ∷ ds)) ∷ [] in
     record { first = d; begins = refl; head = conjunct 0 rules p; each = conjunct 1 rules p; interfaces = conjunct 2 rules p }
 
 module _ (limits : Limits) (body : List ℕ) (p : goodConfiguration limits body ≡ true) where
