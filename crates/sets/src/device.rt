@@ -1,12 +1,14 @@
 // The device descriptor and the serial block. Groups 3 and 6.
 use crate::EntryFound;
+use crate::capabilities::good_capabilities;
 use crate::contents::body_of;
 use crate::contents::count_of;
 use crate::contents::entry_of;
 use descriptors::Limits;
 use octets::table::holds;
 ghost use mathlib.Core.Path.{_≡_};
-ghost use Rattle.sets.specs.Device.{goodDevice, deviceBody, iSerialNumber};
+ghost use Rattle.sets.specs.Contents.{entriesOf};
+ghost use Rattle.sets.specs.Device.{goodDevice, goodDeviceEntries, deviceBody, iSerialNumber};
 ghost use Rattle.sets.specs.Opening.{goodDevices, goodSerial};
 ghost use Rattle.sets.specs.Checks.{deviceRefers};
 
@@ -35,9 +37,8 @@ pub fn device_body(set: &[u8]) -> &[u8]
     }
 }
 
-// Group 3.
-pub fn good_devices(set: &[u8], limits: Limits) -> bool
-    ensures { λ r. ⌜ r ≡ goodDevices limits (now (set .entry)) ⌝ }
+fn good_device_entries(set: &[u8], limits: Limits) -> bool
+    ensures { λ r. ⌜ r ≡ goodDeviceEntries limits (now (set .entry)) (entriesOf 1 (now (set .entry))) ⌝ }
 {
     if count_of(set, 1) != 1 {
         return false;
@@ -51,6 +52,13 @@ pub fn good_devices(set: &[u8], limits: Limits) -> bool
         }
         EntryFound::Nothing => false,
     }
+}
+
+// Group 3.
+pub fn good_devices(set: &[u8], limits: Limits) -> bool
+    ensures { λ r. ⌜ r ≡ goodDevices limits (now (set .entry)) ⌝ }
+{
+    good_capabilities(set, limits) & good_device_entries(set, limits)
 }
 
 // The index of the serial number's string, 0 where there is none.
