@@ -11,14 +11,13 @@ use Rattle.octets.specs.Octets.{byte}
 use Rattle.octets.specs.Sentences.{pick, _⇒_, every, only, neighbours, pairs}
 use Rattle.octets.proofs.Sentences.{both, conjunct, if-then}
 use Rattle.descriptors.specs.declared.Limits.{Limits}
-use Rattle.descriptors.specs.Limits.{fullSpeed, named}
+use Rattle.descriptors.specs.Limits.{named}
 use Rattle.descriptors.specs.Cut.{broken, descriptor, cut, cutAfter, descriptorsOf}
 use Rattle.descriptors.specs.Descriptor.{bDescriptorType, isInterface, isEndpoint, bEndpointAddress, bmAttributes, bInterval, wMaxPacketSize, transferType, goodAddress, goodAttributes, goodSize, goodInterval, goodEndpoint, goodDescriptor}
 use Rattle.descriptors.specs.Configuration.{bConfigurationValue, bNumInterfaces, bMaxPower, configurationAttributes, wTotalLength, behind, goodConfiguration}
 use Rattle.sets.specs.declared.Entry.{Entry}
 use Rattle.sets.specs.Contents.{entries, entriesOf, bodyOf, bodies, isKind, total, count, bodiesAt, before, goodFrame, endToEnd, goodContents}
-use Rattle.sets.specs.Opening.{Board, numberedFrom, goodConfigurations}
-use Rattle.sets.specs.View.{openingOf}
+use Rattle.sets.specs.Opening.{Board, opening, numberedFrom, goodConfigurations}
 use Rattle.sets.proofs.Groups.{Groups, groups}
 use Rattle.listing.specs.Listing.{digits, fields, line, acceptedWord, refusedWord, configurationLines, acceptedLines, listing}
 use Rattle.listing.specs.Listed.{room}
@@ -140,10 +139,10 @@ accepted-length limits b g =
     ))
 
 -- every board's text
-pub listing-length : (b : Board) → length (listing b) ≤ room
+pub listing-length : (limits : Limits) (b : Board) → length (listing limits b) ≤ room
 unfolding listing
-listing-length b = go (eqb (openingOf b) 0) refl
+listing-length limits b = go (eqb (opening limits b) 0) refl
   where
-    go : (t : Bool) → eqb (openingOf b) 0 ≡ t → length (pick t (acceptedLines (b .set)) (line refusedWord (openingOf b ∷ []))) ≤ room
-    go true p = accepted-length fullSpeed b (groups fullSpeed b (eqb-true (openingOf b) 0 p))
-    go false p = omega (arith, line-length refusedWord (openingOf b ∷ []))
+    go : (t : Bool) → eqb (opening limits b) 0 ≡ t → length (pick t (acceptedLines (b .set)) (line refusedWord (opening limits b ∷ []))) ≤ room
+    go true p = accepted-length limits b (groups limits b (eqb-true (opening limits b) 0 p))
+    go false p = omega (arith, line-length refusedWord (opening limits b ∷ []))

@@ -97,8 +97,8 @@ no-lines body at h = ap (flatMap descriptorLine) (ahead-end body at h) ∙ flat-
 
 -- ---- a configuration that is accepted
 -- no endpoint stands before the first interface
-none-loose : (limits : Limits) (size : ℕ) (ds : List (List ℕ)) → GoodDescriptors limits size ds → isEmpty (grouped (behind ds) .loose) ≡ true
-none-loose limits size ds good =
+nothing-loose : (limits : Limits) (size : ℕ) (ds : List (List ℕ)) → GoodDescriptors limits size ds → isEmpty (grouped (behind ds) .loose) ≡ true
+nothing-loose limits size ds good =
     let gs = grouped (behind ds) in
     let n = bNumInterfaces (good .first) in
     conjunct 0 (isEmpty (gs .loose) ∷ goodSettings n (map settingOf (gs .groups)) ∷ every counted (gs .groups) ∷ pairs apart (endpointsOf (gs .groups)) ∷ []) (good .interfaces)
@@ -109,7 +109,7 @@ headLine body = line (67 ∷ []) (bConfigurationValue body ∷ bNumInterfaces bo
 
 pub configuration-lines : (limits : Limits) (body : List ℕ) → goodConfiguration limits body ≡ true → configurationLines body ≡ headLine body ++ descriptorLines body
 configuration-lines limits body p =
-    ap (λ (l : List ℕ). headLine body ++ l) (in-order body (none-loose limits (length body) (descriptorsOf (cut body)) (good-body limits body p)))
+    ap (λ (l : List ℕ). headLine body ++ l) (in-order body (nothing-loose limits (length body) (descriptorsOf (cut body)) (good-body limits body p)))
 
 -- ---- the configurations of a set, entry by entry
 by-entry : (set : List ℕ) (es : List Entry) → flatMap configurationLines (map (bodyOf set) (only (isKind 2) es)) ≡ flatMap (entryLines set) es
