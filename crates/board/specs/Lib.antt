@@ -11,4 +11,6 @@ pub mod Records
 pub mod InhabitedRuns
 pub mod Idle
 pub mod InhabitedExports
+pub mod OpenedAs
 pub mod Makers
+pub mod Kinds

@@ -6,13 +6,20 @@ use lib.ListN.{length, drop}
 use lib.Dec.{eqb}
 use Rattle.octets.specs.Sentences.{pick}
 use Rattle.descriptors.specs.declared.Limits.{Limits}
+use Rattle.sets.specs.Opening.{Board}
 use Rattle.set_writer.specs.Writer.{setOf, writing, Filled}
 use Rattle.dumps.specs.Imported.{imported}
 use Rattle.importing.specs.Import.{importing}
 use Rattle.exporting.specs.Export.{exported, exporting}
 use Rattle.trimming.specs.Trim.{trimmed, padded, Trims}
+use Rattle.board.specs.OpenedAs.{openedAs}
 
--- hk_write: its number, the buffer left, and the set's length, 0 after a refusal
+-- hk_super_open: its number, and the image left
+pub record OpensAs (limits : Limits) (b : Board) (image : List ℕ) (answer : ℕ) (left : List ℕ) : Type 0 where
+  pub number : answer ≡ openedAs limits b image .number
+  pub leaves : left ≡ openedAs limits b image .image
+
+-- hk_write and hk_super_write: its number, the buffer left, and the set's length, 0 after a refusal
 pub record Writes (limits : Limits) (pieces serial buffer : List ℕ) (answer : ℕ) (left : List ℕ) (written : ℕ) : Type 0 where
   pub fills : Filled (setOf pieces) buffer left (writing limits pieces serial (length buffer)) answer
   pub counts : written ≡ pick (eqb answer 0) (length (setOf pieces)) 0
@@ -33,6 +40,9 @@ pub record Shortens (limits : Limits) (set serial : List ℕ) (answer : ℕ) (le
   pub counts : total ≡ pick (eqb answer 0) (length (trimmed set)) 0
 
 -- ---- any two results that meet a statement are equal. Assumes nothing
+pub opensAs : {limits : Limits} {b : Board} {image : List ℕ} {n m : ℕ} {left other : List ℕ} → OpensAs limits b image n left → OpensAs limits b image m other → (n ≡ m) × (left ≡ other)
+opensAs p q = (p .number ∙ sym (q .number), p .leaves ∙ sym (q .leaves))
+
 pub filled : {text buffer after also : List ℕ} {asked n m : ℕ} → Filled text buffer after asked n → Filled text buffer also asked m → (n ≡ m) × (after ≡ also)
 filled {text} {buffer} p q =
     let e = p .number ∙ sym (q .number) in

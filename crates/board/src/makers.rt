@@ -1,6 +1,7 @@
 // The calls for makers, on a bench computer: these may use an array of a set's length in their frame.
-ghost use Rattle.descriptors.specs.Limits.{fullSpeed};
-ghost use Rattle.board.specs.Makers.{Writes, Takes, Dumps, Shortens};
+ghost use Rattle.sets.specs.Opening.{lent};
+ghost use Rattle.descriptors.specs.Limits.{fullSpeed, superSpeed};
+ghost use Rattle.board.specs.Makers.{OpensAs, Writes, Takes, Dumps, Shortens};
 
 // Pieces end to end, in any order, become a set at the buffer's start.
 #[no_mangle]
@@ -10,6 +11,28 @@ pub extern "C" fn hk_write(pieces: &[u8], serial: &[u8], buffer: &mut [u8], writ
     let report = set_writer::write(pieces, serial, descriptors::full_speed(), buffer);
     *written = set_writer::length_written(report.number, buffer);
     report.number
+}
+
+// The same for a SuperSpeed set.
+#[no_mangle]
+pub extern "C" fn hk_super_write(pieces: &[u8], serial: &[u8], buffer: &mut [u8], written: &mut u16) -> u8
+    ensures { λ r. ⌜ Writes superSpeed (now (pieces .entry)) (now (serial .entry)) (now (buffer .entry)) r (now (buffer .exit)) (now (written .exit)) ⌝ }
+{
+    let report = set_writer::write(pieces, serial, descriptors::super_speed(), buffer);
+    *written = set_writer::length_written(report.number, buffer);
+    report.number
+}
+
+// Opens a SuperSpeed set as hk_open opens one of full speed. No board of ours runs one: events refuse it.
+#[no_mangle]
+pub extern "C" fn hk_super_open(set: &[u8], serial: &[u8], image: &mut [u8]) -> u8
+    ensures { λ r. ⌜ OpensAs superSpeed (lent (now (set .entry)) (now (serial .entry))) (now (image .entry)) r (now (image .exit)) ⌝ }
+{
+    if image.len() != 32 {
+        return 8;
+    }
+    records::store(records::fresh(), image);
+    sets::opening(set, serial, descriptors::super_speed())
 }
 
 // A dump, the file that Linux shows for a device, becomes a set without strings at the buffer's start.

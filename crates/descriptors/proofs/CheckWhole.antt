@@ -1,47 +1,52 @@
 -- The check of a body, whole: what a walk with a few words of state says is that the configuration is good. No axiom.
-use Prim.Native.Nat.{ℕ, _<_, _≤_}
+use Prim.Native.Nat.{ℕ, _/_, _%_, _<_, _≤_}
 use native.Mathlib.Omega.{arith}
 use native.Mathlib.Nat.{sub-zero, le-refl}
 use mathlib.Core.Path.{_≡_, refl, sym, ap, _∙_}
-use mathlib.Core.List.{List, map}
+use mathlib.Core.List.{List, [], _∷_, map}
 use mathlib.Core.Bool.{Bool, true, false, _&&_, and-true, and-false}
 use mathlib.Core.Option.{some, none}
 use lib.ListN.{length, take, drop}
-use lib.Dec.{leb, ltb}
-use borrow.Author.Tests.{le-ltb, ltb-true, ltb-false}
+use lib.Dec.{eqb, leb, ltb}
+use borrow.Author.Tests.{eqb-true, le-ltb, ltb-true, ltb-false}
 use Rattle.octets.specs.Octets.{byte}
-use Rattle.octets.specs.Sentences.{pick, every, pairs, isEmpty}
-use Rattle.octets.proofs.Sentences.{cases}
+use Rattle.octets.specs.Sentences.{pick, _⇒_, every, pairs, isEmpty}
+use Rattle.octets.proofs.Sentences.{cases, conjunct}
 use Rattle.descriptors.specs.declared.Limits.{Limits}
 use Rattle.descriptors.specs.declared.Stand.{Stand}
 use Rattle.descriptors.specs.declared.Step.{Step}
 use Rattle.descriptors.specs.declared.check.Progress.{Progress}
 use Rattle.descriptors.specs.Cut.{Cutting, whole, broken, descriptor, cut, descriptorsOf, wellCut}
-use Rattle.descriptors.specs.Descriptor.{goodDescriptor}
+use Rattle.descriptors.specs.Descriptor.{bDescriptorType, goodDescriptor}
 use Rattle.descriptors.specs.Interfaces.{grouped, settingOf, endpointsOf, goodSettings, counted, apart, goodInterfaces}
-use Rattle.descriptors.specs.Configuration.{bNumInterfaces, goodHead, goodDescriptors, goodConfiguration}
+use Rattle.descriptors.specs.Companion.{goodCompanions}
+use Rattle.descriptors.specs.Configuration.{bNumInterfaces, wTotalLength, configurationAttributes, bMaxPower, goodHead, goodDescriptors, goodConfiguration}
 use Rattle.descriptors.specs.Walk.{before, standOf, stepOf, orElse, walked}
-use Rattle.descriptors.specs.Check.{inOrder, unshared, ended, beginning, checking}
+use Rattle.descriptors.specs.Check.{inOrder, unshared, accompanied, ended, beginning, checking}
 use Rattle.descriptors.proofs.CheckOrder.{ordered, passed, order-same, from-beginning}
 use Rattle.descriptors.proofs.CheckAddresses.{unsharedAll, addresses-same}
+use Rattle.descriptors.proofs.CheckCompanions.{accompaniedAll, after, walk-after, companions-same}
 use Rattle.descriptors.proofs.Walk.{Walking, holding, moved, stuck, cut-end}
 
 -- ---- the walk, rule by rule
-apart-by : (wellcut a b c g o u : Bool) → orElse (pick (a && b && c) none (some false)) (wellcut && (g && o && u)) ≡ (wellcut && ((a && g) && (b && o) && (c && u)))
-apart-by x true true true g o u = refl
-apart-by x true true false g o u = rw (and-false (g && o)) (sym (and-false x))
-apart-by x true false c g o u = rw (and-false g) (sym (and-false x))
-apart-by x false b c g o u = sym (and-false x)
+apart-by : (wellcut a b c e g o u v : Bool)
+    → orElse (pick (a && b && c && e) none (some false)) (wellcut && (g && o && u && v)) ≡ (wellcut && ((a && g) && (b && o) && (c && u) && (e && v)))
+apart-by x true true true true g o u v = refl
+apart-by x true true true false g o u v = rw (and-false (g && o && u)) (sym (and-false x))
+apart-by x true true false e g o u v = rw (and-false (g && o)) (sym (and-false x))
+apart-by x true false c e g o u v = rw (and-false g) (sym (and-false x))
+apart-by x false b c e g o u v = sym (and-false x)
 
 rules : (limits : Limits) (n : ℕ) (w : Progress) (last : Stand) (cs : Cutting)
-    → walked (checking limits n) w last cs ≡ (wellCut cs && (every (goodDescriptor limits) (descriptorsOf cs) && ordered n w last (descriptorsOf cs) && unsharedAll w last (descriptorsOf cs)))
+    → walked (checking limits n) w last cs ≡ (wellCut cs && (every (goodDescriptor limits) (descriptorsOf cs) && ordered n w last (descriptorsOf cs) && unsharedAll w last (descriptorsOf cs) && accompaniedAll limits w last (descriptorsOf cs)))
 unfolding walked wellCut descriptorsOf every holding
-rules limits n w last whole = sym (and-true (ended n w last))
+rules limits n w last whole = rw (and-true (ended n w last))
 rules limits n w last broken = refl
 rules limits n w last (descriptor d ds) =
     let stand = standOf last d in
     rw (rules limits n (passed w last d) stand ds)
-    (apart-by (wellCut ds) (goodDescriptor limits d) (inOrder w last stand d) (unshared w last stand d) (every (goodDescriptor limits) (descriptorsOf ds)) (ordered n (passed w last d) stand (descriptorsOf ds)) (unsharedAll (passed w last d) stand (descriptorsOf ds)))
+    (apart-by (wellCut ds) (goodDescriptor limits d) (inOrder w last stand d) (unshared w last stand d) (accompanied limits w d)
+    (every (goodDescriptor limits) (descriptorsOf ds)) (ordered n (passed w last d) stand (descriptorsOf ds)) (unsharedAll (passed w last d) stand (descriptorsOf ds)) (accompaniedAll limits (passed w last d) stand (descriptorsOf ds)))
 
 -- ---- the rules, as sentences
 regrouped : {unshared : Bool} (good set empty count apart : Bool) → (good ≡ true → set ≡ true → empty ≡ true → unshared ≡ apart)
@@ -52,13 +57,14 @@ regrouped true false empty count a h = rw (and-false empty)
 regrouped false set empty count a h = refl
 
 rest-same : (limits : Limits) (n : ℕ) (cs : Cutting)
-    → walked (checking limits n) beginning before cs ≡ (wellCut cs && (every (goodDescriptor limits) (descriptorsOf cs) && goodInterfaces n (grouped (descriptorsOf cs))))
+    → walked (checking limits n) beginning before cs ≡ (wellCut cs && ((every (goodDescriptor limits) (descriptorsOf cs) && goodInterfaces n (grouped (descriptorsOf cs))) && (limits .companions ⇒ after false (descriptorsOf cs))))
 rest-same limits n cs =
     let ds = descriptorsOf cs in
     let gs = grouped ds in
     rules limits n beginning before cs
-    ∙ ap (λ (b : Bool). wellCut cs && (every (goodDescriptor limits) ds && b && unsharedAll beginning before ds)) (order-same n ds)
-    ∙ ap (λ (b : Bool). wellCut cs && b) (regrouped (every (goodDescriptor limits) ds) (goodSettings n (map settingOf (gs .groups))) (isEmpty (gs .loose)) (every counted (gs .groups)) (pairs apart (endpointsOf (gs .groups)))
+    ∙ ap (λ (b : Bool). wellCut cs && (every (goodDescriptor limits) ds && ordered n beginning before ds && unsharedAll beginning before ds && b)) (walk-after limits beginning before ds)
+    ∙ ap (λ (b : Bool). wellCut cs && (every (goodDescriptor limits) ds && b && unsharedAll beginning before ds && (limits .companions ⇒ after false ds))) (order-same n ds)
+    ∙ ap (λ (b : Bool). wellCut cs && (b && (limits .companions ⇒ after false ds))) (regrouped (every (goodDescriptor limits) ds) (goodSettings n (map settingOf (gs .groups))) (isEmpty (gs .loose)) (every counted (gs .groups)) (pairs apart (endpointsOf (gs .groups)))
     (λ g s e. addresses-same limits n ds g e (from-beginning n (map settingOf (gs .groups)) ∙ s)))
 
 -- ---- the loop: a body that is broken further on is no good one
@@ -68,10 +74,17 @@ check-stuck limits n {body} {total} {w} {last} {at} walking e h m =
     sym (walking .rest ∙ rules limits n w last (cut (drop at body)) ∙ rw (stuck body at last h (rw e at m)))
 
 -- ---- the first descriptor
-past : (well head rest : Bool) (kinds interfaces : Bool) → rest ≡ (well && (kinds && interfaces)) → (well && (head && kinds && interfaces)) ≡ (head && rest)
-past well true rest k i p = sym p
-past true false rest k i p = refl
-past false false rest k i p = refl
+past : (well head rest : Bool) (kinds interfaces companions behind : Bool) → (head ≡ true → companions ≡ behind) → rest ≡ (well && ((kinds && interfaces) && behind))
+    → (well && (head && kinds && interfaces && companions)) ≡ (head && rest)
+past well true rest k i c b h p = rw (h refl) (sym p)
+past true false rest k i c b h p = refl
+past false false rest k i c b h p = refl
+
+-- the first is of type 2
+headed : (size : ℕ) (d : List ℕ) → goodHead size d ≡ true → bDescriptorType d ≡ 2
+headed size d p =
+    let rules = eqb (bDescriptorType d) 2 ∷ leb 9 (length d) ∷ eqb (wTotalLength d) size ∷ eqb (configurationAttributes d / 128) 1 ∷ eqb (configurationAttributes d % 32) 0 ∷ leb (bMaxPower d) 250 ∷ leb 1 (bNumInterfaces d) ∷ leb (bNumInterfaces d) 16 ∷ [] in
+    eqb-true (bDescriptorType d) 2 (conjunct 0 rules p)
 
 module _ (body : List ℕ) (step : Step) (e : step ≡ stepOf body 0 before) where
   nothing : length body ≤ 0 → step .end ≡ 0
@@ -102,4 +115,5 @@ module _ (limits : Limits) (body : List ℕ) (step : Step) (e : step ≡ stepOf 
         let d = take (step .end) body in
         let cs = cut (drop (step .end) body) in
         let ds = descriptorsOf cs in
-        rw (check-first body step e m) (past (wellCut cs) (goodHead (length body) d) _ (every (goodDescriptor limits) ds) (goodInterfaces (bNumInterfaces d) (grouped ds)) (rest-same limits (bNumInterfaces d) cs))
+        rw (check-first body step e m) (past (wellCut cs) (goodHead (length body) d) _ (every (goodDescriptor limits) ds) (goodInterfaces (bNumInterfaces d) (grouped ds)) (limits .companions ⇒ goodCompanions (d ∷ ds)) (limits .companions ⇒ after false ds)
+        (λ h. ap (λ (b : Bool). limits .companions ⇒ b) (companions-same d ds (headed (length body) d h))) (rest-same limits (bNumInterfaces d) cs))

@@ -4,7 +4,7 @@ use native.Mathlib.Omega.{arith}
 use mathlib.Core.Path.{_≡_, refl, sym, _∙_}
 use mathlib.Core.List.{List, [], _∷_}
 use mathlib.Core.Bool.{Bool, true, false, _&&_, _||_, not, and-true}
-use lib.Dec.{eqb, leb, ltb}
+use lib.Dec.{eqb, leb, ltb, leb·zero}
 use borrow.Author.Tests.{eqb-true, ne-eqb, leb-true, le-leb, ltb-true, ltb-false}
 use Rattle.octets.specs.Sentences.{pick, every, any, below, member}
 use Rattle.octets.proofs.Sentences.{cases, same-test, both, joined, below-at}
@@ -31,22 +31,29 @@ pub bulk-sizes : (size : ℕ) → goodSize fullSpeed 2 size ≡ (eqb size 8 || e
 bulk-sizes size = rw (and-true, and-true) (sizes size)
 
 -- "interrupt 0–64; isochronous 0–1,023": all 16 bits of the size
-whole-size : (most size : ℕ) → most < 2048 → (leb 0 (size % 2048) && leb (size % 2048) most && leb (size / 2048) 0) ≡ leb size most
-whole-size most size l = same-test (leb 0 (size % 2048) && leb (size % 2048) most && leb (size / 2048) 0) (leb size most)
+pub whole-size : (least most size : ℕ) → most < 2048 → (leb least (size % 2048) && leb (size % 2048) most && leb (size / 2048) 0) ≡ (leb least size && leb size most)
+whole-size least most size l = same-test (leb least (size % 2048) && leb (size % 2048) most && leb (size / 2048) 0) (leb least size && leb size most)
     (λ p.
-    let (q, z) = both (leb 0 (size % 2048) && leb (size % 2048) most) (leb (size / 2048) 0) p in
-    let m = leb-true (size % 2048) most (both (leb 0 (size % 2048)) (leb (size % 2048) most) q .1) in
+    let (q, z) = both (leb least (size % 2048) && leb (size % 2048) most) (leb (size / 2048) 0) p in
+    let (i, j) = both (leb least (size % 2048)) (leb (size % 2048) most) q in
+    let k = leb-true least (size % 2048) i in
+    let m = leb-true (size % 2048) most j in
     let n = leb-true (size / 2048) 0 z in
-    le-leb size most (omega arith))
+    joined (le-leb least size (omega arith)) (le-leb size most (omega arith)))
     (λ p.
-    let m = leb-true size most p in
-    joined (joined (le-leb 0 (size % 2048) (omega arith)) (le-leb (size % 2048) most (omega arith))) (le-leb (size / 2048) 0 (omega arith)))
+    let (i, j) = both (leb least size) (leb size most) p in
+    let k = leb-true least size i in
+    let m = leb-true size most j in
+    joined (joined (le-leb least (size % 2048) (omega arith)) (le-leb (size % 2048) most (omega arith))) (le-leb (size / 2048) 0 (omega arith)))
+
+pub up-to : (most size : ℕ) → most < 2048 → (leb 0 (size % 2048) && leb (size % 2048) most && leb (size / 2048) 0) ≡ leb size most
+up-to most size l = whole-size 0 most size l ∙ rw leb·zero
 
 pub interrupt-sizes : (size : ℕ) → goodSize fullSpeed 3 size ≡ leb size 64
-interrupt-sizes size = rw and-true (whole-size 64 size (omega arith))
+interrupt-sizes size = rw and-true (up-to 64 size (omega arith))
 
 pub isochronous-sizes : (size : ℕ) → goodSize fullSpeed 1 size ≡ leb size 1023
-isochronous-sizes size = whole-size 1023 size (omega arith)
+isochronous-sizes size = up-to 1023 size (omega arith)
 
 -- "bInterval: interrupt 1–255, isochronous 1–16, bulk free"
 pub interrupt-intervals : (interval : ℕ) → goodInterval fullSpeed 3 interval ≡ (leb 1 interval && leb interval 255)
@@ -59,7 +66,7 @@ pub bulk-intervals : (interval : ℕ) → goodInterval fullSpeed 2 interval ≡ 
 bulk-intervals interval = refl
 
 -- ---- the types that bits name
-alike : Bool → Bool → Bool
+unfoldable pub alike : Bool → Bool → Bool
 alike a b = pick a b (not b)
 
 alike-is : (a b : Bool) → alike a b ≡ true → a ≡ b
@@ -68,26 +75,26 @@ alike-is true b p = sym p
 alike-is false true p = p
 alike-is false false p = refl
 
-module _ (word : ℕ) (ts : List ℕ) (small : word < 2 ^ 8) (each : every (λ k. ltb k 8) ts ≡ true) (eight : below 8 (λ t. alike (named word t) (member t ts)) ≡ true) where
-  no-member : (t : ℕ) → 8 ≤ t → (us : List ℕ) → every (λ k. ltb k 8) us ≡ true → member t us ≡ false
+module _ (width word : ℕ) (ts : List ℕ) (small : word < 2 ^ width) (each : every (λ k. ltb k width) ts ≡ true) (all : below width (λ t. alike (named word t) (member t ts)) ≡ true) where
+  no-member : (t : ℕ) → width ≤ t → (us : List ℕ) → every (λ k. ltb k width) us ≡ true → member t us ≡ false
   unfolding any every
   no-member t l [] p = refl
   no-member t l (u ∷ us) p =
-      let (q, r) = both (ltb u 8) (every (λ k. ltb k 8) us) p in
-      let m = ltb-true u 8 q in
+      let (q, r) = both (ltb u width) (every (λ k. ltb k width) us) p in
+      let m = ltb-true u width q in
       rw (ne-eqb t u (λ e. omega arith)) (no-member t l us r)
 
-  these : (t : ℕ) → named word t ≡ member t ts
-  these t = cases (ltb t 8)
-      (λ p. alike-is (named word t) (member t ts) (below-at (λ t. alike (named word t) (member t ts)) 8 eight t (ltb-true t 8 p)))
-      (λ p. let l = ltb-false t 8 p in bit-past 8 word t small l ∙ sym (no-member t l ts each))
+  pub these : (t : ℕ) → named word t ≡ member t ts
+  these t = cases (ltb t width)
+      (λ p. alike-is (named word t) (member t ts) (below-at (λ t. alike (named word t) (member t ts)) width all t (ltb-true t width p)))
+      (λ p. let l = ltb-false t width p in bit-past width word t small l ∙ sym (no-member t l ts each))
 
 -- "types 1, 2 or 3"
 pub entry-types : (t : ℕ) → named (fullSpeed .entries) t ≡ member t (1 ∷ 2 ∷ 3 ∷ [])
 unfolding every any below alike
-entry-types = these 14 (1 ∷ 2 ∷ 3 ∷ []) (omega arith) refl refl
+entry-types = these 8 14 (1 ∷ 2 ∷ 3 ∷ []) (omega arith) refl refl
 
 -- "After it, types 1, 2, 3, 6 and 7 are refused"
 pub refused-types : (t : ℕ) → named (fullSpeed .refused) t ≡ member t (1 ∷ 2 ∷ 3 ∷ 6 ∷ 7 ∷ [])
 unfolding every any below alike
-refused-types = these 206 (1 ∷ 2 ∷ 3 ∷ 6 ∷ 7 ∷ []) (omega arith) refl refl
+refused-types = these 8 206 (1 ∷ 2 ∷ 3 ∷ 6 ∷ 7 ∷ []) (omega arith) refl refl

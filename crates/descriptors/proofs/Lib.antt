@@ -1,7 +1,9 @@
 pub mod Walk
 pub mod CheckOrder
 pub mod CheckAddresses
+pub mod CheckCompanions
 pub mod CheckWhole
+pub mod GoodBody
 pub mod Ahead
 pub mod CheckReferences
 pub mod EndpointBits
@@ -9,3 +11,4 @@ pub mod Alternates
 pub mod Surveying
 pub mod CurrentEndpoints
 pub mod FullSpeed
+pub mod SuperSpeed

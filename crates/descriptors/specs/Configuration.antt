@@ -7,13 +7,14 @@ use lib.ListN.{length, getD}
 use lib.Dec.{eqb, leb}
 use Rattle.octets.specs.Octets.{byte, word}
 use Rattle.octets.specs.Bit.{clearBit}
-use Rattle.octets.specs.Sentences.{every, any, only, first}
+use Rattle.octets.specs.Sentences.{_⇒_, every, any, only, first}
 use Rattle.descriptors.specs.declared.Limits.{Limits}
 use Rattle.descriptors.specs.declared.Setting.{Setting}
 use Rattle.descriptors.specs.declared.Endpoint.{Endpoint}
 use Rattle.descriptors.specs.Cut.{cut, descriptorsOf, wellCut}
 use Rattle.descriptors.specs.Descriptor.{bDescriptorType, goodDescriptor, iInterface, transferType}
 use Rattle.descriptors.specs.Interfaces.{Group, grouped, settingOf, endpointsOf, goodInterfaces}
+use Rattle.descriptors.specs.Companion.{goodCompanions}
 
 -- ---- the first descriptor; a body begins with it, so its fields are the body's
 abbrev pub wTotalLength : List ℕ → ℕ
@@ -48,7 +49,11 @@ goodHead size d =
 -- the descriptors of a body of size bytes
 unfoldable pub goodDescriptors : Limits → ℕ → List (List ℕ) → Bool
 goodDescriptors limits size [] = false
-goodDescriptors limits size (d ∷ ds) = goodHead size d && every (goodDescriptor limits) ds && goodInterfaces (bNumInterfaces d) (grouped ds)
+goodDescriptors limits size (d ∷ ds) =
+    goodHead size d &&
+    every (goodDescriptor limits) ds &&
+    goodInterfaces (bNumInterfaces d) (grouped ds) &&
+    (limits .companions ⇒ goodCompanions (d ∷ ds))
 
 unfoldable pub goodConfiguration : Limits → List ℕ → Bool
 goodConfiguration limits body = wellCut (cut body) && goodDescriptors limits (length body) (descriptorsOf (cut body))

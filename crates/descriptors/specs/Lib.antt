@@ -2,6 +2,7 @@ pub mod Limits
 pub mod Cut
 pub mod Descriptor
 pub mod Interfaces
+pub mod Companion
 pub mod Configuration
 pub mod Walk
 pub mod Check

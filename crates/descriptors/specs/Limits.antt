@@ -1,6 +1,6 @@
--- The row of limits that a speed sets. Document 01: "Base speed is full speed."
+-- The row of limits and rules of a kind of set. Document 01: "Base speed is full speed." Document 02 adds rows.
 use Prim.Native.Nat.{ℕ, _+_, _*_, _^_}
-use mathlib.Core.Bool.{Bool, _&&_, _||_}
+use mathlib.Core.Bool.{Bool, true, false, _&&_, _||_}
 use lib.Dec.{eqb, leb}
 use Rattle.octets.specs.Bit.{bit}
 use Rattle.descriptors.specs.declared.Range.{Range}
@@ -23,6 +23,23 @@ fullSpeed = record {
   bursts = 0;
   entries = 2 ^ 1 + 2 ^ 2 + 2 ^ 3;
   refused = 2 ^ 1 + 2 ^ 2 + 2 ^ 3 + 2 ^ 6 + 2 ^ 7;
+  companions = false;
+}
+
+-- Document 02, L13: "bMaxPacketSize0 is 9; a companion .. stands directly after every endpoint and nowhere else; there is one BOS entry (type 15 ..);
+-- bulk size is 1,024, interrupt 1–1,024, isochronous 0–1,024, both with bInterval 1–16." proofs/SuperSpeed says each field so, for every number
+abbrev pub superSpeed : Limits
+superSpeed = record {
+  control = range 9 9;
+  bulk = range 1024 1024;
+  interrupt = range 1 1024;
+  polling = range 1 16;
+  isochronous = range 0 1024;
+  period = range 1 16;
+  bursts = 0;
+  entries = 2 ^ 1 + 2 ^ 2 + 2 ^ 3 + 2 ^ 15;
+  refused = 2 ^ 1 + 2 ^ 2 + 2 ^ 3 + 2 ^ 6 + 2 ^ 7;
+  companions = true;
 }
 
 abbrev pub within : Range → ℕ → Bool

@@ -6,7 +6,7 @@ pub mod survey;
 
 ghost use mathlib.Core.Path.{_≡_};
 ghost use mathlib.Core.Bool.{true};
-ghost use Rattle.descriptors.specs.Limits.{fullSpeed};
+ghost use Rattle.descriptors.specs.Limits.{fullSpeed, superSpeed};
 ghost use Rattle.descriptors.specs.Walk.{before, standOf, stepsOn, stepOf};
 
 // A range of numbers, both ends in it.
@@ -15,8 +15,9 @@ pub struct Range {
     pub most: u16,
 }
 
-// What a speed allows. `control` is bMaxPacketSize0; `polling` and `period` are the bInterval of interrupt and isochronous endpoints;
-// `bursts` is the largest number in wMaxPacketSize's bits 15-11; bit t of `entries` and of `refused` stands for descriptor type t.
+// What a kind of set allows. `control` is bMaxPacketSize0; `polling` and `period` are the bInterval of interrupt and isochronous endpoints;
+// `bursts` is the largest number in wMaxPacketSize's bits 15-11; bit t of `entries` and of `refused` stands for descriptor type t;
+// `companions` asks for one after every endpoint.
 pub struct Limits {
     pub control: Range,
     pub bulk: Range,
@@ -27,6 +28,7 @@ pub struct Limits {
     pub bursts: u16,
     pub entries: u16,
     pub refused: u16,
+    pub companions: bool,
 }
 
 // The limits of full speed.
@@ -49,6 +51,34 @@ pub fn full_speed() -> Limits
         bursts: 0,
         entries: 0x0E,
         refused: 0xCE,
+        companions: false,
+    }
+}
+
+// The limits of SuperSpeed.
+pub fn super_speed() -> Limits
+    ensures { λ r. ⌜ r ≡ superSpeed ⌝ }
+{
+    Limits {
+        control: Range { least: 9, most: 9 },
+        bulk: Range {
+            least: 1024,
+            most: 1024,
+        },
+        interrupt: Range {
+            least: 1,
+            most: 1024,
+        },
+        polling: Range { least: 1, most: 16 },
+        isochronous: Range {
+            least: 0,
+            most: 1024,
+        },
+        period: Range { least: 1, most: 16 },
+        bursts: 0,
+        entries: 0x800E,
+        refused: 0xCE,
+        companions: true,
     }
 }
 

@@ -11,20 +11,19 @@ use Rattle.octets.specs.Octets.{byte}
 use Rattle.octets.specs.Sentences.{pick, _⇒_, every, only, neighbours, pairs}
 use Rattle.octets.proofs.Sentences.{both, conjunct, if-then}
 use Rattle.descriptors.specs.declared.Limits.{Limits}
-use Rattle.descriptors.specs.Limits.{fullSpeed, named}
+use Rattle.descriptors.specs.Limits.{named}
 use Rattle.descriptors.specs.Cut.{broken, descriptor, cut, cutAfter, descriptorsOf}
 use Rattle.descriptors.specs.Descriptor.{bDescriptorType, isInterface, isEndpoint, bEndpointAddress, bmAttributes, bInterval, wMaxPacketSize, transferType, goodAddress, goodAttributes, goodSize, goodInterval, goodEndpoint, goodDescriptor}
-use Rattle.descriptors.specs.Interfaces.{grouped, goodInterfaces}
-use Rattle.descriptors.specs.Configuration.{bConfigurationValue, bNumInterfaces, bMaxPower, configurationAttributes, wTotalLength, behind, goodHead, goodDescriptors, goodConfiguration}
+use Rattle.descriptors.specs.Configuration.{bConfigurationValue, bNumInterfaces, bMaxPower, configurationAttributes, wTotalLength, behind, goodConfiguration}
 use Rattle.sets.specs.declared.Entry.{Entry}
 use Rattle.sets.specs.Contents.{entries, entriesOf, bodyOf, bodies, isKind, total, count, bodiesAt, before, goodFrame, endToEnd, goodContents}
-use Rattle.sets.specs.Opening.{Board, numberedFrom, goodConfigurations}
-use Rattle.sets.specs.View.{openingOf}
+use Rattle.sets.specs.Opening.{Board, opening, numberedFrom, goodConfigurations}
 use Rattle.sets.proofs.Groups.{Groups, groups}
 use Rattle.listing.specs.Listing.{digits, fields, line, acceptedWord, refusedWord, configurationLines, acceptedLines, listing}
 use Rattle.listing.specs.Listed.{room}
 use Rattle.listing.specs.Written.{descriptorLines}
-use Rattle.listing.proofs.Lines.{descriptorLine, differ, headLine, lines-flat, good-cut, good-descriptors, configuration-lines}
+use Rattle.descriptors.proofs.GoodBody.{GoodDescriptors, good-cut, good-body}
+use Rattle.listing.proofs.Lines.{descriptorLine, headLine, lines-flat, configuration-lines}
 
 -- ---- a line: its word, six bytes for each field, and the line feed
 digits-length : (n x : ℕ) → length (digits n x) ≤ n
@@ -91,18 +90,17 @@ module _ (limits : Limits) where
       go false false q r = rw (q, r) (omega arith)
 
   -- ---- a configuration
-  descriptors-length : (size : ℕ) (ds : List (List ℕ)) → goodDescriptors limits size ds ≡ true → 14 + length (flatMap descriptorLine (behind ds)) ≤ 3 * lengths ds
-  unfolding goodDescriptors lengths
-  descriptors-length size [] p = absurd (differ p)
-  descriptors-length size (d ∷ ds) p =
-      let rules = goodHead size d ∷ every (goodDescriptor limits) ds ∷ goodInterfaces (bNumInterfaces d) (grouped ds) ∷ [] in
+  descriptors-length : (size : ℕ) (ds : List (List ℕ)) → GoodDescriptors limits size ds → 14 + length (flatMap descriptorLine (behind ds)) ≤ 3 * lengths ds
+  unfolding lengths
+  descriptors-length size ds good =
+      let d = good .first in
       let head = eqb (bDescriptorType d) 2 ∷ leb 9 (length d) ∷ eqb (wTotalLength d) size ∷ eqb (configurationAttributes d / 128) 1 ∷ eqb (configurationAttributes d % 32) 0 ∷ leb (bMaxPower d) 250 ∷ leb 1 (bNumInterfaces d) ∷ leb (bNumInterfaces d) 16 ∷ [] in
-      omega (arith, leb-true 9 (length d) (conjunct 1 head (conjunct 0 rules p)), flat-length descriptorLine (goodDescriptor limits) descriptor-length ds (conjunct 1 rules p))
+      omega (arith, leb-true 9 (length d) (conjunct 1 head (good .head)), ap lengths (good .begins), flat-length descriptorLine (goodDescriptor limits) descriptor-length (behind ds) (good .each))
 
   configuration-length : (body : List ℕ) → goodConfiguration limits body ≡ true → length (configurationLines body) ≤ 3 * length body
   configuration-length body p =
       let ds = descriptorsOf (cut body) in
-      omega (arith, ap length (configuration-lines limits body p) ∙ length-append (headLine body) (descriptorLines body), ap length (lines-flat body (good-cut limits body p)), line-length (67 ∷ []) (bConfigurationValue body ∷ bNumInterfaces body ∷ []), descriptors-length (length body) ds (good-descriptors limits body p), cut-lengths 0 body)
+      omega (arith, ap length (configuration-lines limits body p) ∙ length-append (headLine body) (descriptorLines body), ap length (lines-flat body (good-cut limits body p)), line-length (67 ∷ []) (bConfigurationValue body ∷ bNumInterfaces body ∷ []), descriptors-length (length body) ds (good-body limits body p), cut-lengths 0 body)
 
 -- ---- a set
 -- the bodies of one type, of entries that lie end to end
@@ -140,10 +138,10 @@ accepted-length limits b g =
     ))
 
 -- every board's text
-pub listing-length : (b : Board) → length (listing b) ≤ room
+pub listing-length : (limits : Limits) (b : Board) → length (listing limits b) ≤ room
 unfolding listing
-listing-length b = go (eqb (openingOf b) 0) refl
+listing-length limits b = go (eqb (opening limits b) 0) refl
   where
-    go : (t : Bool) → eqb (openingOf b) 0 ≡ t → length (pick t (acceptedLines (b .set)) (line refusedWord (openingOf b ∷ []))) ≤ room
-    go true p = accepted-length fullSpeed b (groups fullSpeed b (eqb-true (openingOf b) 0 p))
-    go false p = omega (arith, line-length refusedWord (openingOf b ∷ []))
+    go : (t : Bool) → eqb (opening limits b) 0 ≡ t → length (pick t (acceptedLines (b .set)) (line refusedWord (opening limits b ∷ []))) ≤ room
+    go true p = accepted-length limits b (groups limits b (eqb-true (opening limits b) 0 p))
+    go false p = omega (arith, line-length refusedWord (opening limits b ∷ []))

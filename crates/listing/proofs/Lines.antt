@@ -10,9 +10,9 @@ use Rattle.octets.specs.Sentences.{pick, _⇒_, every, only, pairs, isEmpty}
 use Rattle.octets.proofs.Sentences.{cases, both, conjunct}
 use Rattle.descriptors.specs.declared.Limits.{Limits}
 use Rattle.descriptors.specs.Cut.{cut, descriptorsOf, wellCut}
-use Rattle.descriptors.specs.Descriptor.{isInterface, isEndpoint, goodDescriptor}
-use Rattle.descriptors.specs.Interfaces.{grouped, begunBy, settingOf, endpointsOf, goodSettings, counted, apart, goodInterfaces}
-use Rattle.descriptors.specs.Configuration.{bNumInterfaces, bConfigurationValue, goodHead, goodDescriptors, goodConfiguration, behind, groupsOf}
+use Rattle.descriptors.specs.Descriptor.{isInterface, isEndpoint}
+use Rattle.descriptors.specs.Interfaces.{grouped, begunBy, settingOf, endpointsOf, goodSettings, counted, apart}
+use Rattle.descriptors.specs.Configuration.{bNumInterfaces, bConfigurationValue, goodConfiguration, behind, groupsOf}
 use Rattle.descriptors.specs.Walk.{before, standOf}
 use Rattle.sets.specs.declared.Entry.{Entry}
 use Rattle.sets.specs.Contents.{entryOf, entries, bodyOf, bodies, isKind, count}
@@ -20,6 +20,7 @@ use Rattle.sets.proofs.Entries.{rest, rest-start, next-entry, no-entry, every-c
 use Rattle.listing.specs.Listing.{decimal, fields, line, endpointLine, interfaceLines, configurationLines}
 use Rattle.listing.specs.Written.{interfaceLine, telling, descriptorLines, entryLines, goodListed}
 use Rattle.descriptors.specs.declared.Stand.{Stand}
+use Rattle.descriptors.proofs.GoodBody.{GoodDescriptors, good-cut, good-body}
 use Rattle.descriptors.proofs.Walk.{collected-flat}
 use Rattle.descriptors.proofs.Ahead.{at-first}
 use Rattle.writing.proofs.Written.{one-more}
@@ -88,25 +89,12 @@ in-order body w p =
     ap (λ (l : List ℕ). l ++ flatMap interfaceLines (grouped ds .groups)) (sym (none-loose (grouped ds .loose) p)) ∙ by-descriptor ds ∙ sym (lines-flat body w)
 
 -- ---- a configuration that is accepted
-module _ (limits : Limits) (body : List ℕ) (p : goodConfiguration limits body ≡ true) where
-  pub good-cut : wellCut (cut body) ≡ true
-  unfolding goodConfiguration
-  good-cut = both (wellCut (cut body)) (goodDescriptors limits (length body) (descriptorsOf (cut body))) p .0
-
-  pub good-descriptors : goodDescriptors limits (length body) (descriptorsOf (cut body)) ≡ true
-  unfolding goodConfiguration
-  good-descriptors = both (wellCut (cut body)) (goodDescriptors limits (length body) (descriptorsOf (cut body))) p .1
-
--- the rules of the descriptors behind the first
-behind-good : (limits : Limits) (size : ℕ) (ds : List (List ℕ)) → goodDescriptors limits size ds ≡ true
-    → (every (goodDescriptor limits) (behind ds) ≡ true) × (isEmpty (grouped (behind ds) .loose) ≡ true)
-unfolding goodDescriptors
-behind-good limits size [] p = absurd (differ p)
-behind-good limits size (d ∷ ds) p =
-    let gs = grouped ds in
-    let rules = goodHead size d ∷ every (goodDescriptor limits) ds ∷ goodInterfaces (bNumInterfaces d) gs ∷ [] in
-    let inner = isEmpty (gs .loose) ∷ goodSettings (bNumInterfaces d) (map settingOf (gs .groups)) ∷ every counted (gs .groups) ∷ pairs apart (endpointsOf (gs .groups)) ∷ [] in
-    (conjunct 1 rules p, conjunct 0 inner (conjunct 2 rules p))
+-- no endpoint stands before the first interface
+nothing-loose : (limits : Limits) (size : ℕ) (ds : List (List ℕ)) → GoodDescriptors limits size ds → isEmpty (grouped (behind ds) .loose) ≡ true
+nothing-loose limits size ds good =
+    let gs = grouped (behind ds) in
+    let n = bNumInterfaces (good .first) in
+    conjunct 0 (isEmpty (gs .loose) ∷ goodSettings n (map settingOf (gs .groups)) ∷ every counted (gs .groups) ∷ pairs apart (endpointsOf (gs .groups)) ∷ []) (good .interfaces)
 
 -- so its lines are its own and those of its descriptors in order
 abbrev pub headLine : List ℕ → List ℕ
@@ -114,7 +102,7 @@ headLine body = line (67 ∷ []) (bConfigurationValue body ∷ bNumInterfaces bo
 
 pub configuration-lines : (limits : Limits) (body : List ℕ) → goodConfiguration limits body ≡ true → configurationLines body ≡ headLine body ++ descriptorLines body
 configuration-lines limits body p =
-    ap (λ (l : List ℕ). headLine body ++ l) (in-order body (good-cut limits body p) (behind-good limits (length body) (descriptorsOf (cut body)) (good-descriptors limits body p) .1))
+    ap (λ (l : List ℕ). headLine body ++ l) (in-order body (good-cut limits body p) (nothing-loose limits (length body) (descriptorsOf (cut body)) (good-body limits body p)))
 
 -- ---- the configurations of a set, entry by entry
 by-entry : (set : List ℕ) (es : List Entry) → flatMap configurationLines (map (bodyOf set) (only (isKind 2) es)) ≡ flatMap (entryLines set) es

@@ -10,11 +10,9 @@ use lib.Seq.{length-sets, sets-eq, length-take-le}
 use borrow.Author.Tests.{eq-eqb, ne-eqb}
 use Rattle.octets.specs.Sentences.{every}
 use Rattle.descriptors.specs.declared.Limits.{Limits}
-use Rattle.descriptors.specs.Limits.{fullSpeed}
 use Rattle.descriptors.specs.Configuration.{goodConfiguration}
 use Rattle.sets.specs.Contents.{bodies}
-use Rattle.sets.specs.Opening.{Board}
-use Rattle.sets.specs.View.{openingOf}
+use Rattle.sets.specs.Opening.{Board, opening}
 use Rattle.sets.proofs.Groups.{groups}
 use Rattle.listing.specs.Listing.{line, refusedWord, acceptedLines, listing}
 use Rattle.writing.specs.Written.{Room, Wrote}
@@ -22,24 +20,24 @@ use Rattle.listing.specs.Listed.{room, Listed}
 use Rattle.listing.proofs.Bound.{good-bodies, listing-length}
 
 -- n is what opening answered
-module _ (b : Board) (n : ℕ) (o : n ≡ openingOf b) where
-  pub refused : (n ≡ 0 → ⊥) → listing b ≡ line refusedWord (n ∷ [])
+module _ (limits : Limits) (b : Board) (n : ℕ) (o : n ≡ opening limits b) where
+  pub refused : (n ≡ 0 → ⊥) → listing limits b ≡ line refusedWord (n ∷ [])
   unfolding listing
-  refused p = rw (o, ne-eqb (openingOf b) 0 (λ q. p (o ∙ q)))
+  refused p = rw (o, ne-eqb (opening limits b) 0 (λ q. p (o ∙ q)))
 
-  pub accepted : n ≡ 0 → listing b ≡ acceptedLines (b .set)
+  pub accepted : n ≡ 0 → listing limits b ≡ acceptedLines (b .set)
   unfolding listing
-  accepted p = rw (eq-eqb (openingOf b) 0 (sym o ∙ p))
+  accepted p = rw (eq-eqb (opening limits b) 0 (sym o ∙ p))
 
   pub good : n ≡ 0 → (l : Limits) × (every (goodConfiguration l) (bodies 2 (b .set)) ≡ true)
-  good p = (fullSpeed, good-bodies fullSpeed (b .set) (groups fullSpeed b (sym o ∙ p) .configurations))
+  good p = (limits, good-bodies limits (b .set) (groups limits b (sym o ∙ p) .configurations))
 
 -- its text, in a buffer that is long enough for any
-module _ (b : Board) (text : List ℕ) (e : listing b ≡ text) (out : List ℕ) (h : room ≤ length out) where
+module _ (limits : Limits) (b : Board) (text : List ℕ) (e : listing limits b ≡ text) (out : List ℕ) (h : room ≤ length out) where
   pub enough : Room out 0 text
-  enough = omega (arith, listing-length b, ap length e)
+  enough = omega (arith, listing-length limits b, ap length e)
 
-  pub listed : {after : List ℕ} {end : ℕ} → Wrote out 0 text after end → Listed b out after end
+  pub listed : {after : List ℕ} {end : ℕ} → Wrote out 0 text after end → Listed limits b out after end
   listed {after} {end} w =
       let size : end ≡ length text = w .place ∙ zero-add (length text) in
       let kept : length after ≡ length out = ap length (w .bytes) ∙ length-sets out 0 text in

@@ -181,12 +181,12 @@ fn put_accepted(out: &mut [u8], set: &[u8]) -> usize
     put_configurations(out, next, set)
 }
 
-// The lister's text of a set and a serial block, at the buffer's start; its length comes back.
-pub fn list(set: &[u8], serial: &[u8], out: &mut [u8]) -> usize
+// The lister's text of a set, of the kind that is named, and a serial block, at the buffer's start; its length comes back.
+pub fn list(set: &[u8], serial: &[u8], limits: descriptors::Limits, out: &mut [u8]) -> usize
     requires { ⌜ room ≤ length (now out) ⌝ }
-    ensures { λ r. ⌜ Listed (lent (now (set .entry)) (now (serial .entry))) (now (out .entry)) (now (out .exit)) r ⌝ }
+    ensures { λ r. ⌜ Listed limits (lent (now (set .entry)) (now (serial .entry))) (now (out .entry)) (now (out .exit)) r ⌝ }
 {
-    let number = sets::opening(set, serial, descriptors::full_speed()) as u16;
+    let number = sets::opening(set, serial, limits) as u16;
     if number != 0 {
         return put_line(out, 0, b"REFUSED", &[number]);
     }

@@ -9,8 +9,9 @@ use Rattle.octets.specs.Sentences.{pick, any, only, first}
 use Rattle.octets.proofs.Sentences.{cases, never}
 use Rattle.descriptors.specs.declared.Limits.{Limits}
 use Rattle.sets.specs.declared.Entry.{Entry}
-use Rattle.sets.specs.Contents.{entries, entriesOf, bodies, bodyOf}
-use Rattle.sets.specs.Device.{deviceBody, headBody, goodDevice, goodDeviceEntries}
+use Rattle.sets.specs.Contents.{entries, entriesOf, bodies, bodyOf, sole}
+use Rattle.sets.specs.Device.{deviceBody, headBody, goodDevice}
+use Rattle.sets.specs.Capabilities.{goodStore}
 use Rattle.sets.specs.Strings.{references}
 use Rattle.sets.specs.Opening.{numberedFrom, goodDevices, goodConfigurations, goodBlock}
 use Rattle.pieces.specs.Pieces.{Piece}
@@ -78,15 +79,15 @@ module _ (set : List ℕ) where
   head-of [] = refl
   head-of (e ∷ es) = refl
 
-  abbrev devices : Limits → ℕ → List Piece → Bool
-  devices limits n [] = false
-  devices limits n (p ∷ []) = eqb (p .index) 0 && eqb (p .language) 0 && goodDevice limits n (p .body)
-  devices limits n (p ∷ q ∷ ps) = false
+  abbrev alone : (List ℕ → Bool) → List Piece → Bool
+  alone good [] = false
+  alone good (p ∷ []) = eqb (p .index) 0 && eqb (p .language) 0 && good (p .body)
+  alone good (p ∷ q ∷ ps) = false
 
-  devices-of : (limits : Limits) (es : List Entry) → goodDeviceEntries limits set es ≡ devices limits (length (entriesOf 2 set)) (map (pieceFor set) es)
-  devices-of limits [] = refl
-  devices-of limits (e ∷ []) = refl
-  devices-of limits (e ∷ f ∷ es) = refl
+  alone-of : (good : List ℕ → Bool) (es : List Entry) → sole good set es ≡ alone good (map (pieceFor set) es)
+  alone-of good [] = refl
+  alone-of good (e ∷ []) = refl
+  alone-of good (e ∷ f ∷ es) = refl
 
 unfoldable numbered : ℕ → List Piece → Bool
 numbered i [] = true
@@ -97,10 +98,11 @@ unfolding numberedFrom numbered
 numbered-of set i [] = refl
 numbered-of set i (e ∷ es) = rw (numbered-of set (i + 1) es)
 
--- ---- two sets with the same device and configurations
+-- ---- two sets with the same device, BOS and configurations
 pub record Alike (s t : List ℕ) : Type 0 where
   pub device : only (kindOf 1) (piecesIn s) ≡ only (kindOf 1) (piecesIn t)
   pub configurations : only (kindOf 2) (piecesIn s) ≡ only (kindOf 2) (piecesIn t)
+  pub store : only (kindOf 15) (piecesIn s) ≡ only (kindOf 15) (piecesIn t)
 
 module _ {s t : List ℕ} (a : Alike s t) where
   pub same-device : deviceBody s ≡ deviceBody t
@@ -117,11 +119,12 @@ module _ {s t : List ℕ} (a : Alike s t) where
   same-count : length (entriesOf 2 s) ≡ length (entriesOf 2 t)
   same-count = length-of s 2 ∙ ap length (a .configurations) ∙ sym (length-of t 2)
 
+  same-alone : (good : List ℕ → Bool) (k : ℕ) → only (kindOf k) (piecesIn s) ≡ only (kindOf k) (piecesIn t) → sole good s (entriesOf k s) ≡ sole good t (entriesOf k t)
+  same-alone good k p = alone-of s good (entriesOf k s) ∙ ap (alone s good) (of-kind s k ∙ p ∙ sym (of-kind t k)) ∙ sym (alone-of t good (entriesOf k t))
+
   pub same-devices : (limits : Limits) → goodDevices limits s ≡ goodDevices limits t
   unfolding goodDevices
-  same-devices limits =
-      devices-of s limits (entriesOf 1 s) ∙ ap (λ (n : ℕ). devices s limits n (map (pieceFor s) (entriesOf 1 s))) same-count
-      ∙ ap (devices s limits (length (entriesOf 2 t))) (of-kind s 1 ∙ a .device ∙ sym (of-kind t 1)) ∙ sym (devices-of t limits (entriesOf 1 t))
+  same-devices limits = rw (same-count, same-alone (goodDevice limits (length (entriesOf 2 t))) 1 (a .device), same-alone goodStore 15 (a .store))
 
   same-numbered : numberedFrom 0 (entriesOf 2 s) ≡ numberedFrom 0 (entriesOf 2 t)
   same-numbered = numbered-of s 0 (entriesOf 2 s) ∙ ap (numbered 0) (of-kind s 2 ∙ a .configurations ∙ sym (of-kind t 2)) ∙ sym (numbered-of t 0 (entriesOf 2 t))

@@ -25,7 +25,7 @@ unfolding computed
 opens = refl
 
 -- ACCEPTED 1, C 1 1, I 0 0 1, E 129 3 8
-pub lists : listing S ≡
+pub lists : listing fullSpeed S ≡
     line (65 ∷ 67 ∷ 67 ∷ 69 ∷ 80 ∷ 84 ∷ 69 ∷ 68 ∷ []) (1 ∷ []) ++
     line (67 ∷ []) (1 ∷ 1 ∷ []) ++ line (73 ∷ []) (0 ∷ 0 ∷ 1 ∷ []) ++ line (69 ∷ []) (129 ∷ 3 ∷ 8 ∷ [])
 unfolding computed

@@ -5,6 +5,7 @@ use lib.ListN.{length}
 use Rattle.octets.specs.Sentences.{every, any, only, first, pairs, neighbours, below, from}
 use Rattle.descriptors.specs.Cut.{cutAfter, descriptorsOf, wellCut}
 use Rattle.descriptors.specs.Interfaces.{grouped, endpointsOf, endsAt}
+use Rattle.descriptors.specs.Companion.{endsWithEndpoint}
 use Rattle.descriptors.specs.Configuration.{goodDescriptors, goodConfiguration, groupsOf, configurationOf, configurationReferences, cleared}
 use Rattle.sets.specs.Contents.{entriesFrom, goodFrame, endToEnd, goodContents}
 use Rattle.sets.specs.Strings.{words, languages, references, goodStrings}
@@ -65,7 +66,7 @@ string text = (2 + length text) ∷ 3 ∷ text
 
 -- a statement that says `unfolding computed` computes with all the definitions
 unfoldable pub computed : ℕ
-unfolding every any only first pairs neighbours below from cutAfter descriptorsOf wellCut grouped endpointsOf endsAt goodDescriptors goodConfiguration groupsOf configurationOf configurationReferences cleared entriesFrom goodFrame endToEnd goodContents words languages references goodStrings goodDevices numberedFrom goodConfigurations goodBlock opening viewOf fourBytes bytesOfFour deviceOf imageOf fits refusal getStatus clearFeature setFeature setAddress locate getDescriptor getConfiguration setConfiguration getInterface setInterface request answerSetup statusEnd halt packetPassed step event opened concerns packet digits fields listing flatMap contents bodies laid
+unfolding every any only first pairs neighbours below from cutAfter descriptorsOf wellCut grouped endpointsOf endsAt endsWithEndpoint goodDescriptors goodConfiguration groupsOf configurationOf configurationReferences cleared entriesFrom goodFrame endToEnd goodContents words languages references goodStrings goodDevices numberedFrom goodConfigurations goodBlock opening viewOf fourBytes bytesOfFour deviceOf imageOf fits refusal getStatus clearFeature setFeature setAddress locate getDescriptor getConfiguration setConfiguration getInterface setInterface request answerSetup statusEnd halt packetPassed step event opened concerns packet digits fields listing flatMap contents bodies laid
 computed = 0
 
 -- ---- the bench set S, byte for byte as document 01 prints it

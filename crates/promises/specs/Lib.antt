@@ -9,6 +9,8 @@ pub mod Packets
 pub mod Refusal
 pub mod Refusals
 pub mod Replies
+pub mod Kinds
+pub mod SuperSpeed
 pub mod Keeps
 pub mod Images
 pub mod Inhabited

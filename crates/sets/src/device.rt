@@ -1,5 +1,6 @@
 // The device descriptor and the serial block. Groups 3 and 6.
 use crate::EntryFound;
+use crate::capabilities::good_capabilities;
 use crate::contents::body_of;
 use crate::contents::count_whole;
 use crate::contents::entry_of;
@@ -8,8 +9,8 @@ use octets::table::holds;
 ghost use mathlib.Core.Path.{_≡_};
 ghost use Prim.Native.Nat.{_≤_};
 ghost use lib.ListN.{length};
-ghost use Rattle.sets.specs.Contents.{bodiesAt};
-ghost use Rattle.sets.specs.Device.{goodDevice, deviceBody, iSerialNumber};
+ghost use Rattle.sets.specs.Contents.{bodiesAt, entriesOf};
+ghost use Rattle.sets.specs.Device.{goodDevice, goodDeviceEntries, deviceBody, iSerialNumber};
 ghost use Rattle.sets.specs.Opening.{goodDevices, goodSerial};
 ghost use Rattle.sets.specs.Checks.{deviceRefers};
 
@@ -38,10 +39,9 @@ pub fn device_body(set: &[u8]) -> &[u8]
     }
 }
 
-// Group 3, once the contents are whole.
-pub fn good_devices(set: &[u8], limits: Limits) -> bool
+fn good_device_entries(set: &[u8], limits: Limits) -> bool
     requires { ⌜ bodiesAt (now set) ≤ length (now set) ⌝ }
-    ensures { λ r. ⌜ r ≡ goodDevices limits (now (set .entry)) ⌝ }
+    ensures { λ r. ⌜ r ≡ goodDeviceEntries limits (now (set .entry)) (entriesOf 1 (now (set .entry))) ⌝ }
 {
     if count_whole(set, 1) != 1 {
         return false;
@@ -55,6 +55,14 @@ pub fn good_devices(set: &[u8], limits: Limits) -> bool
         }
         EntryFound::Nothing => false,
     }
+}
+
+// Group 3, once the contents are whole.
+pub fn good_devices(set: &[u8], limits: Limits) -> bool
+    requires { ⌜ bodiesAt (now set) ≤ length (now set) ⌝ }
+    ensures { λ r. ⌜ r ≡ goodDevices limits (now (set .entry)) ⌝ }
+{
+    good_capabilities(set, limits) & good_device_entries(set, limits)
 }
 
 // The index of the serial number's string, 0 where there is none.

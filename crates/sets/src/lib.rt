@@ -1,4 +1,5 @@
 // A descriptor set: its contents, and whether it may be opened.
+pub mod capabilities;
 pub mod configuration;
 pub mod contents;
 pub mod device;

@@ -3,7 +3,7 @@ use Prim.Native.Nat.{ℕ, zero, suc, _+_, _≤_}
 use native.Mathlib.Omega.{arith}
 use mathlib.Core.Path.{_≡_, refl, sym, ap, _∙_}
 use mathlib.Core.List.{List, [], _∷_, map, List·Memᴰ, List·Memᴰ·not-nil}
-use mathlib.Core.Bool.{Bool, true, false, not, false≢true}
+use mathlib.Core.Bool.{Bool, true, false, not}
 use mathlib.Core.Option.{Option, some, none}
 use lib.ListN.{length, take, drop, getElem?, length-take, length-drop}
 use lib.Seq.{take-take, drop-drop}
@@ -11,19 +11,18 @@ use lib.Dec.{eqb, leb}
 use borrow.Author.Tests.{eq-eqb, ne-eqb, eqb-true, leb-true}
 use Rattle.octets.specs.Octets.{byte, part}
 use Rattle.octets.specs.Sentences.{pick, _⇒_, every, any, first, pairs}
-use Rattle.octets.proofs.Sentences.{cases, both, if-then, conjunct, every-map, every-member, only-member, first-some}
+use Rattle.octets.proofs.Sentences.{cases, if-then, conjunct, every-map, every-member, only-member, first-some}
 use Rattle.octets.proofs.Counting.{at-member}
-use Rattle.descriptors.specs.declared.Limits.{Limits}
 use Rattle.descriptors.specs.Cut.{cut, descriptorsOf, wellCut}
 use Rattle.descriptors.specs.Limits.{named, fullSpeed}
 use Rattle.descriptors.specs.Descriptor.{bDescriptorType, isInterface, isEndpoint, goodEndpoint, goodDescriptor}
-use Rattle.descriptors.specs.Interfaces.{grouped, goodInterfaces}
 use Rattle.descriptors.specs.declared.survey.Asked.{Asked}
 use Rattle.descriptors.specs.declared.survey.Survey.{Survey}
 use Rattle.descriptors.specs.Survey.{Surveys}
-use Rattle.descriptors.specs.Configuration.{bNumInterfaces, bConfigurationValue, behind, goodHead, goodDescriptors, goodConfiguration, configurationOf}
+use Rattle.descriptors.specs.Configuration.{bConfigurationValue, behind, goodConfiguration, configurationOf}
 use Rattle.descriptors.specs.Endpoints.{DescriptorAt, currentDescriptors}
 use Rattle.descriptors.specs.Seek.{foundAt}
+use Rattle.descriptors.proofs.GoodBody.{good-cut, good-body}
 use Rattle.descriptors.proofs.CurrentEndpoints.{from-member, lies}
 use Rattle.sets.specs.declared.Entry.{Entry}
 use Rattle.sets.specs.declared.EntryFound.{EntryFound}
@@ -132,11 +131,6 @@ within (suc n) (suc at) size (x ∷ l) h = within n at size l (omega arith)
 part-part : (set : List ℕ) (offset n at size : ℕ) → at + size ≤ n → part (part set offset n) at size ≡ part set (offset + at) size
 part-part set offset n at size h = within n at size (drop offset set) h ∙ rw drop-drop
 
-each-good : (limits : Limits) (size : ℕ) (ds : List (List ℕ)) → goodDescriptors limits size ds ≡ true → every (goodDescriptor limits) (behind ds) ≡ true
-unfolding goodDescriptors
-each-good limits size [] p = absurd (false≢true p)
-each-good limits size (d ∷ ds) p = conjunct 1 (goodHead size d ∷ every (goodDescriptor limits) ds ∷ goodInterfaces (bNumInterfaces d) (grouped ds) ∷ []) p
-
 module _ (b : Board) (opens : openingOf b ≡ 0) (d : Device) where
   g : Groups fullSpeed b
   g = groups fullSpeed b opens
@@ -151,17 +145,15 @@ module _ (b : Board) (opens : openingOf b ≡ 0) (d : Device) where
       every-member (λ e. goodConfiguration fullSpeed (bodyOf set e)) (sym (every-map (goodConfiguration fullSpeed) (bodyOf set) (entriesOf 2 set)) ∙ conjunct 1 rules (g .configurations)) m
 
   in-entry : (e : Entry) → List·Memᴰ e (entriesOf 2 (b .set)) → (q : DescriptorAt) → List·Memᴰ q (currentDescriptors (d .alternates) (bodyOf (b .set) e)) → Stands (b .set) (inSet e q)
-  unfolding goodConfiguration
   in-entry e m q n =
       let set = b .set in
       let body = bodyOf set e in
-      let (well, rules) = both (wellCut (cut body)) (goodDescriptors fullSpeed (length body) (descriptorsOf (cut body))) (entry-good e m) in
-      let lie = lies (d .alternates) body well q n in
+      let lie = lies (d .alternates) body (good-cut fullSpeed body (entry-good e m)) q n in
       let fit = inside fullSpeed b g e (only-member (isKind 2) (entries set) m .0) in
       let size : length body ≤ e .length = rw (length-take, length-drop) (omega arith) in
       let l = q .bytes in
       let (k, t) = from-member (d .alternates) false (byte body 0) (behind (descriptorsOf (cut body))) q n in
-      let each = every-member (goodDescriptor fullSpeed) (each-good fullSpeed (length body) (descriptorsOf (cut body)) rules) k in
+      let each = every-member (goodDescriptor fullSpeed) (good-body fullSpeed body (entry-good e m) .each) k in
       record {
         inside = omega (arith, lie .inside, fit, size);
         shown = sym (part-part set (e .offset) (e .length) (q .offset) (length l) (omega (arith, lie .inside, size))) ∙ lie .shown;

@@ -63,6 +63,7 @@ module _ (set : List ℕ) where
   alike = record {
     device = ap (only (kindOf 1)) reads-back ∙ only-only (kindOf 1) (keptPiece set) (not-string 1 refl) (piecesIn set);
     configurations = ap (only (kindOf 2)) reads-back ∙ only-only (kindOf 2) (keptPiece set) (not-string 2 refl) (piecesIn set);
+    store = ap (only (kindOf 15)) reads-back ∙ only-only (kindOf 15) (keptPiece set) (not-string 15 refl) (piecesIn set);
   }
 
   -- ---- trimming again

@@ -14,8 +14,8 @@ use Rattle.sets.specs.declared.Entry.{Entry}
 use Rattle.sets.specs.Contents.{entries, entriesOf, count, goodFrame, goodContents}
 use Rattle.sets.specs.Device.{deviceBody, iSerialNumber, goodDeviceEntries}
 use Rattle.sets.specs.Strings.{references, goodStrings}
-use Rattle.sets.specs.Opening.{Board, lent, opening, goodDevices}
-use Rattle.sets.proofs.Groups.{Groups, groups}
+use Rattle.sets.specs.Opening.{Board, lent, opening}
+use Rattle.sets.proofs.Groups.{Groups, groups, one-device}
 use Rattle.octets.specs.Octets.{Bytes}
 use Rattle.pieces.specs.Pieces.{Piece}
 use Rattle.pieces.specs.Sorted.{precedes}
@@ -84,9 +84,8 @@ module _ (limits : Limits) (set serial : List ℕ) (small : Bytes set) (p : open
   fits = omega (arith, laid-length ps, ap length whole, framed set (g .frame) .most)
 
   one : 1 ≤ length (only k ps)
-  unfolding goodDevices
   one =
-      let d = a-device limits set (entriesOf 1 set) (g .devices) in
+      let d = a-device limits set (entriesOf 1 set) (one-device limits (lent set serial) g) in
       let e = ap length (of-kind set 1 ∙ sym (only-only (kindOf 1) k (not-string set 1 refl) ps)) in
       omega (arith, d, length-map (entriesOf 1 set) (pieceFor set), e, some-length (kindOf 1) (only k ps))
 

@@ -2,7 +2,8 @@
 use Rattle.writing.specs.Written.{Wrote}
 use Rattle.listing.specs.Written.{descriptorLines}
 use Rattle.writing.proofs.Written.{begun, room-for, next, wrote-both}
-use Rattle.listing.proofs.Lines.{headLine, good-cut, configuration-lines}
+use Rattle.descriptors.proofs.GoodBody.{good-cut}
+use Rattle.listing.proofs.Lines.{headLine, configuration-lines}
 use borrow.Author.Needs.{needs}
 use Rattle.listing.proofs.put_configuration.Statement.{statement}
 use Rattle.listing.proofs.put_configuration.Tie as tie

@@ -52,17 +52,17 @@ returns c =
     ∙ refused _
     (check-stuck (a .limits) (a .interfaces) (w .before .before .before .loop .inv .0) (w .before .advance .ensures) (w .before .before .loop-test .taken) (w .if1 .taken))
 
-sub-is-allowed : tie.Need-sub-is-allowed Inv-loop μ-loop
-sub-is-allowed c = search needs
+sub-may-come : tie.Need-sub-may-come Inv-loop μ-loop
+sub-may-come c = search needs
 
-part-is-allowed-start : tie.Need-part-is-allowed-start Inv-loop μ-loop
-part-is-allowed-start c = search needs
+part-may-come-start : tie.Need-part-may-come-start Inv-loop μ-loop
+part-may-come-start c = search needs
 
-part-is-allowed-end : tie.Need-part-is-allowed-end Inv-loop μ-loop
-part-is-allowed-end c = inside c
+part-may-come-end : tie.Need-part-may-come-end Inv-loop μ-loop
+part-may-come-end c = inside c
 
-is-allowed-requires : tie.Need-is-allowed-requires Inv-loop μ-loop
-is-allowed-requires c κs = search needs
+may-come-requires : tie.Need-may-come-requires Inv-loop μ-loop
+may-come-requires c κs = search needs
 
 sub-move-on : tie.Need-sub-move-on Inv-loop μ-loop
 sub-move-on c = search needs
@@ -101,7 +101,7 @@ loop-again c =
     let l = w .before .before .before .loop in
     let s = w .before .advance in (
       walk-on (l .inv .0) (s .ensures) (w .before .before .loop-test .taken) (w .if1 .left)
-          (rw (sym (c .before .before .before .before .before .before .is-allowed .ensures) ∙ c .before .before .before .before .before .if2 .taken)) (c .before .before .before .move-on .ensures),
+          (rw (sym (c .before .before .before .before .before .before .may-come .ensures) ∙ c .before .before .before .before .before .if2 .taken)) (c .before .before .before .move-on .ensures),
       rw (c .before .still-refers .ensures)
           (asked-on (has (a .names .now)) (a .body .now) (l .last) (l .at) (l .refers) _ (l .inv .1) (s .result) (s .ensures) (w .before .before .loop-test .taken) (w .if1 .left)),
     )
@@ -115,7 +115,7 @@ returns-2 c =
     c .refuse2 .ensures
     ∙ refused _
     (walk-stop (w .before .before .before .loop .inv .0) (w .before .advance .ensures) (w .before .before .loop-test .taken) (w .if1 .left) _
-    (rw (sym (c .before .before .is-allowed .ensures) ∙ c .before .if2 .left)))
+    (rw (sym (c .before .before .may-come .ensures) ∙ c .before .if2 .left)))
 
 may-end-requires : tie.Need-may-end-requires Inv-loop μ-loop
 may-end-requires c κs = search needs
@@ -142,10 +142,10 @@ good-rest-spec =
     advance-requires
     refuse-requires
     returns
-    sub-is-allowed
-    part-is-allowed-start
-    part-is-allowed-end
-    is-allowed-requires
+    sub-may-come
+    part-may-come-start
+    part-may-come-end
+    may-come-requires
     sub-move-on
     part-move-on-start
     part-move-on-end

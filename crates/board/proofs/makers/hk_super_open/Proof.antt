@@ -1,0 +1,38 @@
+-- `board::makers::hk_super_open` meets its contract: an image of another length, and the rest. No axiom.
+use mathlib.Core.Path.{ap, _∙_}
+use borrow.Author.Tests.{eq-eqb, ne-eqb}
+use Rattle.records.specs.Image.{imageOf}
+use borrow.Author.Needs.{needs}
+use Rattle.board.proofs.makers.hk_super_open.Statement.{statement}
+use Rattle.board.proofs.makers.hk_super_open.Tie as tie
+
+returns : tie.Need-returns
+returns c = let e = ne-eqb _ _ (c .if1 .taken) in record { number = rw e; leaves = rw e }
+
+fresh-requires : tie.Need-fresh-requires
+fresh-requires c κs = search needs
+
+store-requires : tie.Need-store-requires
+store-requires c κs = search needs
+
+super-speed-requires : tie.Need-super-speed-requires
+super-speed-requires c κs = search needs
+
+opening-requires : tie.Need-opening-requires
+opening-requires c κs = search needs
+
+same-length : tie.Need-same-length
+same-length c = search needs
+
+returns-2 : tie.Need-returns-2
+returns-2 c =
+    let e = eq-eqb _ 32 (c .before .before .before .before .before .before .before .if1 .left) in
+    record {
+      number = rw e (c .opening .ensures ∙ rw (c .before .super-speed .ensures));
+      leaves = rw e (c .before .before .before .before .store .ensures ∙ ap imageOf (c .before .before .before .before .before .before .fresh .ensures));
+    }
+
+pub hk-super-open-spec : {M : Type 1} → statement M
+hk-super-open-spec =
+    tie.close
+    (tie.spec returns fresh-requires store-requires super-speed-requires opening-requires same-length returns-2)

@@ -1,0 +1,31 @@
+-- `board::makers::hk_super_write` meets its contract: the writer's own, at SuperSpeed. No axiom.
+use mathlib.Core.Path.{_∙_}
+use borrow.Author.Needs.{needs}
+use Rattle.pieces.specs.Pieces.{pieces}
+use Rattle.pieces.specs.Sorted.{sorted}
+use Rattle.set_writer.proofs.Writing.{counted}
+use Rattle.board.proofs.makers.hk_super_write.Statement.{statement}
+use Rattle.board.proofs.makers.hk_super_write.Tie as tie
+
+super-speed-requires : tie.Need-super-speed-requires
+super-speed-requires c κs = search needs
+
+write-requires : tie.Need-write-requires
+write-requires c κs = search needs
+
+length-written-requires : tie.Need-length-written-requires
+length-written-requires c κs = search needs
+
+same-length : tie.Need-same-length
+same-length c = search needs
+
+returns : tie.Need-returns
+returns c =
+    let s = c .before .before .before .before .before .before .before .before .before .before in
+    let w = rw (c .before .before .before .before .before .before .super-speed .ensures) at (c .before .before .before .before .write .ensures .fills) in
+    record { fills = w; counts = c .length-written .ensures ∙ counted (sorted (pieces (s .args .pieces .now))) w }
+
+pub hk-super-write-spec : {M : Type 1} → statement M
+hk-super-write-spec =
+    tie.close
+    (tie.spec super-speed-requires write-requires length-written-requires same-length returns)

@@ -1,0 +1,59 @@
+-- `sets::capabilities::good_store_entries` meets its contract. No axiom.
+use mathlib.Core.Path.{sym, _∙_}
+use borrow.Author.Needs.{needs}
+use Rattle.sets.specs.Contents.{entriesOf}
+use Rattle.sets.specs.Capabilities.{goodStore}
+use Rattle.sets.proofs.Devices.{sole-one, sole-other, sole-missing}
+use Rattle.sets.proofs.capabilities.good_store_entries.Statement.{statement}
+use Rattle.sets.proofs.capabilities.good_store_entries.Tie as tie
+
+count-of-requires : tie.Need-count-of-requires
+count-of-requires c κs = search needs
+
+returns : tie.Need-returns
+returns c =
+    let a = c .before .before .before .args in
+    sole-other (a .set .now) goodStore (entriesOf 15 (a .set .now)) (λ p. c .if1 .taken (c .before .count-of .ensures ∙ p))
+
+entry-of-requires : tie.Need-entry-of-requires
+entry-of-requires c κs = search needs
+
+enum-known-e : tie.Need-enum-known-e
+enum-known-e c = search needs
+
+body-of-requires : tie.Need-body-of-requires
+body-of-requires c κs = search needs
+
+good-store-requires : tie.Need-good-store-requires
+good-store-requires c κs = search needs
+
+enum-told : tie.Need-enum-told
+enum-told c = search needs
+
+returns-2 : tie.Need-returns-2
+returns-2 c =
+    let s = c .before .before .before .before .before .before .before in
+    let a = s .before .before .before .before .args in
+    rw (c .good-store .ensures, c .before .body-of .ensures)
+    (sole-one (a .set .now) goodStore (entriesOf 15 (a .set .now)) (sym (s .before .before .count-of .ensures) ∙ s .before .if1 .left)
+    (sym (s .entry-of .ensures) ∙ c .before .before .before .before .before .e .given .1))
+
+returns-3 : tie.Need-returns-3
+returns-3 c =
+    let s = c .before .before in
+    let a = s .before .before .before .before .args in
+    sole-missing (a .set .now) goodStore (entriesOf 15 (a .set .now)) (sym (s .entry-of .ensures) ∙ c .enum-told .given .1)
+
+pub good-store-entries-spec : {M : Type 1} → statement M
+good-store-entries-spec =
+    tie.close
+    (tie.spec
+    count-of-requires
+    returns
+    entry-of-requires
+    enum-known-e
+    body-of-requires
+    good-store-requires
+    enum-told
+    returns-2
+    returns-3)

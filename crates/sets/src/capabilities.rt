@@ -1,0 +1,39 @@
+// The BOS entry, of a kind of set that has one.
+use crate::EntryFound;
+use crate::contents::body_of;
+use crate::contents::count_of;
+use crate::contents::entry_of;
+use descriptors::Limits;
+ghost use mathlib.Core.Path.{_≡_};
+ghost use Rattle.octets.specs.Sentences.{_⇒_};
+ghost use Rattle.descriptors.specs.Limits.{named};
+ghost use Rattle.sets.specs.Contents.{entriesOf};
+ghost use Rattle.sets.specs.Capabilities.{goodStore, goodStoreEntries};
+
+fn good_store(body: &[u8]) -> bool
+    ensures { λ r. ⌜ r ≡ goodStore (now (body .entry)) ⌝ }
+{
+    (5 <= body.len()) & (octets::word(body, 2) as usize == body.len())
+}
+
+fn good_store_entries(set: &[u8]) -> bool
+    ensures { λ r. ⌜ r ≡ goodStoreEntries (now (set .entry)) (entriesOf 15 (now (set .entry))) ⌝ }
+{
+    if count_of(set, 15) != 1 {
+        return false;
+    }
+    match entry_of(set, 15, 0) {
+        EntryFound::At(e) => (e.index == 0) & (e.language == 0) & good_store(body_of(set, e)),
+        EntryFound::Nothing => false,
+    }
+}
+
+// Asked only of a kind of set that has one.
+pub fn good_capabilities(set: &[u8], limits: Limits) -> bool
+    ensures { λ r. ⌜ r ≡ (named (limits .entries) 15 ⇒ goodStoreEntries (now (set .entry)) (entriesOf 15 (now (set .entry)))) ⌝ }
+{
+    if descriptors::check::is_named(limits.entries, 15) {
+        return good_store_entries(set);
+    }
+    true
+}
