@@ -16,7 +16,7 @@ use Rattle.events.specs.declared.facts.Facts.{Facts}
 use Rattle.events.specs.declared.reaction.Reaction.{Reaction}
 use Rattle.events.specs.declared.Outcome.{Outcome}
 use Rattle.events.specs.Answer.{gives}
-use Rattle.events.specs.Requests.{byRecipient, digit, deviceFeature, interfaceFeature, endpointFeature, clearHalt, setHalt, locate}
+use Rattle.events.specs.Requests.{byRecipient, deviceFeature, setDeviceFeature, interfaceFeature, endpointFeature, clearHalt, setHalt, locate}
 
 -- ---- a reaction to an event at a record
 abbrev pub outcomeOf : Reaction → Device → Outcome
@@ -28,8 +28,12 @@ withHalt true = setHalt
 withHalt false = clearHalt
 
 -- a feature of the recipient, set or cleared
+abbrev pub featureOfDevice : Bool → View → Device → Setup → Outcome
+featureOfDevice true = setDeviceFeature
+featureOfDevice false = deviceFeature 0
+
 abbrev pub feature : Bool → View → Device → Setup → Outcome
-feature on v d s = byRecipient s (deviceFeature (digit on) v d s) (interfaceFeature v d s) (endpointFeature (withHalt on) v d s)
+feature on v d s = byRecipient s (featureOfDevice on v d s) (interfaceFeature v d s) (endpointFeature (withHalt on) v d s)
 
 -- ---- what is asked of a board
 -- an event's question, put as a setup: that of a function event names its endpoint, that of other events nothing
@@ -40,7 +44,7 @@ abbrev pub questionOf : Event → Setup
 questionOf (Request s) = s
 questionOf Malformed = naming 0
 questionOf StatusEnd = naming 0
-questionOf BusReset = naming 0
+questionOf (BusReset speed) = naming 0
 questionOf (Halt a) = naming a
 questionOf (PacketPassed a) = naming a
 questionOf (Power source) = naming 0
