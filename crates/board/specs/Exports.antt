@@ -14,7 +14,7 @@ use Rattle.events.specs.declared.Answer.{Answer}
 use Rattle.events.specs.declared.Event.{Event}
 use Rattle.events.specs.declared.Event.the-variants.{Malformed, StatusEnd, BusReset, Halt, PacketPassed, Power, Suspend, Resume, Wake}
 use Rattle.events.specs.Answer.{Part, numberOf, bytesOf, partOf}
-use Rattle.events.specs.Places.{inBlock, bytesIn}
+use Rattle.events.specs.Places.{inBlock, bytesAt}
 use Rattle.events.specs.Step.{step, opened, event, setupEvent}
 use Rattle.steps.specs.Endpoint.{endpointOn}
 use Rattle.packets.specs.Packets.{packet}
@@ -70,7 +70,7 @@ pub record Hands (b : Board) (speed : ℕ) (lie : Spots) (a : Answer) (answer : 
   pub number : answer ≡ numberOf a
   pub hands : bytes ≡ padded (bytesOf a)
   pub counts : count ≡ length (bytesOf a)
-  pub shows : shown ≡ bytesIn b speed (partOf a)
+  pub shows : shown ≡ bytesAt b speed (partOf a)
   pub lies : spot ≡ spotOfPart b speed lie (partOf a)
 
 -- ---- hk_setup: the image left, and the answer handed out
@@ -111,5 +111,5 @@ pub record CutsPacket (reply : List ℕ) (replySpot : Spot) (asked size k : ℕ)
 -- ---- hk_endpoint: its number, the endpoint descriptor and where it lies in the set in use. The image is only read
 pub record GivesEndpoint (b : Board) (lie : Spots) (image : List ℕ) (k : ℕ) (answer : ℕ) (shown : List ℕ) (spot : Spot) : Type 0 where
   pub number : answer ≡ numberOf (endpointOn b image k)
-  pub shows : shown ≡ bytesIn b (deviceOf image .speed) (partOf (endpointOn b image k))
+  pub shows : shown ≡ bytesAt b (deviceOf image .speed) (partOf (endpointOn b image k))
   pub lies : spot ≡ spotOfPart b (deviceOf image .speed) lie (partOf (endpointOn b image k))

@@ -13,13 +13,16 @@ inBlock first used serial ofFirst = first
 inBlock first used serial ofSet = used
 inBlock first used serial ofSerial = serial
 
--- the slice, where byte 7 of the record that the event found is `speed`
-abbrev pub sliceOf : Board → ℕ → Part → List ℕ
-sliceOf b speed p = inBlock (b .set) (setFor b speed) (b .serial) (p .block)
-
 -- a part lies inside its slice; and its bytes
-abbrev pub Inside : Board → ℕ → Part → Type 0
-Inside b speed p = p .offset + p .length ≤ length (sliceOf b speed p)
+abbrev pub Inside : List ℕ → List ℕ → List ℕ → Part → Type 0
+Inside first used serial p = p .offset + p .length ≤ length (inBlock first used serial (p .block))
 
-abbrev pub bytesIn : Board → ℕ → Part → List ℕ
-bytesIn b speed p = part (sliceOf b speed p) (p .offset) (p .length)
+abbrev pub bytesIn : List ℕ → List ℕ → List ℕ → Part → List ℕ
+bytesIn first used serial p = part (inBlock first used serial (p .block)) (p .offset) (p .length)
+
+-- the same on a board, where byte 7 of the record that the event found is `speed`
+abbrev pub InsideAt : Board → ℕ → Part → Type 0
+InsideAt b speed = Inside (b .set) (setFor b speed) (b .serial)
+
+abbrev pub bytesAt : Board → ℕ → Part → List ℕ
+bytesAt b speed = bytesIn (b .set) (setFor b speed) (b .serial)

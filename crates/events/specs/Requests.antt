@@ -84,8 +84,8 @@ unfoldable pub clearFeature : View → Device → Setup → Outcome
 clearFeature v d s = byRecipient s (deviceFeature 0 v d s) (interfaceFeature v d s) (endpointFeature clearHalt v d s)
 
 -- SET_FEATURE(TEST_MODE), "On two-set boards" (L7): the feature selector is the whole wValue, the test selector wIndex's high byte
-abbrev pub namesTestMode : View → Setup → Bool
-namesTestMode v s = v .paired && eqb (s .wValue) 2
+abbrev pub namesTestMode : Bool → Setup → Bool
+namesTestMode paired s = paired && eqb (s .wValue) 2
 
 abbrev pub testSelector : Setup → ℕ
 testSelector s = s .wIndex / 256
@@ -96,7 +96,7 @@ setTestMode d s =
     pick (eqb (d .speed) atHighSpeed && leb 1 (testSelector s) && leb (testSelector s) 5) (done (withWaiting (testWaiting (testSelector s)) d)) (refused 14 d)
 
 abbrev pub setDeviceFeature : View → Device → Setup → Outcome
-setDeviceFeature v d s = pick (namesTestMode v s) (setTestMode d s) (deviceFeature 1 v d s)
+setDeviceFeature v d s = pick (namesTestMode (v .paired) s) (setTestMode d s) (deviceFeature 1 v d s)
 
 unfoldable pub setFeature : View → Device → Setup → Outcome
 setFeature v d s = byRecipient s (setDeviceFeature v d s) (interfaceFeature v d s) (endpointFeature setHalt v d s)

@@ -46,25 +46,25 @@ unlessRefused n v d s = pick (eqb n 0) (request v d s) (refused n d)
 
 -- how SET_FEATURE(TEST_MODE) passes the table, here alone: it "needs wIndex's low byte 0 (else 12)", "and at high speed passes the state check in
 -- all three states" (L7), as its row does in Address
-abbrev pub asksTestMode : View → Setup → Bool
-asksTestMode v s = namesTestMode v s && eqb (s .bmRequestType) 0x00 && eqb (s .bRequest) 0x03
+abbrev pub asksTestMode : Bool → Setup → Bool
+asksTestMode paired s = namesTestMode paired s && eqb (s .bmRequestType) 0x00 && eqb (s .bRequest) 0x03
 
-abbrev pub stateFor : View → Device → Setup → ℕ
-stateFor v d s = pick (asksTestMode v s && eqb (d .speed) atHighSpeed) inAddress (d .state)
+abbrev pub stateFor : Bool → Device → Setup → ℕ
+stateFor paired d s = pick (asksTestMode paired s && eqb (d .speed) atHighSpeed) inAddress (d .state)
 
 abbrev pub withIndex : ℕ → Setup → Setup
 withIndex index s = record { bmRequestType = s .bmRequestType; bRequest = s .bRequest; wValue = s .wValue; wIndex = index; wLength = s .wLength }
 
-abbrev pub setupFor : View → Setup → Setup
-setupFor v s = withIndex (pick (asksTestMode v s) (s .wIndex % 256) (s .wIndex)) s
+abbrev pub setupFor : Bool → Setup → Setup
+setupFor paired s = withIndex (pick (asksTestMode paired s) (s .wIndex % 256) (s .wIndex)) s
 
-abbrev pub refusalFor : View → Device → Setup → ℕ
-refusalFor v d s = refusal (stateFor v d s) (setupFor v s)
+abbrev pub refusalFor : Bool → Device → Setup → ℕ
+refusalFor paired d s = refusal (stateFor paired d s) (setupFor paired s)
 
 -- "Past 7 to 9, a setup first drops any waiting address."; "any setup past 7 to 9" clears byte 6 (L12); "17 any 8-byte setup once test mode is
 -- entered, after 9" (L7)
 unfoldable pub answerSetup : View → Device → Setup → Outcome
-answerSetup v d s = pick (inTestMode d) (refused 17 (settled d)) (unlessRefused (refusalFor v d s) v (settled d) s)
+answerSetup v d s = pick (inTestMode d) (refused 17 (settled d)) (unlessRefused (refusalFor (v .paired) d s) v (settled d) s)
 
 -- ---- status end: "applies it and byte 2 is 255 again. Zero leads to Default, others to Address"; "nothing waiting changes nothing"; a test mode
 -- is entered (L7)
