@@ -41,7 +41,7 @@ use Rattle.pieces.proofs.InPieces.{same-bodies}
 use Rattle.keeping.specs.Keeping.{named, namedString, zeroStays}
 use Rattle.trimming.specs.Trim.{trimmed}
 use Rattle.trimming.specs.Asked.{bodyIn, bodyUnder, left}
-use Rattle.laws.proofs.Outcomes.{Answered, reads, fromSet, fromSerial, changes, refusedWith, Responded, answers, leaves, becomes, refuses, responded}
+use Rattle.laws.proofs.Outcomes.{Answered, reads, fromSet, fromSerial, changes, refusedWith, inTest, Responded, answers, leaves, becomes, refuses, responded}
 use Rattle.trim_laws.specs.Requests.{asksDropped, SaysSame}
 use Rattle.trim_laws.proofs.Again.{alike, same-bytes}
 use Rattle.trim_laws.proofs.Buffer.{same-configured, same-serial, same-languages}
@@ -97,7 +97,8 @@ module _ (set other serial : List ℕ) where
   answered-alike (fromSet e asked m) q = absurd (List·Memᴰ·not-nil (rw q at m))
   answered-alike (fromSerial asked) q = refl
   answered-alike (changes c) q = refl
-  answered-alike (refusedWith n a) q = refl
+  answered-alike (refusedWith n a b) q = refl
+  answered-alike (inTest t) q = refl
 
   shown-alike : {v : View} {d : Device} {e : Event} {o : Outcome} → Responded v d e o → v .entries ≡ [] → bytesIn set set serial (partOf (o .answer)) ≡ bytesIn other other serial (partOf (o .answer))
   shown-alike (answers a) q = answered-alike a q
