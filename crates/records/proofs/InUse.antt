@@ -8,11 +8,12 @@ use Rattle.octets.specs.Sentences.{pick}
 use Rattle.octets.proofs.Sentences.{cases}
 use Rattle.descriptors.specs.declared.Limits.{Limits}
 use Rattle.descriptors.specs.Limits.{fullSpeed, pairedFull, highSpeed}
-use Rattle.sets.specs.Opening.{Board, opening}
+use Rattle.octets.specs.Octets.{Bytes}
+use Rattle.sets.specs.Opening.{Board, BytesIf, BytesOf, opening}
 use Rattle.sets.specs.View.{openingOf}
 use Rattle.sets.proofs.Pair.{opened}
 use Rattle.records.specs.Device.{atFullSpeed}
-use Rattle.records.specs.Current.{boardFor}
+use Rattle.records.specs.Current.{inUse, orEmpty, setFor, boardFor}
 
 abbrev pub rowFor : Option (List ℕ) → ℕ → Limits
 rowFor none speed = fullSpeed
@@ -28,3 +29,11 @@ opens set serial (some high) speed p =
 
 pub opensFor : (b : Board) (speed : ℕ) → openingOf b ≡ 0 → opening (rowFor (b .high) speed) (boardFor b speed) ≡ 0
 opensFor b speed p = opens (b .set) (b .serial) (b .high) speed p
+
+-- it is of bytes, where what is lent is
+bytes : (set : List ℕ) (high : Option (List ℕ)) (speed : ℕ) → Bytes set → BytesIf high → Bytes (inUse high speed set (orEmpty high))
+bytes set none speed p q = p
+bytes set (some other) speed p q = cases (eqb speed atFullSpeed) (λ e. rw e p) (λ e. rw e q)
+
+pub bytesFor : (b : Board) (speed : ℕ) → BytesOf b → Bytes (setFor b speed)
+bytesFor b speed (p, q) = bytes (b .set) (b .high) speed p q

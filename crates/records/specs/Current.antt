@@ -17,7 +17,7 @@ abbrev pub inUse : {A : Type 0} → Option (List ℕ) → ℕ → A → A → A
 inUse none speed full high = full
 inUse (some set) speed full high = pick (eqb speed atFullSpeed) full high
 
-abbrev orEmpty : Option (List ℕ) → List ℕ
+abbrev pub orEmpty : Option (List ℕ) → List ℕ
 orEmpty none = []
 orEmpty (some set) = set
 
