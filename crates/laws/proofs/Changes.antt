@@ -29,7 +29,7 @@ use Rattle.laws.proofs.Fitting.{Ranges, Stated, atDefault, atAddress, a
 use Rattle.laws.specs.Parts.{Shared, shared, rest, withCommon}
 use Rattle.laws.proofs.Same.{one-view, one-board}
 use Rattle.laws.proofs.Keeping.{none-stand, stand-changed, bit-below, zeros-good, set-good, set-stands, set-sized}
-use Rattle.laws.proofs.Outcomes.{Changed, wakeup, halted, unhalted, toggled, waits, awaits, enters, applies, unconfigures, configures, sets, resets, powers, sleeps, Answered, reads, fromSet, fromSerial, changes, refusedWith, Responded, answers, leaves, becomes, refuses}
+use Rattle.laws.proofs.Outcomes.{Changed, wakeup, halted, unhalted, toggled, waits, awaits, enters, applies, unconfigures, configures, sets, resets, powers, sleeps, Answered, reads, fromSet, fromSerial, changes, refusedWith, inTest, Responded, answers, leaves, becomes, refuses}
 
 -- a record that fits a view, and has the sizes that 32 bytes give it
 pub record Fit (v : View) (d : Device) : Type 0 where
@@ -330,7 +330,8 @@ module _ (b : Board) (sound : (speed : ℕ) → Sound (setFor b speed) (viewFor 
     answeredFits (fromSet e n m) = g
     answeredFits (fromSerial n) = g
     answeredFits (changes c) = changedFits c
-    answeredFits (refusedWith n p) = g
+    answeredFits (refusedWith n l h) = g
+    answeredFits (inTest t) = g
 
   pub respondedFits : (d : Device) → Fit (viewAt b d) d → {e : Event} {o : Outcome} → Responded (viewAt b d) d e o → Fit (viewAt b (o .device)) (o .device)
   respondedFits d g (answers a) = answeredFits (settled d) (settles d g) a

@@ -55,17 +55,14 @@ pub data Changed (v : View) (d : Device) : Device → Type 0 where
   powers : (source : ℕ) → source ≤ 1 → Changed v d (withPower source d)
   sleeps : (on : ℕ) → on ≤ 1 → Changed v d (withSuspended on d)
 
--- the refusals of a setup that has settled: 10 to 14, and 17 once a test mode is entered
-abbrev pub ofSetup : ℕ → Bool
-ofSetup n = (leb 10 n && leb n 14) || eqb n 17
-
 -- a setup's outcome, on the record d that it has settled
 pub data Answered (v : View) (d : Device) : Outcome → Type 0 where
   reads : (a : Answer) → numberOf a ≡ 0 → partOf a ≡ partOf Done → Answered v d (gives a d)
   fromSet : (e : Entry) (asked : ℕ) → List·Memᴰ e (v .entries) → Answered v d (gives (SetPart (e .offset) (min (e .length) asked)) d)
   fromSerial : (asked : ℕ) → Answered v d (gives (SerialPart (min (v .serialLength) asked)) d)
   changes : {x : Device} → Changed v d x → Answered v d (done x)
-  refusedWith : (n : ℕ) → ofSetup n ≡ true → Answered v d (refused n d)
+  refusedWith : (n : ℕ) → 10 ≤ n → n ≤ 14 → Answered v d (refused n d)
+  inTest : inTestMode d ≡ true → Answered v d (refused 17 d)
 
 -- the refusals of an event that settles nothing: "not 8 bytes" 9, a bus reset, a function event or a power event 16, a wake event 19
 pub data Refusable : Event → ℕ → Type 0 where
@@ -114,17 +111,17 @@ configurationAllowed state s p c =
     omega (arith, leb-true 1 (r .lowest) f′)
 
 -- the refusals of the table are 10, 11 and 12
-tableRefuses : (state : ℕ) (s : Setup) → (refusal state s ≡ 0 → ⊥) → ofSetup (refusal state s) ≡ true
+tableRefuses : (state : ℕ) (s : Setup) → (refusal state s ≡ 0 → ⊥) → (10 ≤ refusal state s) × (refusal state s ≤ 14)
 unfolding refusal
 tableRefuses state s = go (rowOf s)
   where
-    tests : (a b : Bool) → (pick {A = ℕ} a (pick b 0 12) 11 ≡ 0 → ⊥) → ofSetup (pick {A = ℕ} a (pick b 0 12) 11) ≡ true
+    tests : (a b : Bool) → (pick {A = ℕ} a (pick b 0 12) 11 ≡ 0 → ⊥) → (10 ≤ pick {A = ℕ} a (pick b 0 12) 11) × (pick {A = ℕ} a (pick b 0 12) 11 ≤ 14)
     tests true true n = absurd (n refl)
-    tests true false n = refl
-    tests false b n = refl
+    tests true false n = (lit≤ tt, lit≤ tt)
+    tests false b n = (lit≤ tt, lit≤ tt)
 
-    go : (o : Option Row) → (refusalAt o state s ≡ 0 → ⊥) → ofSetup (refusalAt o state s) ≡ true
-    go none n = refl
+    go : (o : Option Row) → (refusalAt o state s ≡ 0 → ⊥) → (10 ≤ refusalAt o state s) × (refusalAt o state s ≤ 14)
+    go none n = (lit≤ tt, lit≤ tt)
     go (some r) n = tests (inState r state) (fieldsFit r s) n
 
 -- ---- a descriptor lies in the body of an entry, in the serial block, or nowhere
@@ -154,10 +151,10 @@ lies v s = chosen (Lies v) (eqb (s .wValue / 256) 3) (λ e. string (s .wValue % 
 -- ---- the requests, a leaf at a time
 module _ (v : View) (d : Device) (s : Setup) where
   missing : Answered v d (refused 13 d)
-  missing = refusedWith 13 refl
+  missing = refusedWith 13 (lit≤ tt) (lit≤ tt)
 
   noFeature : Answered v d (refused 14 d)
-  noFeature = refusedWith 14 refl
+  noFeature = refusedWith 14 (lit≤ tt) (lit≤ tt)
 
   recipients : {x y z : Outcome} → Answered v d x → Answered v d y → Answered v d z → Answered v d (pick (eqb (recipient s) 0) x (pick (eqb (recipient s) 1) y z))
   recipients p q r = chosen (Answered v d) (eqb (recipient s) 0) (λ e. p) (λ e. chosen (Answered v d) (eqb (recipient s) 1) (λ e. q) (λ e. r))
@@ -231,10 +228,12 @@ module _ (v : View) (d : Device) (s : Setup) where
 module _ (v : View) (d : Device) where
   setup : (s : Setup) → Answered v (settled d) (answerSetup v d s)
   unfolding answerSetup
-  setup s = chosen (Answered v (settled d)) (inTestMode d) (λ t. refusedWith 17 refl)
+  setup s = chosen (Answered v (settled d)) (inTestMode d) (λ t. inTest t)
       (λ t. chosen (Answered v (settled d)) (eqb (refusalFor (v .paired) d s) 0)
       (λ e. answered v (settled d) s refl t (eqb-true (refusalFor (v .paired) d s) 0 e))
-      (λ e. refusedWith (refusalFor (v .paired) d s) (tableRefuses (stateFor (v .paired) d s) (setupFor (v .paired) s) (eqb-false (refusalFor (v .paired) d s) 0 e))))
+      (λ e.
+      let n = refusalFor (v .paired) d s in
+      let (l, h) = tableRefuses (stateFor (v .paired) d s) (setupFor (v .paired) s) (eqb-false n 0 e) in refusedWith n l h))
 
   found : (a : ℕ) {e : Endpoint} → endpointAt v d a ≡ some e → List·Memᴰ e (currentEndpoints v d)
   found a p = first-some (λ e. eqb (e .address) a) (currentEndpoints v d) p .0

@@ -14,7 +14,7 @@ use Rattle.sets.proofs.Groups.{Groups, inside}
 use Rattle.records.specs.declared.Device.{Device}
 use Rattle.records.specs.Current.{boardFor, viewFor}
 use Rattle.records.proofs.InUse.{rowFor}
-use Rattle.records.specs.Device.{nothing, settled, withWaiting, withSuspended}
+use Rattle.records.specs.Device.{nothing, inTestMode, settled, withWaiting, withSuspended}
 use Rattle.records.specs.Image.{deviceOf, imageOf, settledImage}
 use Rattle.requests.specs.declared.Setup.{Setup}
 use Rattle.events.specs.declared.Event.{Event}
@@ -22,12 +22,13 @@ use Rattle.events.specs.declared.Event.the-variants.{Request}
 use Rattle.events.specs.declared.Outcome.{Outcome}
 use Rattle.events.specs.Answer.{numberOf, partOf, refused}
 use Rattle.events.specs.Places.{InsideAt}
-use Rattle.laws.proofs.Outcomes.{ofSetup, reads, fromSet, fromSerial, changes, refusedWith, Refusable, Responded, answers, leaves, becomes, refuses}
+use Rattle.laws.proofs.Outcomes.{reads, fromSet, fromSerial, changes, refusedWith, inTest, Refusable, Responded, answers, leaves, becomes, refuses}
 
--- an outcome by its number: done; a setup refused by its rules, once it has settled; or a refusal that settles nothing
+-- an outcome by its number: done; a setup refused by its rules or in a test mode, once it has settled; or a refusal that settles nothing
 pub data Numbered (d : Device) : Event → Outcome → Type 0 where
   notRefused : {e : Event} {o : Outcome} → numberOf (o .answer) ≡ 0 → Numbered d e o
-  refusedSetup : {s : Setup} {n : ℕ} → ofSetup n ≡ true → Numbered d (Request s) (refused n (settled d))
+  refusedSetup : {s : Setup} {n : ℕ} → 10 ≤ n → n ≤ 14 → Numbered d (Request s) (refused n (settled d))
+  refusedInTest : {s : Setup} → inTestMode d ≡ true → Numbered d (Request s) (refused 17 (settled d))
   refusedOther : {e : Event} {n : ℕ} → Refusable e n → Numbered d e (refused n d)
 
 pub numbered : {v : View} {d : Device} {e : Event} {o : Outcome} → Responded v d e o → Numbered d e o
@@ -35,7 +36,8 @@ numbered (answers (reads a p q)) = notRefused p
 numbered (answers (fromSet e n m)) = notRefused refl
 numbered (answers (fromSerial n)) = notRefused refl
 numbered (answers (changes c)) = notRefused refl
-numbered (answers (refusedWith n p)) = refusedSetup p
+numbered (answers (refusedWith n l h)) = refusedSetup l h
+numbered (answers (inTest t)) = refusedInTest t
 numbered leaves = notRefused refl
 numbered (becomes c) = notRefused refl
 numbered (refuses r) = refusedOther r
@@ -48,7 +50,8 @@ module _ (b : Board) (speed : ℕ) (g : Groups (rowFor (b .high) speed) (boardFo
   placed (answers (fromSet e n m)) = omega (arith, inside (rowFor (b .high) speed) (boardFor b speed) g e m)
   placed (answers (fromSerial n)) = omega arith
   placed (answers (changes c)) = omega arith
-  placed (answers (refusedWith n p)) = omega arith
+  placed (answers (refusedWith n l h)) = omega arith
+  placed (answers (inTest t)) = omega arith
   placed leaves = omega arith
   placed (becomes c) = omega arith
   placed (refuses r) = omega arith

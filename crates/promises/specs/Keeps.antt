@@ -4,7 +4,7 @@ use Prim.Native.Nat.{ℕ}
 use native.Mathlib.Omega.{arith}
 use mathlib.Core.Path.{_≡_, sym, ap, _∙_}
 use mathlib.Core.List.{List}
-use mathlib.Core.Bool.{true, false, _||_, false≢true}
+use mathlib.Core.Bool.{true, false, _&&_, _||_, false≢true}
 use lib.ListN.{length}
 use lib.Dec.{eqb}
 use borrow.Author.Tests.{eq-eqb}
@@ -12,7 +12,7 @@ use Rattle.octets.proofs.Sentences.{cases}
 use Rattle.sets.specs.Opening.{Board, BytesOf}
 use Rattle.sets.specs.View.{accepted}
 use Rattle.records.specs.declared.Device.{Device}
-use Rattle.records.specs.Device.{fresh, Sized}
+use Rattle.records.specs.Device.{fresh, inTestMode, Sized}
 use Rattle.records.specs.Image.{deviceOf, imageOf}
 use Rattle.records.specs.Current.{viewAt}
 use Rattle.records.specs.Fits.{fitsOn}
@@ -23,8 +23,9 @@ use Rattle.events.specs.Answer.{numberOf}
 use Rattle.events.specs.Step.{respond, step, event, opened}
 use Rattle.octets.specs.Octets.{Bytes}
 use Rattle.promises.specs.Sound.{sound}
+use Rattle.laws.specs.Parts.{drops}
 use Rattle.laws.proofs.Outcomes.{responded}
-use Rattle.promises.specs.Refusal.{refuses}
+use Rattle.promises.specs.Refusal.{refuses, allowsFit}
 use Rattle.promises.specs.Refusals.{stepNumber}
 use Rattle.laws.proofs.Fitting.{fitting, fitted}
 use Rattle.laws.proofs.Changes.{Fit, freshFits, respondedFits}
@@ -73,8 +74,8 @@ module _ (b : Board) (bytes : BytesOf b) (ok : accepted b ≡ true) where
   reachedFits (afterOpening image l) = openedFits image l
   reachedFits (afterEvent {image} e r) = eventFits image e (reachedFits r)
 
-  -- an image that fits gets no 7 and no 8, only 0 and the event's own refusals
-  pub fitNumber : (image : List ℕ) (e : Event) → FitImage b image → (let n = numberOf (event b image e .answer) in (eqb n 0 || refuses e n) ≡ true)
+  -- an image that fits gets no 7 and no 8, only 0 and the event's own refusals, or 17 in a test mode
+  pub fitNumber : (image : List ℕ) (e : Event) → FitImage b image → (let n = numberOf (event b image e .answer) in allowsFit (deviceOf image) e n ≡ true)
   unfolding event
   fitNumber image e f = rw (eq-eqb (length image) 32 (f .long)) (rw (ok, f .fit) at (stepNumber b (deviceOf image) e))
 
@@ -91,6 +92,9 @@ not-eight Suspend p = false≢true p
 not-eight Resume p = false≢true p
 not-eight Wake p = false≢true p
 
+never-allowed : (d : Device) (e : Event) → allowsFit d e 8 ≡ true → ⊥
+never-allowed d e p = cases (inTestMode d && drops e) (λ t. false≢true (rw t at p)) (λ t. not-eight e (rw t at p))
+
 -- on a board that is not accepted every event gets 7
 unaccepted : (b : Board) → accepted b ≡ false → (image : List ℕ) (e : Event) → numberOf (event b image e .answer) ≡ 7
 unfolding event step
@@ -99,5 +103,5 @@ unaccepted b p image e = cases (eqb (length image) 32) (λ q. rw (q, p)) (λ q. 
 -- whatever the board, whatever 32 bytes were opened and whatever events came: no event is answered 8
 pub neverEight : (b : Board) → BytesOf b → {image : List ℕ} → Reached b image → (e : Event) → numberOf (event b image e .answer) ≡ 8 → ⊥
 neverEight b bytes {image} r e p = cases (accepted b)
-    (λ ok. not-eight e (rw p at (fitNumber b bytes ok image e (reachedFits b bytes ok r))))
+    (λ ok. never-allowed (deviceOf image) e (rw p at (fitNumber b bytes ok image e (reachedFits b bytes ok r))))
     (λ no-board. let q : _≡_ {A = ℕ} 7 8 = sym (unaccepted b no-board image e) ∙ p in omega arith)

@@ -13,6 +13,8 @@ pub mod Keeps
 pub mod Images
 pub mod Inhabited
 pub mod Selected
+pub mod Before
+pub mod OneSet
 pub mod Rearranged
 pub mod Order
 pub mod InhabitedOrder

@@ -10,13 +10,13 @@ use lib.ListN.{length}
 use lib.Dec.{eqb, leb}
 use borrow.Author.Tests.{eqb-true, eq-eqb, le-leb}
 use Rattle.octets.specs.Sentences.{pick, isSome}
-use Rattle.octets.proofs.Sentences.{cases, joined, or-left, or-right}
+use Rattle.octets.proofs.Sentences.{cases, never, both, joined, or-left, or-right}
 use Rattle.descriptors.specs.Limits.{fullSpeed, pairedFull, highSpeed}
 use Rattle.sets.specs.Opening.{Board, lent, opening}
 use Rattle.sets.specs.Pair.{agrees, orElse, openingTwo}
-use Rattle.sets.specs.View.{openingOf, accepted}
+use Rattle.sets.specs.View.{View, openingOf, accepted}
 use Rattle.records.specs.declared.Device.{Device}
-use Rattle.records.specs.Device.{nothing, fresh, settled}
+use Rattle.records.specs.Device.{nothing, fresh, inTestMode, settled}
 use Rattle.records.specs.Image.{deviceOf, imageOf}
 use Rattle.records.proofs.Image.{image-device}
 use Rattle.records.specs.Current.{boardFor, viewAt}
@@ -25,15 +25,17 @@ use Rattle.records.specs.Fits.{fitsOn}
 use Rattle.events.specs.declared.Answer.{Answer}
 use Rattle.events.specs.declared.Answer.the-variants.{Done, OneByte, TwoBytes, SetPart, SerialPart, Refused}
 use Rattle.events.specs.declared.Event.{Event}
+use Rattle.events.specs.declared.Event.the-variants.{Request, Malformed, StatusEnd, BusReset, Halt, PacketPassed, Power, Suspend, Resume, Wake}
+use Rattle.laws.specs.Parts.{drops}
 use Rattle.events.specs.declared.Outcome.{Outcome}
 use Rattle.events.specs.Answer.{numberOf, bytesOf, partOf}
 use Rattle.events.specs.Places.{InsideAt}
-use Rattle.events.specs.Step.{step, event, opened}
+use Rattle.events.specs.Step.{answerSetup, respond, step, event, opened}
 use Rattle.octets.specs.Octets.{Bytes}
-use Rattle.promises.specs.Refusal.{afterSettling, leftBy, refuses, allows, emptyPart, allowsImage, imageLeftBy, opens}
+use Rattle.promises.specs.Refusal.{afterSettling, leftBy, refuses, allowsFit, allows, emptyPart, allowsImage, imageLeftBy, opens}
 use Rattle.sets.proofs.Groups.{groups}
 use Rattle.laws.proofs.Outcomes.{chosen, Refusable, malformed, noReset, noHalt, noPass, noPower, noWake, responded}
-use Rattle.laws.proofs.Refusing.{Numbered, notRefused, refusedSetup, refusedOther, numbered, placed, nothing-settled, left-image, opening-number}
+use Rattle.laws.proofs.Refusing.{Numbered, notRefused, refusedSetup, refusedInTest, refusedOther, numbered, placed, nothing-settled, left-image, opening-number}
 
 -- ---- over the step
 -- "Refusals hand back no bytes and an empty part."
@@ -45,31 +47,52 @@ refusalEmpty (SetPart offset size) z = absurd (z refl)
 refusalEmpty (SerialPart size) z = absurd (z refl)
 refusalEmpty (Refused n) z = (refl, refl)
 
--- a refusal that settles nothing is one of the event's own, and none of 10 to 14
-settlesNothing : {e : Event} {n : ℕ} → Refusable e n → (refuses e n ≡ true) × (afterSettling n ≡ false)
-settlesNothing malformed = (refl, refl)
-settlesNothing noReset = (refl, refl)
-settlesNothing noHalt = (refl, refl)
-settlesNothing noPass = (refl, refl)
-settlesNothing noPower = (refl, refl)
-settlesNothing noWake = (refl, refl)
+-- a refusal that settles nothing is one of the event's own, the event is no setup, and it is none of 10 to 14 and 17
+settlesNothing : {e : Event} {n : ℕ} → Refusable e n → (refuses e n ≡ true) × (drops e ≡ false) × (afterSettling n ≡ false)
+settlesNothing malformed = (refl, refl, refl)
+settlesNothing noReset = (refl, refl, refl)
+settlesNothing noHalt = (refl, refl, refl)
+settlesNothing noPass = (refl, refl, refl)
+settlesNothing noPower = (refl, refl, refl)
+settlesNothing noWake = (refl, refl, refl)
 
-ownNumber : {d : Device} {e : Event} {o : Outcome} → Numbered d e o → (eqb (numberOf (o .answer)) 0 || refuses e (numberOf (o .answer))) ≡ true
-ownNumber {e} {o} (notRefused z) = or-left (refuses e (numberOf (o .answer))) (eq-eqb _ 0 z)
-ownNumber (refusedSetup {n = n} p) = or-right (eqb n 0) p
-ownNumber (refusedOther {n = n} r) = or-right (eqb n 0) (settlesNothing r .0)
+-- in a test mode a setup is refused with 17, whatever it asks
+inTest17 : (v : View) (d : Device) (e : Event) → (inTestMode d && drops e) ≡ true → numberOf (respond v d e .answer) ≡ 17
+unfolding answerSetup
+inTest17 v d (Request s) p = rw (both (inTestMode d) true p .0)
+inTest17 v d Malformed p = never (both (inTestMode d) false p .1) refl
+inTest17 v d StatusEnd p = never (both (inTestMode d) false p .1) refl
+inTest17 v d (BusReset speed) p = never (both (inTestMode d) false p .1) refl
+inTest17 v d (Halt a) p = never (both (inTestMode d) false p .1) refl
+inTest17 v d (PacketPassed a) p = never (both (inTestMode d) false p .1) refl
+inTest17 v d (Power source) p = never (both (inTestMode d) false p .1) refl
+inTest17 v d Suspend p = never (both (inTestMode d) false p .1) refl
+inTest17 v d Resume p = never (both (inTestMode d) false p .1) refl
+inTest17 v d Wake p = never (both (inTestMode d) false p .1) refl
+
+ownNumber : {d : Device} {e : Event} {o : Outcome} → Numbered d e o → (inTestMode d && drops e) ≡ false → (eqb (numberOf (o .answer)) 0 || refuses e (numberOf (o .answer))) ≡ true
+ownNumber {e} {o} (notRefused z) t = or-left (refuses e (numberOf (o .answer))) (eq-eqb _ 0 z)
+ownNumber (refusedSetup {n = n} l h) t = or-right (eqb n 0) (joined (le-leb 10 n l) (le-leb n 14 h))
+ownNumber (refusedInTest p) t = never (joined p refl) t
+ownNumber (refusedOther {n = n} r) t = or-right (eqb n 0) (settlesNothing r .0)
+
+allowed : (v : View) (d : Device) (e : Event) → allowsFit d e (numberOf (respond v d e .answer)) ≡ true
+allowed v d e = cases (inTestMode d && drops e)
+    (λ p. rw p (eq-eqb (numberOf (respond v d e .answer)) 17 (inTest17 v d e p)))
+    (λ p. rw p (ownNumber (numbered (responded v d e)) p))
 
 keeps : {d : Device} {e : Event} {o : Outcome} → Numbered d e o → (numberOf (o .answer) ≡ 0 → ⊥) → o .device ≡ leftBy (numberOf (o .answer)) d
 keeps (notRefused z) refused = absurd (refused z)
-keeps {d} (refusedSetup p) refused = ap (λ b. pick b (settled d) d) (sym p)
-keeps {d} (refusedOther r) refused = ap (λ b. pick b (settled d) d) (sym (settlesNothing r .1))
+keeps {d} (refusedSetup {n = n} l h) refused = ap (λ b. pick b (settled d) d) (sym (or-left (eqb n 17) (joined (le-leb 10 n l) (le-leb n 14 h))))
+keeps {d} (refusedInTest p) refused = refl
+keeps {d} (refusedOther r) refused = ap (λ b. pick b (settled d) d) (sym (settlesNothing r .2))
 
 module _ (b : Board) (d : Device) (e : Event) where
   -- every number is one of document 01's for that board, record and event, in its order
   pub stepNumber : allows b d e (numberOf (step b d e .answer)) ≡ true
   unfolding step
   stepNumber = cases (accepted b)
-      (λ p. cases (fitsOn b d) (λ q. rw (p, q) (ownNumber (numbered (responded (viewAt b d) d e)))) (λ q. rw (p, q)))
+      (λ p. cases (fitsOn b d) (λ q. rw (p, q) (allowed (viewAt b d) d e)) (λ q. rw (p, q)))
       (λ p. rw p)
 
   -- where the number is not 0 the record stays as it was, but that 10 to 14 drop what still waits, and with 17 clear byte 6
