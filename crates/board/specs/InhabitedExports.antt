@@ -153,6 +153,7 @@ unfolding computed currentFrom endpointDescriptors endpoint endpointOn
 noneInDefault = record { number = refl; shows = refl; lies = refl }
 
 pub isDescriptor : EndpointIn S 0 lie (bytes 7 0x0705810308000A) (record { block = 1; offset = 56 })
+unfolding computed
 isDescriptor = endpointGiven endpointOfS refl
 
 -- counted by whatever meets the statement: 0, then 16, and the one part lists endpoint 81, interrupt

@@ -139,7 +139,7 @@ module _ {R E A W M : Type 0} {answer : R → E → A} {next : R → E → R} {G
 
   -- an answer together with what everybody sees of the record that the event found
   pub seen : {B : Type 0} (see : R → B) → ((k : ℕ) (r s : R) → Same k r s → see r ≡ see s)
-      → Owners (λ r e. (see r, answer r e)) next Good owned who Same rest (λ e a. kind e (a .1)) settle
+      → Owners {A = B × A} (λ r e. (see r, answer r e)) next Good owned who Same rest (λ e a. kind e (a .1)) settle
   seen see by = record {
     keeps = P .keeps;
     self = P .self;

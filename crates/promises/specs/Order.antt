@@ -90,7 +90,7 @@ module _ (b : Board) (bytes : BytesOf b) (ok : accepted b ≡ true) where
       (λ d e g. ap (λ (o : Outcome). o .device) (steps d e g))
 
   -- the same with byte 7 of the record that the event found, which chooses the set that a part is of (L7)
-  pub stepLocalityAt : Owners (λ d e. (d .speed, answerOf b d e)) (nextOf b) (Good b) (owned b) (who b) (Same b) rest (λ e a. kind e (a .1)) settle
+  pub stepLocalityAt : Owners {A = ℕ × Answer} (λ d e. (d .speed, answerOf b d e)) (nextOf b) (Good b) (owned b) (who b) (Same b) rest (λ e a. kind e (a .1)) settle
   stepLocalityAt = seen stepLocality (λ d. d .speed) (λ k r s h. ap (λ (x : Shared). x .speed) (h .firm))
 
   -- an event that concerns an interface leaves the shared fields; so an event concerns throughout a run whom it concerns at its start
