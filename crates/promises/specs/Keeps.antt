@@ -2,9 +2,9 @@
 -- So 8 never follows from the library's own calls. No axiom.
 use Prim.Native.Nat.{ℕ}
 use native.Mathlib.Omega.{arith}
-use mathlib.Core.Path.{_≡_, sym, ap, _∙_}
+use mathlib.Core.Path.{_≡_, refl, sym, ap, _∙_}
 use mathlib.Core.List.{List}
-use mathlib.Core.Bool.{true, false, _&&_, _||_, false≢true}
+use mathlib.Core.Bool.{true, false, _&&_, false≢true}
 use lib.ListN.{length}
 use lib.Dec.{eqb}
 use borrow.Author.Tests.{eq-eqb}
@@ -18,15 +18,14 @@ use Rattle.records.specs.Current.{viewAt}
 use Rattle.records.specs.Fits.{fitsOn}
 use Rattle.records.proofs.Image.{device-image, image-device, image-length, device-sized}
 use Rattle.events.specs.declared.Event.{Event}
-use Rattle.events.specs.declared.Event.the-variants.{Request, Malformed, StatusEnd, BusReset, Halt, PacketPassed, Power, Suspend, Resume, Wake}
 use Rattle.events.specs.Answer.{numberOf}
 use Rattle.events.specs.Step.{respond, step, event, opened}
 use Rattle.octets.specs.Octets.{Bytes}
 use Rattle.promises.specs.Sound.{sound}
 use Rattle.laws.specs.Parts.{drops}
 use Rattle.laws.proofs.Outcomes.{responded}
-use Rattle.promises.specs.Refusal.{refuses, allowsFit}
-use Rattle.promises.specs.Refusals.{stepNumber}
+use Rattle.promises.specs.Refusal.{allowsFit}
+use Rattle.promises.specs.Refusals.{notOwn, stepNumber}
 use Rattle.laws.proofs.Fitting.{fitting, fitted}
 use Rattle.laws.proofs.Changes.{Fit, freshFits, respondedFits}
 
@@ -79,21 +78,8 @@ module _ (b : Board) (bytes : BytesOf b) (ok : accepted b ≡ true) where
   unfolding event
   fitNumber image e f = rw (eq-eqb (length image) 32 (f .long)) (rw (ok, f .fit) at (stepNumber b (deviceOf image) e))
 
--- no event's own refusal is 8
-not-eight : (e : Event) → (eqb 8 0 || refuses e 8) ≡ true → ⊥
-not-eight (Request s) p = false≢true p
-not-eight Malformed p = false≢true p
-not-eight StatusEnd p = false≢true p
-not-eight (BusReset speed) p = false≢true p
-not-eight (Halt a) p = false≢true p
-not-eight (PacketPassed a) p = false≢true p
-not-eight (Power source) p = false≢true p
-not-eight Suspend p = false≢true p
-not-eight Resume p = false≢true p
-not-eight Wake p = false≢true p
-
 never-allowed : (d : Device) (e : Event) → allowsFit d e 8 ≡ true → ⊥
-never-allowed d e p = cases (inTestMode d && drops e) (λ t. false≢true (rw t at p)) (λ t. not-eight e (rw t at p))
+never-allowed d e p = cases (inTestMode d && drops e) (λ t. false≢true (rw t at p)) (λ t. notOwn 8 refl refl refl refl refl e (rw t at p))
 
 -- on a board that is not accepted every event gets 7
 unaccepted : (b : Board) → accepted b ≡ false → (image : List ℕ) (e : Event) → numberOf (event b image e .answer) ≡ 7

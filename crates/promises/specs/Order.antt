@@ -28,12 +28,12 @@ use Rattle.order.specs.Places.{Permuted}
 use Rattle.order.proofs.Places.{shuffle-of, own-places, places-own}
 use Rattle.order.specs.Strike.{strike, left, FairRun}
 use Rattle.order.specs.Owners.{Owners, others, Idle}
-use Rattle.order.proofs.Owners.{along, ordered, ordered-places, unnoticed-by}
+use Rattle.order.proofs.Owners.{along, seen, ordered, ordered-places, unnoticed-by}
 use Rattle.order.proofs.Beside.{fair-run}
 use Rattle.promises.specs.Sound.{sound}
 use Rattle.promises.specs.Keeps.{FitImage, stepFits}
 use Rattle.promises.specs.Images.{onImage}
-use Rattle.laws.specs.Parts.{Good, Same, rest, owned, who, drops, kind, settle}
+use Rattle.laws.specs.Parts.{Good, Shared, shared, Same, rest, owned, who, drops, kind, settle}
 use Rattle.laws.proofs.Locality.{respondOn, concerns-by, idle, locality}
 use Rattle.promises.specs.Rearranged.{Concerned, isThis, Rearranged, answerOf, nextOf, after, answered, heard, Values, valuesOf, imageAnswer, imageNext, imageAfter, imageAnswered, imageHeard}
 use Rattle.laws.proofs.Picking.{own-is, all-of, of-all, every-log, only-map, map-at, mapped-at}
@@ -89,12 +89,17 @@ module _ (b : Board) (bytes : BytesOf b) (ok : accepted b ≡ true) where
       (λ d e g. ap (λ (o : Outcome). o .answer) (steps d e g))
       (λ d e g. ap (λ (o : Outcome). o .device) (steps d e g))
 
-  -- an event concerns throughout a run whom it concerns at its start
+  -- the same with byte 7 of the record that the event found, which chooses the set that a part is of (L7)
+  pub stepLocalityAt : Owners (λ d e. (d .speed, answerOf b d e)) (nextOf b) (Good b) (owned b) (who b) (Same b) rest (λ e a. kind e (a .1)) settle
+  stepLocalityAt = seen stepLocality (λ d. d .speed) (λ k r s h. ap (λ (x : Shared). x .speed) (h .firm))
+
+  -- an event that concerns an interface leaves the shared fields; so an event concerns throughout a run whom it concerns at its start
+  pub sharedStay : (d : Device) (e : Event) → Good b d → owned b d e ≡ true → shared (step b d e .device) ≡ shared d
+  sharedStay d e g o = stepLocality .apart (suc (who b d e)) d e g o (λ p. omega arith) .firm
+
   concerns-next : (d : Device) (e f : Event) → Good b d → owned b d e ≡ true
       → concernsOn b (step b d e .device) f ≡ concernsOn b d f
-  concerns-next d e f g o =
-      let unseen = stepLocality .apart (suc (who b d e)) d e g o (λ p. omega arith) in
-      concerns-by b (step b d e .device) d f (unseen .firm)
+  concerns-next d e f g o = concerns-by b (step b d e .device) d f (sharedStay d e g o)
 
   pub concernsThroughout : (d : Device) (xs : List Event) → Good b d → Concerned b d xs
       → (f : Event) → concernsOn b (after b d xs) f ≡ concernsOn b d f

@@ -87,6 +87,23 @@ keeps {d} (refusedSetup {n = n} l h) refused = ap (λ b. pick b (settled d) d) (
 keeps {d} (refusedInTest p) refused = refl
 keeps {d} (refusedOther r) refused = ap (λ b. pick b (settled d) d) (sym (settlesNothing r .2))
 
+-- 0, 9 to 14, 16 and 19 are all the numbers of an event by its own rules
+pub notOwn : (n : ℕ) → eqb n 0 ≡ false → eqb n 9 ≡ false → (leb 10 n && leb n 14) ≡ false → eqb n 16 ≡ false → eqb n 19 ≡ false
+    → (e : Event) → (eqb n 0 || refuses e n) ≡ true → ⊥
+notOwn n z m t f w e p = never p (rw z (go e))
+  where
+    go : (e : Event) → refuses e n ≡ false
+    go (Request s) = t
+    go Malformed = m
+    go StatusEnd = refl
+    go (BusReset speed) = f
+    go (Halt a) = f
+    go (PacketPassed a) = f
+    go (Power source) = f
+    go Suspend = refl
+    go Resume = refl
+    go Wake = w
+
 module _ (b : Board) (d : Device) (e : Event) where
   -- every number is one of document 01's for that board, record and event, in its order
   pub stepNumber : allows b d e (numberOf (step b d e .answer)) ≡ true
