@@ -45,6 +45,7 @@ reference compare --program CMD [--sets N] [--calls N] [--pairs N] [--pair-calls
 reference faults --program CMD [--seed S]       every planted fault must be noticed
 reference serve [--fault NAME]                  the reference in a harness's place
 reference list SET SERIAL [--fault NAME]        the lister's text for two files
+reference open-pair FULL HIGH SERIAL            the number that opening two sets gives, for three files
 reference generate DIR N [--seed S]             N sets as files set-XXXX.bin and unit-XXXX.bin
 reference samples DIR [--seed S]                the bench set and sets of 16,384 bytes as files, for the stack test
 reference lister --program CMD --directory DIR [--sets N] [--seed S]
@@ -106,6 +107,7 @@ pub fn run(arguments: &Arguments) -> ExitCode {
         ["faults"] => faults(arguments),
         ["serve"] => arguments.fault().and_then(answer_commands),
         ["list", set, serial] => list(arguments, set, serial),
+        ["open-pair", full, high, serial] => open_pair([full, high, serial]),
         ["generate", directory, count] => generate(arguments, directory, count),
         ["samples", directory] => samples(arguments, directory),
         ["lister"] => lister(arguments),
@@ -331,6 +333,13 @@ fn print_fault(fault: Fault, first: Option<usize>, unit: &str) {
 
 fn list(arguments: &Arguments, set: &str, serial: &str) -> Verdict {
     print!("{}", files::list_files(set, serial, arguments.fault()?));
+    Ok(true)
+}
+
+fn open_pair(files: [&str; 3]) -> Verdict {
+    let [full, high, serial] = files.map(|file| std::fs::read(file).unwrap_or_default());
+    let opened = Lent::two(full, high, serial, Fault::None).opened;
+    println!("{}", opened.map_or_else(|refused| refused.number(), |_| 0));
     Ok(true)
 }
 
