@@ -20,3 +20,4 @@ pub mod TestMode
 pub mod Rearranged
 pub mod Order
 pub mod InhabitedOrder
+pub mod Struck
