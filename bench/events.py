@@ -7,6 +7,7 @@ NOTHING, NUMBER = None, {}
 EVENTS = {
     "status end": (STATUS_END, NOTHING),
     "reset": (BUS_RESET, NOTHING),
+    "reset to": (BUS_RESET, {"full": 0, "high": 1}),
     "halt": (HALT, NUMBER),
     "packet passed": (PACKET_PASSED, NUMBER),
     "power": (POWER, {"bus": 0, "own": 1}),

@@ -30,15 +30,16 @@ def number_words(number):
 # ---- the record
 # What each byte of the record's image says: words for some of its values, and for the others words around the value. A byte that gets a meaning
 # gets its row here.
+SELECTORS = range(1, 6)
 BYTES = [
     (0, {0: "Default", 1: "Address", 2: "Configured"}, "state {}"),
     (1, {}, "address {}"),
-    (2, {255: ""}, "address {} waits"),
+    (2, {255: "", **{128 + selector: f"test mode {selector} waits" for selector in SELECTORS}}, "address {} waits"),
     (3, {0: ""}, "configuration {}"),
     (4, {0: "", 1: "remote wakeup on"}, "remote wakeup {}"),
     (5, {0: "", 1: "on its own supply"}, "power source {}"),
     (6, {0: "", 1: "suspended"}, "suspended {}"),
-    (7, {0: ""}, "byte 7 is {}"),
+    (7, {0: "", 1: "high speed", **{1 + 16 * selector: f"test mode {selector}" for selector in SELECTORS}}, "byte 7 is {}"),
     *[(8 + number, {0: ""}, f"interface {number} at alternate {{}}") for number in range(16)],
 ]
 ENDPOINTS = ["halted 0x{:02X}", "toggle 1 at 0x{:02X}"]

@@ -1,10 +1,6 @@
 #include "device.h"
+#include "calls.h"
 #include "hardware.h"
-
-/* What every event is lent. */
-#define LENT(device) \
-    (device)->flash->set, (device)->flash->set_length, (device)->flash->serial, (device)->flash->serial_length, \
-        (device)->record, sizeof(device)->record
 
 #define RECORD_ADDRESS 1
 
@@ -14,9 +10,10 @@
 #define REQUEST_SET_INTERFACE 0x0B
 
 /* An accepted set's contents start with the device descriptor's entry, which has the offset at byte 8 of the set. */
-static uint32_t max_packet_size_0(const struct device_flash *flash) {
-    size_t device_descriptor = flash->set[8] | (size_t)flash->set[9] << 8;
-    return flash->set[device_descriptor + 7];
+static uint32_t max_packet_size_0(const struct device *device) {
+    const uint8_t *set = set_in_use(device);
+    size_t device_descriptor = set[8] | (size_t)set[9] << 8;
+    return set[device_descriptor + 7];
 }
 
 /* The record's address is the one to answer to: a new one waits in another byte until its status stage has ended. */
@@ -29,7 +26,7 @@ static void follow_record(const struct device *device) {
 static void open_endpoints(struct device *device) {
     hk_part descriptor = HK_NO_PART;
     hardware_close_endpoints();
-    for (uint8_t number = 0; hk_endpoint(LENT(device), number, &descriptor) == HK_DONE; number++)
+    for (uint8_t number = 0; call_endpoint(device, number, &descriptor) == HK_DONE; number++)
         hardware_open_endpoint(descriptor.start);
 }
 
@@ -42,12 +39,12 @@ static void conclude(const struct device *device, uint8_t number) {
 
 /* What the host is told by D0 of GET_STATUS. */
 static uint8_t tell_power(struct device *device) {
-    return hk_power(LENT(device), hardware_power_source());
+    return call_power(device, hardware_power_source());
 }
 
 /* Opening cannot know the supply: the fresh record says that it is the bus. */
-static uint8_t open_afresh(struct device *device) {
-    uint8_t number = hk_open(LENT(device));
+static uint8_t open_afresh(struct device *device, uint8_t speed) {
+    uint8_t number = call_open(device, speed);
     return number == HK_DONE ? tell_power(device) : number;
 }
 
@@ -56,7 +53,7 @@ static void send_next_packet(struct device *device) {
     struct device_transfer *transfer = &device->transfer;
     hk_part packet = HK_NO_PART;
     uint8_t number = hk_packet(transfer->reply.start, transfer->reply.length, transfer->asked,
-                               max_packet_size_0(device->flash), transfer->packet, &packet);
+                               max_packet_size_0(device), transfer->packet, &packet);
     if (number == HK_DONE) {
         transfer->packet++;
         hardware_send_packet(packet.start, packet.length);
@@ -89,7 +86,7 @@ static void refuse(struct device *device, uint8_t number) {
 /* The host's bytes come in packets of at most bMaxPacketSize0, so many of them are still to come. */
 static void receive_next_packet(struct device *device) {
     struct device_transfer *transfer = &device->transfer;
-    size_t left = (size_t)transfer->asked - transfer->received, most = max_packet_size_0(device->flash);
+    size_t left = (size_t)transfer->asked - transfer->received, most = max_packet_size_0(device);
     transfer->stage = STAGE_DATA_OUT;
     hardware_receive_packet(transfer->room + transfer->received, left < most ? left : most);
 }
@@ -127,7 +124,7 @@ static void handle_setup(struct device *device, const uint8_t *setup, size_t set
     struct application_data data = {HK_NO_PART, NULL, 0};
     hk_part part = HK_NO_PART;
     uint8_t count = 0;
-    uint8_t number = hk_setup(LENT(device), setup, setup_length, transfer->bytes, &count, &part);
+    uint8_t number = call_setup(device, setup, setup_length, transfer->bytes, &count, &part);
     transfer->stage = STAGE_NONE;
     if (number == HK_REQUEST_UNKNOWN && application_setup(setup, &data)) {
         follow_record(device);
@@ -149,9 +146,20 @@ static void handle_setup(struct device *device, const uint8_t *setup, size_t set
     send_answer(device, (uint16_t)(setup[6] | setup[7] << 8));
 }
 
+/* A test mode is entered when its status stage has ended, so that the host gets it still. */
+static void follow_test_mode(const struct device *device) {
+#ifdef DEVICE_TWO_SETS
+    if (device->record[RECORD_SPEED] > HK_SPEED_HIGH)
+        hardware_enter_test_mode(device->record[RECORD_SPEED] / 16);
+#else
+    (void)device;
+#endif
+}
+
 static void end_transfer(struct device *device) {
     device->transfer.stage = STAGE_NONE;
-    conclude(device, hk_status_end(LENT(device)));
+    conclude(device, call_status_end(device));
+    follow_test_mode(device);
 }
 
 static void handle_packet_taken(struct device *device) {
@@ -169,7 +177,7 @@ static void handle_status_received(struct device *device) {
 /* All bytes are there, or the next packet is due. One that is short before the end, or too long, is a host's error. */
 static void handle_packet_received(struct device *device, size_t received) {
     struct device_transfer *transfer = &device->transfer;
-    size_t left = (size_t)transfer->asked - transfer->received, most = max_packet_size_0(device->flash);
+    size_t left = (size_t)transfer->asked - transfer->received, most = max_packet_size_0(device);
     if (transfer->stage != STAGE_DATA_OUT)
         return;
     if (received != (left < most ? left : most)) {
@@ -186,11 +194,11 @@ static void handle_packet_received(struct device *device, size_t received) {
 }
 
 /* Only opening mends a record that does not fit, and a bus reset is the time for it: all starts afresh anyhow. */
-static void handle_bus_reset(struct device *device) {
-    uint8_t number = hk_bus_reset(LENT(device));
+static void handle_bus_reset(struct device *device, uint8_t speed) {
+    uint8_t number = call_bus_reset(device, speed);
     if (number == HK_RECORD_DOES_NOT_FIT) {
         application_hear(number);
-        number = open_afresh(device);
+        number = open_afresh(device, speed);
     }
     device->transfer.stage = STAGE_NONE;
     open_endpoints(device);
@@ -200,7 +208,7 @@ static void handle_bus_reset(struct device *device) {
 static void handle(struct device *device, const struct hardware_event *event) {
     switch (event->kind) {
     case HARDWARE_BUS_RESET:
-        handle_bus_reset(device);
+        handle_bus_reset(device, event->speed);
         break;
     case HARDWARE_SETUP:
         handle_setup(device, event->setup, event->setup_length);
@@ -215,16 +223,16 @@ static void handle(struct device *device, const struct hardware_event *event) {
         handle_packet_received(device, event->received);
         break;
     case HARDWARE_ENDPOINT_PACKET:
-        conclude(device, hk_packet_passed(LENT(device), event->endpoint));
+        conclude(device, call_packet_passed(device, event->endpoint));
         break;
     case HARDWARE_POWER_CHANGED:
         conclude(device, tell_power(device));
         break;
     case HARDWARE_SUSPEND:
-        conclude(device, hk_suspend(LENT(device)));
+        conclude(device, call_suspend(device));
         break;
     case HARDWARE_RESUME:
-        conclude(device, hk_resume(LENT(device)));
+        conclude(device, call_resume(device));
         break;
     }
 }
@@ -232,7 +240,7 @@ static void handle(struct device *device, const struct hardware_event *event) {
 uint8_t device_start(struct device *device, const struct device_flash *flash) {
     device->flash = flash;
     device->transfer.stage = STAGE_NONE;
-    uint8_t number = open_afresh(device);
+    uint8_t number = open_afresh(device, HK_SPEED_FULL);
     open_endpoints(device);
     conclude(device, number);
     return number;
@@ -245,14 +253,14 @@ void device_run(struct device *device) {
 }
 
 uint8_t device_halt(struct device *device, uint8_t endpoint) {
-    uint8_t number = hk_halt(LENT(device), endpoint);
+    uint8_t number = call_halt(device, endpoint);
     conclude(device, number);
     return number;
 }
 
 /* The record stays as it is: the sleep ends when the host resumes the bus. */
 uint8_t device_wake(struct device *device) {
-    uint8_t number = hk_wake(LENT(device));
+    uint8_t number = call_wake(device);
     if (number == HK_DONE)
         hardware_signal_wakeup();
     return number;

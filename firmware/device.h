@@ -13,12 +13,17 @@
 extern "C" {
 #endif
 
-/* What stands in flash and is only read: the set, and this unit's own serial block (NULL and 0 where there is none). */
+/* What stands in flash and is only read: the set, and this unit's own serial block (NULL and 0 where there is none). A board
+ * with a high-speed peripheral defines DEVICE_TWO_SETS, and `set` is then the full-speed set. */
 struct device_flash {
     const uint8_t *set;
     size_t set_length;
     const uint8_t *serial;
     size_t serial_length;
+#ifdef DEVICE_TWO_SETS
+    const uint8_t *high;
+    size_t high_length;
+#endif
 };
 
 enum device_stage {

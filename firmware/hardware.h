@@ -13,7 +13,7 @@ extern "C" {
 #endif
 
 enum hardware_event_kind {
-    HARDWARE_BUS_RESET,
+    HARDWARE_BUS_RESET,       /* of a board with two sets: `speed` is the speed that the bus has from now on */
     HARDWARE_SETUP,           /* a SETUP packet stands in setup, setup_length bytes of it */
     HARDWARE_PACKET_TAKEN,    /* endpoint zero: the host has acknowledged the packet that was sent */
     HARDWARE_STATUS_RECEIVED, /* endpoint zero: the host's empty packet has arrived */
@@ -26,6 +26,7 @@ enum hardware_event_kind {
 
 struct hardware_event {
     enum hardware_event_kind kind;
+    uint8_t speed; /* HK_SPEED_FULL or HK_SPEED_HIGH */
     uint8_t endpoint;
     uint8_t setup_length;
     uint8_t setup[HK_SETUP_LENGTH];
@@ -71,8 +72,12 @@ uint8_t hardware_power_source(void);
 /* Signals the host to resume the bus (for 1 to 15 ms, not before the bus has been idle for 5 ms). */
 void hardware_signal_wakeup(void);
 
+/* Of a board with two sets: the peripheral enters a test mode (USB 2.0, table 9-7: 1 Test_J, 2 Test_K, 3 Test_SE0_NAK,
+ * 4 Test_Packet, 5 Test_Force_Enable). It is never asked to leave it: only power-on does. */
+void hardware_enter_test_mode(uint8_t selector);
+
 /* The application hears every number but HK_DONE. HK_REQUEST_UNKNOWN to HK_NO_SUCH_FEATURE are the host's doing, and it
- * was told by STALL. All others are a fault on the board: its flash, its memory, its peripheral or its application. */
+ * was told by STALL, as it is with HK_TEST_MODE_ENTERED. All others are a fault on the board: its flash, its memory, its peripheral or its application. */
 void application_hear(uint8_t number);
 
 /* What the application puts into a control transfer of its own. */

@@ -1,4 +1,4 @@
-/* Two boards' flash, as their makers would write it. */
+/* Boards' flash, as their makers would write it. */
 #ifndef SETS_H
 #define SETS_H
 
@@ -8,11 +8,16 @@
 extern "C" {
 #endif
 
+#ifndef DEVICE_TWO_SETS
 /* The bench set S of document 01: one interrupt endpoint, no strings, no serial block. */
 extern const struct device_flash bench_flash;
 
 /* A titrator: two interfaces with alternate settings, a serial port, strings in two languages and a serial number. */
 extern const struct device_flash titrator_flash;
+#else
+/* The same titrator with a high-speed peripheral: a set for each speed. */
+extern const struct device_flash titrator_pair_flash;
+#endif
 
 #ifdef __cplusplus
 }

@@ -37,7 +37,7 @@ typedef struct block {
     size_t start, length;
 } block;
 
-static block set, serial, image, setup, bytes, count, part, reply, pieces, written;
+static block set, high, serial, image, setup, bytes, count, part, reply, pieces, written;
 
 /* What a hk_part points to before the call, so that it shows whether the call wrote it. */
 static const uint8_t decoy[1];
@@ -206,7 +206,13 @@ static hk_part *unwritten_part(uint8_t flags) {
     return (hk_part *)(void *)(part.room + part.start);
 }
 
-/* The answer to a call: block_number is 0 for the set, 1 for the serial block, 2 for the reply. */
+/* The number of a block in an answer. */
+#define IN_SET 0
+#define IN_SERIAL 1
+#define IN_REPLY 2
+#define IN_HIGH 3
+
+/* The answer to a call. */
 static void respond(uint8_t error, uint8_t number, const uint8_t *answer, uint8_t answer_count, uint8_t block_number,
                     size_t offset, size_t length) {
     uint8_t head[6] = {error, number, answer_count, answer[0], answer[1], block_number};
@@ -221,7 +227,7 @@ static void respond_with_image(void) {
 }
 
 static int lent_blocks_kept(void) {
-    return unchanged(&set) && unchanged(&serial) && guards_unchanged(&image);
+    return unchanged(&set) && unchanged(&high) && unchanged(&serial) && guards_unchanged(&image);
 }
 
 /* What a call that may hand something back writes. */
@@ -231,14 +237,28 @@ static hk_part *unwritten_answer(uint8_t flags) {
     return unwritten_part(flags);
 }
 
-static void respond_with_answer(uint8_t number, const hk_part *found, uint8_t flags) {
+/* The block that a part lies in, and where: in the set, in the high-speed set where there is one, or in the serial block. */
+static uint8_t block_of(hk_part found, uint8_t flags, int two, size_t *offset) {
+    if ((*offset = offset_in(&set, found, flags)) != SIZE_MAX)
+        return IN_SET;
+    if (two && (*offset = offset_in(&high, found, flags)) != SIZE_MAX)
+        return IN_HIGH;
+    *offset = offset_in(&serial, found, flags);
+    return IN_SERIAL;
+}
+
+static void respond_with_part_of(int two, uint8_t number, const hk_part *found, uint8_t flags) {
+    size_t offset;
     int kept = lent_blocks_kept() && unchanged(&setup) && guards_unchanged(&bytes) && guards_unchanged(&count) &&
                guards_unchanged(&part);
-    size_t in_set = offset_in(&set, *found, flags), in_serial = offset_in(&serial, *found, flags);
-    int astray = in_set == SIZE_MAX && in_serial == SIZE_MAX;
-    respond(!kept ? BYTES_CHANGED : astray ? PART_ASTRAY : 0, number, bytes.room + bytes.start, count.room[count.start],
-            in_set == SIZE_MAX, in_set == SIZE_MAX ? in_serial : in_set, found->length);
+    uint8_t block_number = block_of(*found, flags, two, &offset);
+    respond(!kept ? BYTES_CHANGED : offset == SIZE_MAX ? PART_ASTRAY : 0, number, bytes.room + bytes.start,
+            count.room[count.start], block_number, offset, found->length);
     respond_with_image();
+}
+
+static void respond_with_answer(uint8_t number, const hk_part *found, uint8_t flags) {
+    respond_with_part_of(0, number, found, flags);
 }
 
 static void call_setup(uint8_t flags) {
@@ -265,10 +285,32 @@ static void call_record_event(uint8_t flags) {
     respond_with_answer(number, found, flags);
 }
 
-/* The calls that only lend set, serial block and image, and those that name an endpoint or a power source too. */
+/* Any event by its number, with two sets and an image of any length. */
+static void call_two_event(uint8_t flags) {
+    uint8_t event = take_byte(), value = take_byte();
+    take_block(&image, flags);
+    take_block(&setup, flags);
+    hk_part *found = unwritten_answer(flags);
+    uint8_t number = hk_two_event(lent(&set, flags), set.length, lent(&high, flags), high.length, lent(&serial, flags),
+                                  serial.length, lent(&image, flags), image.length, event, value, lent(&setup, flags),
+                                  setup.length, bytes.room + bytes.start, count.room + count.start, found);
+    respond_with_part_of(1, number, found, flags);
+}
+
+static void call_two_open(uint8_t flags) {
+    static const uint8_t no_answer[2];
+    take_block(&image, flags);
+    uint8_t number = hk_two_open(lent(&set, flags), set.length, lent(&high, flags), high.length, lent(&serial, flags),
+                                 serial.length, lent(&image, flags), image.length);
+    respond(lent_blocks_kept() ? 0 : BYTES_CHANGED, number, no_answer, 0, IN_SET, 0, 0);
+    respond_with_image();
+}
+
+/* The calls that only lend set, serial block and image, and those that name an endpoint, a power source or a speed too. */
 static void call_event(uint8_t operation, uint8_t flags) {
     static const uint8_t no_answer[2];
-    uint8_t value = operation == 'h' || operation == 'p' || operation == 'P' ? take_byte() : 0;
+    int has_value = operation == 'h' || operation == 'p' || operation == 'P' || operation == 'R';
+    uint8_t value = has_value ? take_byte() : 0;
     take_block(&image, flags);
     const uint8_t *set_lent = lent(&set, flags), *serial_lent = lent(&serial, flags);
     uint8_t *image_lent = lent(&image, flags), number;
@@ -281,6 +323,9 @@ static void call_event(uint8_t operation, uint8_t flags) {
         break;
     case 'r':
         number = hk_bus_reset(set_lent, set.length, serial_lent, serial.length, image_lent, image.length);
+        break;
+    case 'R':
+        number = hk_bus_reset_to(set_lent, set.length, serial_lent, serial.length, image_lent, image.length, value);
         break;
     case 'h':
         number = hk_halt(set_lent, set.length, serial_lent, serial.length, image_lent, image.length, value);
@@ -300,7 +345,7 @@ static void call_event(uint8_t operation, uint8_t flags) {
     default:
         number = hk_packet_passed(set_lent, set.length, serial_lent, serial.length, image_lent, image.length, value);
     }
-    respond(lent_blocks_kept() ? 0 : BYTES_CHANGED, number, no_answer, 0, 0, 0, 0);
+    respond(lent_blocks_kept() ? 0 : BYTES_CHANGED, number, no_answer, 0, IN_SET, 0, 0);
     respond_with_image();
 }
 
@@ -313,7 +358,8 @@ static void call_packet(uint8_t flags) {
     uint8_t result = hk_packet(lent(&reply, flags), reply.length, asked, size, number, found);
     size_t offset = offset_in(&reply, *found, flags);
     int kept = unchanged(&reply) && guards_unchanged(&part);
-    respond(!kept ? BYTES_CHANGED : offset == SIZE_MAX ? PART_ASTRAY : 0, result, no_answer, 0, 2, offset, found->length);
+    respond(!kept ? BYTES_CHANGED : offset == SIZE_MAX ? PART_ASTRAY : 0, result, no_answer, 0, IN_REPLY, offset,
+            found->length);
     put_number(0);
 }
 
@@ -334,7 +380,7 @@ static void call_maker(uint8_t operation, uint8_t flags) {
     else
         number = hk_export(lent(&set, flags), set.length, lent(&serial, flags), serial.length, buffer, image.length, length);
     int kept = lent_blocks_kept() && unchanged(&pieces) && guards_unchanged(&written);
-    respond(kept ? 0 : BYTES_CHANGED, number, no_answer, 0, 0, 0, *length);
+    respond(kept ? 0 : BYTES_CHANGED, number, no_answer, 0, IN_SET, 0, *length);
     respond_with_image();
 }
 
@@ -346,26 +392,32 @@ static void call_trim(uint8_t flags) {
     uint16_t *total = (uint16_t *)(void *)(written.room + written.start);
     uint8_t number = hk_trim(lent(&image, flags), image.length, lent(&serial, flags), serial.length, total);
     int kept = lent_blocks_kept() && guards_unchanged(&written);
-    respond(kept ? 0 : BYTES_CHANGED, number, no_answer, 0, 0, 0, *total);
+    respond(kept ? 0 : BYTES_CHANGED, number, no_answer, 0, IN_SET, 0, *total);
     respond_with_image();
 }
 
 /* The image is only read. */
-static void call_endpoint(uint8_t flags) {
+static void call_endpoint(uint8_t operation, uint8_t flags) {
     static const uint8_t no_answer[2];
-    uint8_t number = take_byte();
+    uint8_t number = take_byte(), result;
+    size_t offset;
     take_block(&image, flags);
     hk_part *found = unwritten_part(flags);
-    uint8_t result = hk_endpoint(lent(&set, flags), set.length, lent(&serial, flags), serial.length, lent(&image, flags),
-                                 image.length, number, found);
-    size_t offset = offset_in(&set, *found, flags);
+    if (operation == 'N')
+        result = hk_two_endpoint(lent(&set, flags), set.length, lent(&high, flags), high.length, lent(&serial, flags),
+                                 serial.length, lent(&image, flags), image.length, number, found);
+    else
+        result = hk_endpoint(lent(&set, flags), set.length, lent(&serial, flags), serial.length, lent(&image, flags),
+                             image.length, number, found);
+    uint8_t block_number = block_of(*found, flags, operation == 'N', &offset);
     int kept = lent_blocks_kept() && unchanged(&image) && guards_unchanged(&part);
-    respond(!kept ? BYTES_CHANGED : offset == SIZE_MAX ? PART_ASTRAY : 0, result, no_answer, 0, 0, offset, found->length);
+    respond(!kept ? BYTES_CHANGED : offset == SIZE_MAX ? PART_ASTRAY : 0, result, no_answer, 0, block_number, offset,
+            found->length);
     respond_with_image();
 }
 
 int main(void) {
-    block *blocks[] = {&set, &serial, &image, &setup, &bytes, &count, &part, &reply, &pieces, &written};
+    block *blocks[] = {&set, &high, &serial, &image, &setup, &bytes, &count, &part, &reply, &pieces, &written};
     int stopping[] = {SIGSEGV, SIGBUS, SIGILL, SIGTRAP, SIGFPE, SIGABRT};
     for (size_t at = 0; at < sizeof blocks / sizeof *blocks; at++)
         make_room(blocks[at]);
@@ -380,14 +432,23 @@ int main(void) {
         case 'U':
             take_block(&serial, flags);
             break;
+        case 'H':
+            take_block(&high, flags);
+            break;
         case 's':
             call_setup(flags);
             break;
         case 'k':
             call_packet(flags);
             break;
-        case 'n':
-            call_endpoint(flags);
+        case 'n': case 'N':
+            call_endpoint(operation, flags);
+            break;
+        case 'O':
+            call_two_open(flags);
+            break;
+        case 'V':
+            call_two_event(flags);
             break;
         case 't':
             call_trim(flags);
@@ -398,7 +459,7 @@ int main(void) {
         case 'v':
             call_record_event(flags);
             break;
-        case 'o': case 'e': case 'r': case 'h': case 'p': case 'P': case 'z': case 'y': case 'a':
+        case 'o': case 'e': case 'r': case 'R': case 'h': case 'p': case 'P': case 'z': case 'y': case 'a':
             call_event(operation, flags);
             break;
         default:

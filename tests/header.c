@@ -42,6 +42,9 @@ static void check_numbers(void) {
     EXPECT(HK_NO_SUCH_FEATURE, 14);
     EXPECT(HK_NO_SUCH_PACKET, 15);
     EXPECT(HK_ENDPOINT_UNFIT, 16);
+    EXPECT(HK_TEST_MODE_ENTERED, 17);
+    EXPECT(HK_WAKE_NOT_ALLOWED, 19);
+    EXPECT(HK_PAIR_BROKEN, 24);
 }
 
 /* the lengths, and the events in the order in which hk_record_event numbers them */
@@ -53,6 +56,12 @@ static void check_lengths_and_events(void) {
     EXPECT(HK_EVENT_BUS_RESET, 2);
     EXPECT(HK_EVENT_HALT, 3);
     EXPECT(HK_EVENT_PACKET_PASSED, 4);
+    EXPECT(HK_EVENT_POWER, 5);
+    EXPECT(HK_EVENT_SUSPEND, 6);
+    EXPECT(HK_EVENT_RESUME, 7);
+    EXPECT(HK_EVENT_WAKE, 8);
+    EXPECT(HK_SPEED_FULL, 0);
+    EXPECT(HK_SPEED_HIGH, 1);
 }
 
 /* "The device record": each field at its byte of the image */

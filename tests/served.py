@@ -10,6 +10,8 @@ REFERENCE = os.path.join(TOP, "target", "reference", "release", "reference")
 # The events by their numbers in include/heideklonk.h, and the operation of each in the protocol.
 SETUP, STATUS_END, BUS_RESET, HALT, PACKET_PASSED, POWER, SUSPEND, RESUME, WAKE = range(9)
 OPERATIONS = b"serhpPzya"
+# A bus reset that names its speed.
+BUS_RESET_TO = b"R"
 
 
 def block(data):
@@ -52,6 +54,11 @@ class Served:
         self.say(b"S", block(data))
         self.say(b"U", block(serial))
 
+    def lend_two(self, full, high, serial):
+        """For the calls whose names begin with two."""
+        self.lend(full, serial)
+        self.say(b"H", block(high))
+
     def ask(self, operation, rest):
         """The number, the bytes, the part as (block, offset, length), and the image."""
         self.say(operation, rest)
@@ -66,8 +73,16 @@ class Served:
         return self.ask(b"o", block(image))
 
     def event(self, kind, carried, image):
-        operation = OPERATIONS[kind : kind + 1]
+        operation = BUS_RESET_TO if kind == BUS_RESET and carried else OPERATIONS[kind : kind + 1]
         return self.ask(operation, block(image) + block(carried) if kind == SETUP else carried + block(image))
+
+    def two_open(self, image):
+        return self.ask(b"O", block(image))
+
+    def two_event(self, kind, carried, image):
+        """An event where two sets are lent; the part's block is 0 for the full-speed set and 3 for the other."""
+        value, setup = (0, carried) if kind == SETUP else (carried[0] if carried else 0, b"")
+        return self.ask(b"V", bytes([kind, value]) + block(image) + block(setup))
 
     def write(self, pieces, size=16384):
         """hk_write: the number, and the set that it wrote with the serial block lent."""

@@ -37,7 +37,8 @@ void show_record(struct host *host, const char *when) {
 }
 
 void show_fault(uint8_t number) {
-    if (number != HK_DONE && (number < HK_REQUEST_UNKNOWN || number > HK_NO_SUCH_FEATURE))
+    int told_by_stall = (number >= HK_REQUEST_UNKNOWN && number <= HK_NO_SUCH_FEATURE) || number == HK_TEST_MODE_ENTERED;
+    if (number != HK_DONE && !told_by_stall)
         printf("  the board's application hears %u: %s\n", number, number_in_words(number));
 }
 
@@ -56,13 +57,22 @@ void send_stray_out(struct host *host, const char *when) {
     show_record(host, "");
 }
 
-void reset_bus(struct host *host) {
-    printf("bus reset\n");
-    wire_reset_bus();
+static void reset(struct host *host, uint8_t speed) {
+    wire_reset_bus(speed);
     host->address = 0;
     check_transfer_ended(host);
     show_fault(wire_heard());
     show_record(host, "");
+}
+
+void reset_bus(struct host *host) {
+    printf("bus reset\n");
+    reset(host, HK_SPEED_FULL);
+}
+
+void reset_bus_to(struct host *host, uint8_t speed) {
+    printf("bus reset to %s speed\n", speed == HK_SPEED_HIGH ? "high" : "full");
+    reset(host, speed);
 }
 
 void fill_setup(uint8_t *setup, uint8_t type, uint8_t code, unsigned value, unsigned index, unsigned length) {

@@ -35,6 +35,9 @@ void send_stray_out(struct host *host, const char *when);
 
 void reset_bus(struct host *host);
 
+/* The same to a speed, on a board with two sets. */
+void reset_bus_to(struct host *host, uint8_t speed);
+
 void fill_setup(uint8_t *setup, uint8_t type, uint8_t code, unsigned value, unsigned index, unsigned length);
 
 /* The setup and data stages: the answer is kept. The number is the library's; the host only sees a STALL. */

@@ -15,7 +15,7 @@ library.memory.grow(Math.ceil(ROOM / 65536));
 const memory = new Uint8Array(library.memory.buffer);
 const words = new DataView(library.memory.buffer);
 
-let set = new Uint8Array(0), serial = new Uint8Array(0);
+let set = new Uint8Array(0), high = new Uint8Array(0), serial = new Uint8Array(0);
 let touched = start + ROOM; // up to here, bytes may be other than guard bytes
 
 // ---- the commands
@@ -52,7 +52,9 @@ function take(length) {
 const takeNumber = (length) => take(length).readUIntLE(0, length);
 const takeBlock = () => take(takeNumber(4));
 
-// The answer to a call: block is 0 for the set, 1 for the serial block, 2 for the reply.
+// The answer to a call.
+const IN_SET = 0, IN_SERIAL = 1, IN_REPLY = 2, IN_HIGH = 3; // the number of a block
+
 function respond(error, number, count, bytes, block, offset, length, image) {
     const head = Buffer.alloc(18);
     head.set([error, number, count, ...bytes, block]);
@@ -63,7 +65,7 @@ function respond(error, number, count, bytes, block, offset, length, image) {
 }
 
 function stopWith(error) {
-    respond(error, 0, 0, [0, 0], 0, 0, 0, []);
+    respond(error, 0, 0, [0, 0], IN_SET, 0, 0, []);
     flush();
     process.exit(3);
 }
@@ -138,8 +140,8 @@ function callSetup(flags) {
     const bytes = lent.placeForWriting(new Uint8Array(2).fill(UNWRITTEN)), count = lent.placeForWriting(new Uint8Array(1).fill(UNWRITTEN)), part = lent.placePart();
     const blocks = [setLent, serialLent, imageLent, setupLent].flatMap(pair);
     const { number, error } = lent.call("hk_setup", ...blocks, bytes.address, count.address, part.address);
-    const found = locate(part, [[0, setLent], [1, serialLent]]);
-    respond(error || (found ? 0 : PART_ASTRAY), number, count.bytes()[0], bytes.bytes(), ...(found ?? [0, 0, 0]), imageLent.bytes());
+    const found = locate(part, [[IN_SET, setLent], [IN_SERIAL, serialLent]]);
+    respond(error || (found ? 0 : PART_ASTRAY), number, count.bytes()[0], bytes.bytes(), ...(found ?? [IN_SET, 0, 0]), imageLent.bytes());
 }
 
 // The record stands aligned, and its bytes are the image.
@@ -148,39 +150,60 @@ function callRecordEvent(flags) {
     const setLent = lent.place(set), serialLent = lent.place(serial), recordLent = lent.placeForWriting(record, 4), setupLent = lent.place(setup);
     const bytes = lent.placeForWriting(new Uint8Array(2).fill(UNWRITTEN)), count = lent.placeForWriting(new Uint8Array(1).fill(UNWRITTEN)), part = lent.placePart();
     const { number, error } = lent.call("hk_record_event", ...pair(setLent), ...pair(serialLent), recordLent.address, event, value, ...pair(setupLent), bytes.address, count.address, part.address);
-    const found = locate(part, [[0, setLent], [1, serialLent]]);
-    respond(error || (found ? 0 : PART_ASTRAY), number, count.bytes()[0], bytes.bytes(), ...(found ?? [0, 0, 0]), recordLent.bytes());
+    const found = locate(part, [[IN_SET, setLent], [IN_SERIAL, serialLent]]);
+    respond(error || (found ? 0 : PART_ASTRAY), number, count.bytes()[0], bytes.bytes(), ...(found ?? [IN_SET, 0, 0]), recordLent.bytes());
+}
+
+// Any event by its number, with two sets and an image of any length.
+function callTwoEvent(flags) {
+    const event = takeNumber(1), value = takeNumber(1), image = takeBlock(), setup = takeBlock(), lent = new Lent(flags);
+    const [setLent, highLent, serialLent] = [set, high, serial].map((bytes) => lent.place(bytes));
+    const imageLent = lent.placeForWriting(image), setupLent = lent.place(setup);
+    const bytes = lent.placeForWriting(new Uint8Array(2).fill(UNWRITTEN)), count = lent.placeForWriting(new Uint8Array(1).fill(UNWRITTEN)), part = lent.placePart();
+    const blocks = [setLent, highLent, serialLent, imageLent].flatMap(pair);
+    const { number, error } = lent.call("hk_two_event", ...blocks, event, value, ...pair(setupLent), bytes.address, count.address, part.address);
+    const found = locate(part, [[IN_SET, setLent], [IN_HIGH, highLent], [IN_SERIAL, serialLent]]);
+    respond(error || (found ? 0 : PART_ASTRAY), number, count.bytes()[0], bytes.bytes(), ...(found ?? [IN_SET, 0, 0]), imageLent.bytes());
+}
+
+function callTwoOpen(flags) {
+    const image = takeBlock(), lent = new Lent(flags);
+    const blocks = [set, high, serial].map((bytes) => lent.place(bytes)), imageLent = lent.placeForWriting(image);
+    const { number, error } = lent.call("hk_two_open", ...[...blocks, imageLent].flatMap(pair));
+    respond(error, number, 0, [0, 0], IN_SET, 0, 0, imageLent.bytes());
 }
 
 const EVENTS = {
     o: "hk_open", e: "hk_status_end", r: "hk_bus_reset", h: "hk_halt", p: "hk_packet_passed",
-    P: "hk_power", z: "hk_suspend", y: "hk_resume", a: "hk_wake",
+    P: "hk_power", z: "hk_suspend", y: "hk_resume", a: "hk_wake", R: "hk_bus_reset_to",
 };
-const VALUED = "hpP";
+const VALUED = "hpPR";
 
 function callEvent(operation, flags) {
     const value = VALUED.includes(operation) ? [takeNumber(1)] : [];
     const image = takeBlock(), lent = new Lent(flags);
     const blocks = [lent.place(set), lent.place(serial)], imageLent = lent.placeForWriting(image);
     const { number, error } = lent.call(EVENTS[operation], ...[...blocks, imageLent].flatMap(pair), ...value);
-    respond(error, number, 0, [0, 0], 0, 0, 0, imageLent.bytes());
+    respond(error, number, 0, [0, 0], IN_SET, 0, 0, imageLent.bytes());
 }
 
 // The image is only read.
-function callEndpoint(flags) {
+function callEndpoint(operation, flags) {
     const index = takeNumber(1), image = takeBlock(), lent = new Lent(flags);
-    const setLent = lent.place(set), serialLent = lent.place(serial), imageLent = lent.place(image), part = lent.placePart();
-    const { number, error } = lent.call("hk_endpoint", ...[setLent, serialLent, imageLent].flatMap(pair), index, part.address);
-    const found = locate(part, [[0, setLent]]);
-    respond(error || (found ? 0 : PART_ASTRAY), number, 0, [0, 0], ...(found ?? [0, 0, 0]), imageLent.bytes());
+    const sets = operation === "N" ? [[IN_SET, lent.place(set)], [IN_HIGH, lent.place(high)]] : [[IN_SET, lent.place(set)]];
+    const serialLent = lent.place(serial), imageLent = lent.place(image), part = lent.placePart();
+    const name = operation === "N" ? "hk_two_endpoint" : "hk_endpoint", blocks = [...sets.map(([, block]) => block), serialLent, imageLent];
+    const { number, error } = lent.call(name, ...blocks.flatMap(pair), index, part.address);
+    const found = locate(part, sets);
+    respond(error || (found ? 0 : PART_ASTRAY), number, 0, [0, 0], ...(found ?? [IN_SET, 0, 0]), imageLent.bytes());
 }
 
 function callPacket(flags) {
     const length = takeNumber(4), asked = takeNumber(2), size = takeNumber(4), packet = takeNumber(4), lent = new Lent(flags);
     const reply = lent.place(new Uint8Array(length).fill(GUARD_BYTE)), part = lent.placePart();
     const { number, error } = lent.call("hk_packet", ...pair(reply), asked, size, packet, part.address);
-    const found = locate(part, [[2, reply]]);
-    respond(error || (found ? 0 : PART_ASTRAY), number, 0, [0, 0], ...(found ?? [2, 0, 0]), []);
+    const found = locate(part, [[IN_REPLY, reply]]);
+    respond(error || (found ? 0 : PART_ASTRAY), number, 0, [0, 0], ...(found ?? [IN_REPLY, 0, 0]), []);
 }
 
 // What a maker's call reads, before its buffer; the buffer is lent as the image is: it is given back whole.
@@ -195,7 +218,7 @@ function callTrim(flags) {
     const lent = new Lent(flags), buffer = lent.placeForWriting(takeBlock()), serialLent = lent.place(serial);
     const total = lent.placeForWriting(new Uint8Array(2).fill(UNWRITTEN), 2);
     const { number, error } = lent.call("hk_trim", ...pair(buffer), ...pair(serialLent), total.address);
-    respond(error, number, 0, [0, 0], 0, 0, words.getUint16(total.address, true), buffer.bytes());
+    respond(error, number, 0, [0, 0], IN_SET, 0, words.getUint16(total.address, true), buffer.bytes());
 }
 
 function callMaker(operation, flags) {
@@ -203,7 +226,7 @@ function callMaker(operation, flags) {
     const blocks = read().map((bytes) => lent.place(bytes)), buffer = lent.placeForWriting(takeBlock());
     const written = lent.placeForWriting(new Uint8Array(2).fill(UNWRITTEN), 2);
     const { number, error } = lent.call(name, ...[...blocks, buffer].flatMap(pair), written.address);
-    respond(error, number, 0, [0, 0], 0, 0, words.getUint16(written.address, true), buffer.bytes());
+    respond(error, number, 0, [0, 0], IN_SET, 0, words.getUint16(written.address, true), buffer.bytes());
 }
 
 for (;;) {
@@ -216,8 +239,14 @@ for (;;) {
         callSetup(flags);
     else if (operation === "v")
         callRecordEvent(flags);
-    else if (operation === "n")
-        callEndpoint(flags);
+    else if (operation === "H")
+        high = takeBlock();
+    else if (operation === "n" || operation === "N")
+        callEndpoint(operation, flags);
+    else if (operation === "O")
+        callTwoOpen(flags);
+    else if (operation === "V")
+        callTwoEvent(flags);
     else if (operation === "k")
         callPacket(flags);
     else if (operation === "t")

@@ -14,7 +14,7 @@
 static struct {
     struct device *device;
     struct serial_port *port;
-    uint8_t address, heard, power;
+    uint8_t address, heard, power, test_mode;
     uint8_t record[HK_IMAGE_LENGTH]; /* as the endpoints have it */
     const uint8_t *open[WIRE_MOST_ENDPOINTS];
     size_t open_count;
@@ -79,6 +79,10 @@ void hardware_signal_wakeup(void) {
     wire.wakeup_signalled = 1;
 }
 
+void hardware_enter_test_mode(uint8_t selector) {
+    wire.test_mode = selector;
+}
+
 void application_hear(uint8_t number) {
     wire.heard = number;
 }
@@ -141,9 +145,14 @@ static void happen(enum hardware_event_kind kind) {
     device_run(wire.device);
 }
 
-void wire_reset_bus(void) {
+void wire_reset_bus(uint8_t speed) {
     clear_endpoint_zero();
+    wire.event.speed = speed;
     happen(HARDWARE_BUS_RESET);
+}
+
+uint8_t wire_test_mode(void) {
+    return wire.test_mode;
 }
 
 void wire_change_power(uint8_t source) {

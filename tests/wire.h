@@ -14,7 +14,10 @@ enum wire_answer {
 
 /* The board: its device loop, and its application's serial port, NULL where there is none. */
 void wire_attach(struct device *device, struct serial_port *port);
-void wire_reset_bus(void);
+void wire_reset_bus(uint8_t speed);
+
+/* The test mode that the peripheral was last told to enter, 0 if none. */
+uint8_t wire_test_mode(void);
 
 /* The bus falls silent, and wakes. Whether the device has signalled since it fell silent. */
 void wire_suspend(void);

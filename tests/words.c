@@ -49,7 +49,9 @@ static const char *const numbers[] = {
     "feature not there for this recipient",
     "no such packet",
     "unfit endpoint or power source",
+    [HK_TEST_MODE_ENTERED] = "a test mode is entered",
     [HK_WAKE_NOT_ALLOWED] = "wake not allowed",
+    [HK_PAIR_BROKEN] = "the two sets do not go together",
 };
 
 /* What to look for, by the group of rules that opening found broken first. */
@@ -93,6 +95,9 @@ void print_refusal(uint8_t number) {
     printf("refused with %u: %s\n", number, number_in_words(number));
     if (number >= HK_FRAME_BROKEN && number <= HK_SERIAL_BROKEN)
         printf("%s\ndocs/MAKERS.md has each rule of number %u, with examples.\n", hints[number], number);
+    if (number == HK_PAIR_BROKEN)
+        printf("Look at types 6 and 7 of each set: one device_qualifier, made of the other set's device descriptor, and for each\n"
+               "configuration of the other set the same bytes with 07 for the type. docs/MAKERS.md has each cause.\n");
 }
 
 void print_bytes(const uint8_t *bytes, size_t length) {
@@ -121,7 +126,7 @@ static void print_descriptor_asked(const uint8_t *setup) {
     unsigned type = setup[3];
     putchar(' ');
     print_type(type);
-    if (type == TYPE_CONFIGURATION)
+    if (type == TYPE_CONFIGURATION || type == TYPE_OTHER_SPEED_CONFIGURATION)
         printf(" index %u", setup[2]);
     if (type == TYPE_STRING)
         printf(" %u, language %04X", setup[2], two_bytes(setup + 4));
@@ -131,6 +136,11 @@ static void print_descriptor_asked(const uint8_t *setup) {
 static void print_feature(const uint8_t *setup) {
     enum recipient recipient = (enum recipient)(setup[0] & 31);
     unsigned selector = two_bytes(setup + 2);
+    if (recipient == DEVICE && selector == TEST_MODE) {
+        printf(" test mode %u,", setup[5]);
+        print_recipient(recipient, 0);
+        return;
+    }
     if (recipient == DEVICE && selector == DEVICE_REMOTE_WAKEUP)
         printf(" remote wakeup,");
     else if (recipient == ENDPOINT && selector == ENDPOINT_HALT)
@@ -206,7 +216,9 @@ static void print_endpoints(const char *label, const uint8_t *bits) {
 
 void print_record(const uint8_t *record) {
     printf("%s, address %u", record[0] < 3 ? states[record[0]] : "no state", record[1]);
-    if (record[2] != 255)
+    if (record[2] > 127 && record[2] != 255)
+        printf(", test mode %u waits", record[2] - 128u);
+    else if (record[2] != 255)
         printf(", address %u waits", record[2]);
     if (record[3] != 0)
         printf(", configuration %u", record[3]);
@@ -216,6 +228,10 @@ void print_record(const uint8_t *record) {
         printf(", own supply");
     if (record[6] != 0)
         printf(", suspended");
+    if (record[7] != 0)
+        printf(", high speed");
+    if (record[7] > 1)
+        printf(", test mode %u", record[7] / 16u);
     for (int interface = 0; interface < 16; interface++)
         if (record[8 + interface] != 0)
             printf(", interface %d at alternate %u", interface, record[8 + interface]);
@@ -257,7 +273,7 @@ const char *transfer_type(const uint8_t *descriptor) {
 static void print_meaning(const uint8_t *descriptor, size_t length) {
     unsigned type = length < 2 ? 0 : descriptor[1];
     print_type(type);
-    if (type == TYPE_CONFIGURATION && length >= 6)
+    if ((type == TYPE_CONFIGURATION || type == TYPE_OTHER_SPEED_CONFIGURATION) && length >= 6)
         printf(" %u", descriptor[5]);
     if (type == TYPE_INTERFACE && length >= 4)
         printf(" %u, alternate %u", descriptor[2], descriptor[3]);

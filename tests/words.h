@@ -27,6 +27,7 @@ enum request {
 /* feature selectors */
 #define ENDPOINT_HALT 0
 #define DEVICE_REMOTE_WAKEUP 1
+#define TEST_MODE 2
 
 #define TYPE_DEVICE 1
 #define TYPE_CONFIGURATION 2
@@ -34,6 +35,7 @@ enum request {
 #define TYPE_INTERFACE 4
 #define TYPE_ENDPOINT 5
 #define TYPE_DEVICE_QUALIFIER 6
+#define TYPE_OTHER_SPEED_CONFIGURATION 7
 
 /* A number of two bytes, the low one first. */
 unsigned two_bytes(const uint8_t *bytes);

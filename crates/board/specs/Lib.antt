@@ -1,4 +1,5 @@
 pub mod Exports
+pub mod Handing
 pub mod Decided
 pub mod Opening
 pub mod Runs
@@ -9,6 +10,7 @@ pub mod Places
 pub mod Unnoticed
 pub mod Records
 pub mod InhabitedRuns
+pub mod InhabitedTwo
 pub mod Idle
 pub mod InhabitedExports
 pub mod OpenedAs

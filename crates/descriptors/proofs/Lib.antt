@@ -11,4 +11,5 @@ pub mod Alternates
 pub mod Surveying
 pub mod CurrentEndpoints
 pub mod FullSpeed
+pub mod HighSpeed
 pub mod SuperSpeed

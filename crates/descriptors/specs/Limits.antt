@@ -1,4 +1,4 @@
--- The row of limits and rules of a kind of set. Document 01: "Base speed is full speed." Document 02 adds rows.
+-- The rows of limits and rules, one for each kind of set. Document 01: "Base speed is full speed." Document 02 adds those of a pair's two sets (L7) and of SuperSpeed (L13).
 use Prim.Native.Nat.{ℕ, _+_, _*_, _^_}
 use mathlib.Core.Bool.{Bool, true, false, _&&_, _||_}
 use lib.Dec.{eqb, leb}
@@ -40,6 +40,41 @@ superSpeed = record {
   entries = 2 ^ 1 + 2 ^ 2 + 2 ^ 3 + 2 ^ 15;
   refused = 2 ^ 1 + 2 ^ 2 + 2 ^ 3 + 2 ^ 6 + 2 ^ 7;
   companions = true;
+}
+
+-- ---- "The new board lends two sets, one for each speed"; "Sets gain type 6 .. and type 7" (L7)
+abbrev pub pairedEntries : ℕ
+pairedEntries = 2 ^ 1 + 2 ^ 2 + 2 ^ 3 + 2 ^ 6 + 2 ^ 7
+
+-- the full-speed set of a pair: full speed's row, but for the types of its entries
+abbrev pub pairedFull : Limits
+pairedFull = record {
+  control = fullSpeed .control;
+  bulk = fullSpeed .bulk;
+  interrupt = fullSpeed .interrupt;
+  polling = fullSpeed .polling;
+  isochronous = fullSpeed .isochronous;
+  period = fullSpeed .period;
+  bursts = fullSpeed .bursts;
+  entries = pairedEntries;
+  refused = fullSpeed .refused;
+  companions = false;
+}
+
+-- "At high speed bulk size is 512, interrupt and isochronous sizes go to 1,024 with bits 12–11 at most 2 and 15–13 zero,
+-- their bInterval is 1–16 and bMaxPacketSize0 is 64."
+abbrev pub highSpeed : Limits
+highSpeed = record {
+  control = range 64 64;
+  bulk = range 512 512;
+  interrupt = range 0 1024;
+  polling = range 1 16;
+  isochronous = range 0 1024;
+  period = range 1 16;
+  bursts = 2;
+  entries = pairedEntries;
+  refused = fullSpeed .refused;
+  companions = false;
 }
 
 abbrev pub within : Range → ℕ → Bool

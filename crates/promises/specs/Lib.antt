@@ -15,6 +15,13 @@ pub mod Keeps
 pub mod Images
 pub mod Inhabited
 pub mod Selected
+pub mod Before
+pub mod OneSet
+pub mod Pairs
+pub mod TestMode
 pub mod Rearranged
 pub mod Order
 pub mod InhabitedOrder
+pub mod InhabitedPairs
+pub mod Struck
+pub mod InhabitedStruck

@@ -6,15 +6,16 @@ use crate::events::{Block, Event, Lent, Outcome, Part};
 use crate::fault::Fault;
 use crate::octets::hex;
 use crate::packets;
-use crate::record::IMAGE_LENGTH;
+use crate::record::{FULL_SPEED, IMAGE_LENGTH};
 use crate::trim;
 use crate::writer;
 
-/// `Numbered` names any event by its number, on a record of 32 bytes that stands aligned.
+/// `Numbered` names any event by its number, on a record of 32 bytes that stands aligned; the calls with `Two` are those for two sets.
 #[derive(Clone, PartialEq, Eq, Debug)]
 pub enum Call {
     Open { image: Vec<u8> },
     Event { image: Vec<u8>, event: Event },
+    ResetTo { image: Vec<u8>, speed: u8 },
     Numbered { record: Vec<u8>, number: u8, value: u8, setup: Vec<u8> },
     Packet { reply_length: usize, asked: u16, size: u32, packet: u32 },
     Write { pieces: Vec<u8>, buffer: Vec<u8> },
@@ -23,6 +24,9 @@ pub enum Call {
     /// The set that is lent, in a buffer of its own.
     Trim { set: Vec<u8> },
     Endpoint { image: Vec<u8>, number: u8 },
+    TwoOpen { image: Vec<u8> },
+    TwoEvent { image: Vec<u8>, number: u8, value: u8, setup: Vec<u8> },
+    TwoEndpoint { image: Vec<u8>, number: u8 },
 }
 
 impl Call {
@@ -33,39 +37,51 @@ impl Call {
         (record.len() == IMAGE_LENGTH).then(|| Call::Numbered { record, number, value, setup: setup.to_vec() })
     }
 
-    /// The call for the event; for a number that is no event's there is none.
-    pub fn event(image: &[u8], event: &Event) -> Option<Call> {
-        let has_call = !matches!(event, Event::Other { .. });
-        has_call.then(|| Call::Event { image: image.to_vec(), event: event.clone() })
+    /// The calls for the event; for a number that is no event's there is none, for a reset to full speed there are two.
+    pub fn event(image: &[u8], event: &Event) -> Vec<Call> {
+        let by_name = Call::Event { image: image.to_vec(), event: event.clone() };
+        match event {
+            Event::Other { .. } => Vec::new(),
+            Event::BusReset(FULL_SPEED) => vec![by_name, Call::ResetTo { image: image.to_vec(), speed: FULL_SPEED }],
+            Event::BusReset(speed) => vec![Call::ResetTo { image: image.to_vec(), speed: *speed }],
+            _ => vec![by_name],
+        }
+    }
+
+    /// The event by its number, on an image of any length: the one call where two sets are lent.
+    pub fn two_event(image: &[u8], event: &Event) -> Call {
+        let (number, value, setup) = event.numbered();
+        Call::TwoEvent { image: image.to_vec(), number, value, setup: setup.to_vec() }
     }
 
     pub fn answer(&self, lent: &Lent) -> Outcome {
         match self {
-            Call::Open { image } => lent.open(image),
+            Call::Open { image } | Call::TwoOpen { image } => lent.open(image),
             Call::Event { image, event } => lent.event(image, event),
-            Call::Numbered { record, number, value, setup } => {
-                lent.event(record, &Event::of_number(*number, *value, setup))
+            Call::ResetTo { image, speed } => lent.event(image, &Event::BusReset(*speed)),
+            Call::Numbered { record: image, number, value, setup } | Call::TwoEvent { image, number, value, setup } => {
+                lent.event(image, &Event::of_number(*number, *value, setup))
             }
             Call::Packet { reply_length, asked, size, packet } => {
                 cut(packets::packet(*reply_length, *asked, *size, *packet, lent.fault))
             }
             Call::Write { pieces, buffer } => writer::write(pieces, &lent.serial, buffer, lent.fault),
             Call::Import { dump, buffer } => dumps::import(dump, buffer, lent.fault),
-            Call::Export { buffer } => {
-                let opened = lent.opened.as_ref().map_err(|rule| rule.group());
-                dumps::export(&lent.set, opened, buffer, lent.fault)
+            Call::Export { buffer } => dumps::export(&lent.set, lent.alone(), buffer, lent.fault),
+            Call::Trim { set } => trim::trim(set, lent.alone(), lent.fault),
+            Call::Endpoint { image, number } | Call::TwoEndpoint { image, number } => {
+                endpoints::endpoint(lent, image, *number)
             }
-            Call::Trim { set } => trim::trim(set, lent.opened.as_ref().map_err(|rule| rule.group()), lent.fault),
-            Call::Endpoint { image, number } => endpoints::endpoint(lent, image, *number),
         }
     }
 
     /// The question as a vector file asks it, after the lines that lend.
     pub fn question(&self) -> String {
         match self {
-            Call::Open { .. } => "open".to_string(),
+            Call::Open { .. } | Call::TwoOpen { .. } => "open".to_string(),
             Call::Event { event, .. } => format!("event {}", event_words(event)),
-            Call::Numbered { number, value, setup, .. } => {
+            Call::ResetTo { speed, .. } => format!("event {}", event_words(&Event::BusReset(*speed))),
+            Call::Numbered { number, value, setup, .. } | Call::TwoEvent { number, value, setup, .. } => {
                 format!("event {}", event_words(&Event::of_number(*number, *value, setup)))
             }
             Call::Packet { reply_length, asked, size, packet } => {
@@ -75,14 +91,16 @@ impl Call {
             Call::Import { dump, buffer } => format!("import {} {}", hex(dump), hex(buffer)),
             Call::Export { buffer } => format!("export {}", hex(buffer)),
             Call::Trim { .. } => "trim".to_string(),
-            Call::Endpoint { number, .. } => format!("endpoint {number}"),
+            Call::Endpoint { number, .. } | Call::TwoEndpoint { number, .. } => format!("endpoint {number}"),
         }
     }
 
     /// The image that is lent; packets and the makers' calls need none.
     pub fn image(&self) -> &[u8] {
         match self {
-            Call::Open { image } | Call::Event { image, .. } | Call::Numbered { record: image, .. } | Call::Endpoint { image, .. } => image,
+            Call::Open { image } | Call::Event { image, .. } | Call::ResetTo { image, .. } => image,
+            Call::Numbered { record: image, .. } | Call::Endpoint { image, .. } => image,
+            Call::TwoOpen { image } | Call::TwoEvent { image, .. } | Call::TwoEndpoint { image, .. } => image,
             _ => &[],
         }
     }
@@ -91,8 +109,8 @@ impl Call {
     pub fn answer_words(&self, outcome: &Outcome) -> String {
         let Outcome { number, bytes, part, image } = outcome;
         match self {
-            Call::Open { .. } => format!("{number} {}", hex(image)),
-            Call::Event { .. } | Call::Numbered { .. } => {
+            Call::Open { .. } | Call::TwoOpen { .. } => format!("{number} {}", hex(image)),
+            Call::Event { .. } | Call::ResetTo { .. } | Call::Numbered { .. } | Call::TwoEvent { .. } => {
                 format!("{number} {} {} {}", hex(bytes), part_words(*part), hex(image))
             }
             Call::Packet { .. } => {
@@ -102,7 +120,7 @@ impl Call {
             Call::Write { .. } | Call::Import { .. } | Call::Export { .. } | Call::Trim { .. } => {
                 format!("{number} {} {}", part.map_or(0, |part| part.length), hex(image))
             }
-            Call::Endpoint { .. } => format!("{number} {}", part_words(*part)),
+            Call::Endpoint { .. } | Call::TwoEndpoint { .. } => format!("{number} {}", part_words(*part)),
         }
     }
 }
@@ -111,7 +129,7 @@ fn event_words(event: &Event) -> String {
     match event {
         Event::Setup(bytes) => format!("setup {}", hex(bytes)),
         Event::StatusEnd => "status".to_string(),
-        Event::BusReset => "reset 00".to_string(),
+        Event::BusReset(speed) => format!("reset {speed:02x}"),
         Event::Halt(address) => format!("halt {address:02x}"),
         Event::PacketPassed(address) => format!("passed {address:02x}"),
         Event::Power(source) => format!("power {source:02x}"),
@@ -126,7 +144,11 @@ fn part_words(part: Option<Part>) -> String {
     match part {
         None => "-".to_string(),
         Some(part) => {
-            let block = if part.block == Block::Set { "set" } else { "serial" };
+            let block = match part.block {
+                Block::Set => "set",
+                Block::High => "high",
+                _ => "serial",
+            };
             format!("{block}:{}:{}", part.offset, part.length)
         }
     }

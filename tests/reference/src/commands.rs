@@ -6,7 +6,7 @@ use std::process::ExitCode;
 use std::sync::Arc;
 
 use crate::compare::{Comparison, Findings};
-use crate::events::Lent;
+use crate::events::{Block, Lent};
 use crate::fault::{self, Fault};
 use crate::files;
 use crate::makers;
@@ -20,10 +20,16 @@ const DEFAULT_CALLS: usize = 200_000;
 const DEFAULT_WRITES: usize = 50_000;
 const DEFAULT_DUMPS: usize = 50_000;
 const DEFAULT_TRIMS: usize = 50_000;
+const DEFAULT_PAIRS: usize = 100_000;
+const DEFAULT_PAIR_CALLS: usize = 200_000;
 
 /// The numbers that opening gives back, and all of them.
 const OPENING_NUMBERS: [u8; 7] = [0, 1, 2, 3, 4, 5, 6];
 const NUMBERS: [u8; 18] = [0, 1, 2, 3, 4, 5, 6, 7, 8, 9, 10, 11, 12, 13, 14, 15, 16, 19];
+
+/// The same where two sets are lent.
+const PAIR_OPENING_NUMBERS: [u8; 8] = [0, 1, 2, 3, 4, 5, 6, 24];
+const PAIR_NUMBERS: [u8; 19] = [0, 1, 2, 3, 4, 5, 6, 7, 8, 9, 10, 11, 12, 13, 14, 16, 17, 19, 24];
 
 /// So many differences are enough to choose the smallest from.
 const PATIENCE: usize = 1_000;
@@ -32,12 +38,14 @@ pub const USAGE: &str = "\
 reference vectors [--least N] FILE..            answers every question of the files, at least N (1) in each, and compares
 reference run-vectors --program CMD [--least N] FILE..
                                                 the same, and through a harness
-reference compare --program CMD [--sets N] [--calls N] [--writes N] [--dumps N] [--trims N] [--seed S] [--fault NAME]
-                                                sets through opening, calls over the whole boundary, or both; streams of pieces; dumps; sets to trim;
+reference compare --program CMD [--sets N] [--calls N] [--pairs N] [--pair-calls N] [--writes N] [--dumps N] [--trims N]
+                  [--seed S] [--fault NAME]     sets through opening, calls over the whole boundary, or both; the same with two sets lent;
+                                                streams of pieces; dumps; sets to trim;
                                                 from 100,000 sets and 200,000 calls on each rule and number must be reached
 reference faults --program CMD [--seed S]       every planted fault must be noticed
 reference serve [--fault NAME]                  the reference in a harness's place
 reference list SET SERIAL [--fault NAME]        the lister's text for two files
+reference open-pair FULL HIGH SERIAL            the number that opening two sets gives, for three files
 reference generate DIR N [--seed S]             N sets as files set-XXXX.bin and unit-XXXX.bin
 reference samples DIR [--seed S]                the bench set and sets of 16,384 bytes as files, for the stack test
 reference lister --program CMD --directory DIR [--sets N] [--seed S]
@@ -99,6 +107,7 @@ pub fn run(arguments: &Arguments) -> ExitCode {
         ["faults"] => faults(arguments),
         ["serve"] => arguments.fault().and_then(answer_commands),
         ["list", set, serial] => list(arguments, set, serial),
+        ["open-pair", full, high, serial] => open_pair([full, high, serial]),
         ["generate", directory, count] => generate(arguments, directory, count),
         ["samples", directory] => samples(arguments, directory),
         ["lister"] => lister(arguments),
@@ -165,10 +174,16 @@ fn compare(arguments: &Arguments) -> Verdict {
     let (sets, calls) = (arguments.number("sets")?, arguments.number("calls")?);
     let writes = arguments.number("writes")?;
     let dumps = arguments.number("dumps")?;
-    let both = sets.is_none() && calls.is_none() && writes.is_none() && dumps.is_none();
     let trims = arguments.number("trims")?;
-    let both = both && trims.is_none();
+    let (pairs, pair_calls) = (arguments.number("pairs")?, arguments.number("pair-calls")?);
+    let both = [sets, calls, writes, dumps, trims, pairs, pair_calls].iter().all(Option::is_none);
     let mut right = true;
+    if let Some(pairs) = pairs {
+        right &= compare_pairs(arguments, pairs)?;
+    }
+    if let Some(calls) = pair_calls {
+        right &= compare_whole_of_two(arguments, calls)?;
+    }
     if let Some(writes) = writes {
         right &= compare_writer(arguments, writes)?;
     }
@@ -207,6 +222,31 @@ fn compare_whole(arguments: &Arguments, calls: usize) -> Verdict {
         println!("{unlike}");
     }
     Ok(same & unlike.is_none() & reached(&numbered(&numbers, &NUMBERS), calls >= DEFAULT_CALLS))
+}
+
+fn compare_pairs(arguments: &Arguments, pairs: usize) -> Verdict {
+    let mut comparison = Comparison::start(arguments.program()?, PATIENCE).map_err(told)?;
+    let rules = runs::opening_two(&mut comparison, pairs, arguments.seed()?, arguments.fault()?);
+    let numbers = comparison.numbers;
+    let same = ended(comparison, "opening of two", "pairs")?;
+    let by_name = rules.iter().map(|(block, rule, count)| {
+        let set = if *block == Block::High { "high-speed set" } else { "full-speed set" };
+        (format!("{} {} of the {set}", rule.group(), kebab(&format!("{rule:?}"))), *count)
+    });
+    let demanded = pairs >= DEFAULT_PAIRS;
+    let by_name: Vec<(String, usize)> = by_name.collect();
+    Ok(same & reached(&numbered(&numbers, &PAIR_OPENING_NUMBERS), demanded) & reached(&by_name, demanded))
+}
+
+fn compare_whole_of_two(arguments: &Arguments, calls: usize) -> Verdict {
+    let mut comparison = Comparison::start(arguments.program()?, PATIENCE).map_err(told)?;
+    let unlike = runs::whole_two(&mut comparison, calls, arguments.seed()?, arguments.fault()?);
+    let numbers = comparison.numbers;
+    let same = ended(comparison, "whole boundary of two", "calls")?;
+    if let Some(unlike) = &unlike {
+        println!("{unlike}");
+    }
+    Ok(same & unlike.is_none() & reached(&numbered(&numbers, &PAIR_NUMBERS), calls >= DEFAULT_PAIR_CALLS))
 }
 
 fn compare_writer(arguments: &Arguments, calls: usize) -> Verdict {
@@ -271,6 +311,10 @@ fn faults(arguments: &Arguments) -> Verdict {
             makers::dumping(&mut comparison, DEFAULT_CALLS, seed, fault);
         } else if fault::TRIM.contains(&fault) {
             makers::trimming(&mut comparison, DEFAULT_CALLS, seed, fault);
+        } else if fault::PAIRS.contains(&fault) {
+            runs::opening_two(&mut comparison, DEFAULT_PAIRS, seed, fault);
+        } else if fault::SPEEDS.contains(&fault) {
+            runs::whole_two(&mut comparison, DEFAULT_PAIR_CALLS, seed, fault);
         } else {
             runs::whole(&mut comparison, DEFAULT_CALLS, seed, fault);
         }
@@ -289,6 +333,13 @@ fn print_fault(fault: Fault, first: Option<usize>, unit: &str) {
 
 fn list(arguments: &Arguments, set: &str, serial: &str) -> Verdict {
     print!("{}", files::list_files(set, serial, arguments.fault()?));
+    Ok(true)
+}
+
+fn open_pair(files: [&str; 3]) -> Verdict {
+    let [full, high, serial] = files.map(|file| std::fs::read(file).unwrap_or_default());
+    let opened = Lent::two(full, high, serial, Fault::None).opened;
+    println!("{}", opened.map_or_else(|refused| refused.number(), |_| 0));
     Ok(true)
 }
 

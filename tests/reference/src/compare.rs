@@ -94,12 +94,15 @@ impl Comparison {
 
     fn send(&mut self, lent: &Arc<Lent>, call: &Call, flags: u8) -> io::Result<()> {
         let loaded = self.loaded.replace(lent.clone());
-        let held = |block: fn(&Lent) -> &Vec<u8>| loaded.as_ref().is_some_and(|loaded| block(loaded) == block(lent));
-        if !held(|lent| &lent.set) {
+        let held = |same: fn(&Lent, &Lent) -> bool| loaded.as_ref().is_some_and(|loaded| same(loaded, lent));
+        if !held(|one, other| one.set == other.set) {
             Command::Set(lent.set.clone()).write(flags, &mut self.commands)?;
         }
-        if !held(|lent| &lent.serial) {
+        if !held(|one, other| one.serial == other.serial) {
             Command::Serial(lent.serial.clone()).write(flags, &mut self.commands)?;
+        }
+        if let Some(high) = lent.high.as_ref().filter(|_| !held(|one, other| one.high == other.high)) {
+            Command::High(high.clone()).write(flags, &mut self.commands)?;
         }
         Command::Call(call.clone()).write(flags, &mut self.commands)
     }
@@ -145,7 +148,7 @@ impl Findings {
     fn add(&mut self, call: usize, pending: &Pending, got: &str) {
         self.differences += 1;
         self.first.get_or_insert(call);
-        let weight = pending.lent.set.len();
+        let weight = pending.lent.set.len() + pending.lent.high.as_ref().map_or(0, Vec::len);
         match &self.smallest {
             Some((smallest, _)) if *smallest <= weight => {}
             _ => self.smallest = Some((weight, pending.reproduction(call, got))),
@@ -163,9 +166,10 @@ impl Pending {
     fn reproduction(&self, call: usize, got: &str) -> String {
         let outcome = self.call.answer(&self.lent);
         format!(
-            "call {call}, placement {}, as a vector:\nset {}\nserial {}\nrecord {}\n{} -> {}\ngot {got}\n",
+            "call {call}, placement {}, as a vector:\nset {}\nhigh {}\nserial {}\nrecord {}\n{} -> {}\ngot {got}\n",
             self.flags,
             hex(&self.lent.set),
+            self.lent.high.as_ref().map_or("none".to_string(), |high| hex(high)),
             hex(&self.lent.serial),
             hex(self.call.image()),
             self.call.question(),

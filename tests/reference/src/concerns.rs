@@ -25,7 +25,7 @@ pub fn concerned(board: &Board, record: &Record, event: &Event) -> Option<u8> {
             }
         }
         Event::Halt(address) | Event::PacketPassed(address) => lists(*address),
-        Event::StatusEnd | Event::BusReset | Event::Power(_) => None,
+        Event::StatusEnd | Event::BusReset(_) | Event::Power(_) => None,
         Event::Suspend | Event::Resume | Event::Wake | Event::Other { .. } => None,
     }
 }

@@ -1,6 +1,8 @@
 //! Sets as they are drafted: descriptors and strings first, bytes last, so that damage can aim at one rule.
 
 use crate::descriptors::{BULK, INTERRUPT, ISOCHRONOUS};
+use crate::fault::Fault;
+use crate::kind::Kind;
 use crate::opening::{CONFIGURATION, DEVICE, STRING};
 use crate::random::Random;
 
@@ -25,6 +27,8 @@ pub struct Draft {
     pub device: Vec<u8>,
     pub configurations: Vec<Descriptors>,
     pub strings: Vec<DraftEntry>,
+    /// Types 6 and 7, in the set of a pair.
+    pub mirrors: Vec<DraftEntry>,
     pub serial: Vec<u8>,
 }
 
@@ -58,7 +62,7 @@ impl Draft {
     /// A draft that keeps every rule, of any size up to exactly 16,384 bytes.
     pub fn valid(random: &mut Random) -> Draft {
         loop {
-            let mut draft = drafted(random);
+            let mut draft = Draft::of(Kind::Alone, random);
             let length = draft.set().len();
             if length > LONGEST_SET - 2 {
                 continue;
@@ -71,10 +75,26 @@ impl Draft {
         }
     }
 
+    /// A draft of any size; one for a pair has no types 6 and 7 yet.
+    pub fn of(kind: Kind, random: &mut Random) -> Draft {
+        let scale = random.pick(&SCALES);
+        let names = Names::drafted(random);
+        let count = random.between(1, scale.configurations);
+        let values = configuration_values(count, random);
+        let configurations: Vec<Descriptors> =
+            values.iter().map(|&value| configuration(value, kind, scale, &names, random)).collect();
+        let device = device(kind, count, &names, random);
+        let serial = if names.serial_index == 0 { Vec::new() } else { serial_block(random) };
+        let strings = names.strings(random);
+        let mut draft = Draft { device, configurations, strings, mirrors: Vec::new(), serial };
+        add_unused_strings(&mut draft, &names.languages, random);
+        draft
+    }
+
     /// A draft of exactly 16,384 bytes.
     pub fn longest(random: &mut Random) -> Draft {
         loop {
-            let mut draft = drafted(random);
+            let mut draft = Draft::of(Kind::Alone, random);
             let length = draft.set().len();
             if length <= LONGEST_SET - 2 {
                 draft.pad(LONGEST_SET - length, random);
@@ -112,6 +132,7 @@ impl Draft {
         let mut strings = self.strings.clone();
         strings.sort_by_key(|string| (string.language, string.index));
         entries.extend(strings);
+        entries.extend(self.mirrors.clone());
         entries
     }
 
@@ -121,7 +142,7 @@ impl Draft {
 
     /// How many entries the set has.
     pub fn entry_count(&self) -> usize {
-        1 + self.configurations.len() + self.strings.len()
+        1 + self.configurations.len() + self.strings.len() + self.mirrors.len()
     }
 
     /// The languages that string 0 lists.
@@ -161,20 +182,6 @@ pub fn lay_out(entries: &[DraftEntry]) -> Vec<u8> {
         set.extend(&entry.body);
     }
     set
-}
-
-fn drafted(random: &mut Random) -> Draft {
-    let scale = random.pick(&SCALES);
-    let names = Names::drafted(random);
-    let count = random.between(1, scale.configurations);
-    let values = configuration_values(count, random);
-    let configurations: Vec<Descriptors> =
-        values.iter().map(|&value| configuration(value, scale, &names, random)).collect();
-    let device = device(count, &names, random);
-    let serial = if names.serial_index == 0 { Vec::new() } else { serial_block(random) };
-    let mut draft = Draft { device, configurations, strings: names.strings(random), serial };
-    add_unused_strings(&mut draft, &names.languages, random);
-    draft
 }
 
 impl Names {
@@ -254,7 +261,7 @@ pub fn serial_block(random: &mut Random) -> Vec<u8> {
     string_body(2 * random.pick(&[2, 3, 12, any, 127]), random)
 }
 
-fn device(configurations: usize, names: &Names, random: &mut Random) -> Vec<u8> {
+fn device(kind: Kind, configurations: usize, names: &Names, random: &mut Random) -> Vec<u8> {
     let mut device = random.bytes(18);
     device[0] = 18;
     device[1] = DEVICE;
@@ -264,7 +271,7 @@ fn device(configurations: usize, names: &Names, random: &mut Random) -> Vec<u8> 
     if device[4] == 0 {
         device[5] = 0;
     }
-    device[7] = random.pick(&[8, 16, 32, 64]);
+    device[7] = random.pick(kind.control_sizes(Fault::None));
     device[14] = names.reference(random);
     device[15] = names.reference(random);
     device[16] = names.serial_index;
@@ -282,7 +289,7 @@ fn configuration_values(count: usize, random: &mut Random) -> Vec<u8> {
     values
 }
 
-fn configuration(value: u8, scale: Scale, names: &Names, random: &mut Random) -> Descriptors {
+fn configuration(value: u8, kind: Kind, scale: Scale, names: &Names, random: &mut Random) -> Descriptors {
     let fewest = if random.percent(10) { scale.interfaces } else { 1 };
     let interfaces = random.between(fewest, scale.interfaces);
     let attributes = 0x80 | random.pick(&[0, 0x20, 0x40, 0x60]);
@@ -298,7 +305,7 @@ fn configuration(value: u8, scale: Scale, names: &Names, random: &mut Random) ->
         let most = if random.percent(30) { 1 } else { scale.alternates };
         let fewest = if random.percent(30) { most } else { 1 };
         for alternate in 0..random.between(fewest, most) {
-            descriptors.extend(setting(interface as u8, alternate as u8, &own, names, random));
+            descriptors.extend(setting(kind, interface as u8, alternate as u8, &own, names, random));
         }
     }
     let mut at = 1;
@@ -314,7 +321,7 @@ fn configuration(value: u8, scale: Scale, names: &Names, random: &mut Random) ->
 }
 
 /// An interface descriptor and its endpoints, some of the interface's own addresses.
-fn setting(interface: u8, alternate: u8, own: &[u8], names: &Names, random: &mut Random) -> Descriptors {
+fn setting(kind: Kind, interface: u8, alternate: u8, own: &[u8], names: &Names, random: &mut Random) -> Descriptors {
     let mut chosen = own.to_vec();
     random.shuffle(&mut chosen);
     let fewest = if random.percent(40) { chosen.len() } else { 0 };
@@ -323,13 +330,23 @@ fn setting(interface: u8, alternate: u8, own: &[u8], names: &Names, random: &mut
     let class = random.bytes(3);
     let head = vec![9, INTERFACE, interface, alternate, chosen.len() as u8, class[0], class[1], class[2], string];
     let mut descriptors = vec![lengthened(head, random)];
-    descriptors.extend(chosen.into_iter().map(|address| endpoint(address, random)));
+    descriptors.extend(chosen.into_iter().map(|address| endpoint_of(kind, address, random)));
     descriptors
 }
 
 pub fn endpoint(address: u8, random: &mut Random) -> Vec<u8> {
+    endpoint_of(Kind::Alone, address, random)
+}
+
+pub fn endpoint_of(kind: Kind, address: u8, random: &mut Random) -> Vec<u8> {
     let transfer_type = random.pick(&[ISOCHRONOUS, BULK, BULK, INTERRUPT, INTERRUPT]);
     let (size, interval) = match transfer_type {
+        BULK if kind == Kind::PairedHigh => (512, random.pick(&[0, 1, 255])),
+        _ if kind == Kind::PairedHigh => {
+            let any = random.between(0, 1024) as u16;
+            let size = random.pick(&[0, 1, 64, 512, 1023, 1024, any]);
+            (size | random.pick(&[0, 0, 1, 2]) << 11, random.pick(&[1, 2, 4, 15, 16]))
+        }
         ISOCHRONOUS => {
             let any = random.between(0, 1023) as u16;
             (random.pick(&[0, 1, 255, 256, 1022, 1023, any]), random.between(1, 16) as u8)

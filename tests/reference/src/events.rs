@@ -2,16 +2,18 @@
 
 use crate::descriptors::Endpoint;
 use crate::fault::Fault;
-use crate::opening::{Board, CONFIGURATION, DEVICE, STRING};
-use crate::record::{bit, Record, ADDRESS, CONFIGURED, DEFAULT, IMAGE_LENGTH, NOTHING_WAITS};
+use crate::opening::{Board, CONFIGURATION, DEVICE, OTHER_SPEED, QUALIFIER, STRING};
+use crate::pair::{Boards, Refused};
+use crate::record::{bit, entered_test, waiting_test, Record};
+use crate::record::{ADDRESS, CONFIGURED, DEFAULT, FULL_SPEED, HIGH_SPEED, IMAGE_LENGTH, NOTHING_WAITS};
 use crate::requests::{self, Setup, SETUP_LENGTH};
-use crate::rule::Rule;
 
 #[derive(Clone, PartialEq, Eq, Debug)]
 pub enum Event {
     Setup(Vec<u8>),
     StatusEnd,
-    BusReset,
+    /// The speed: 0 full, 1 high.
+    BusReset(u8),
     Halt(u8),
     PacketPassed(u8),
     /// The power source: 0 the bus, 1 its own supply.
@@ -33,7 +35,7 @@ impl Event {
         match number {
             0 => Event::Setup(setup.to_vec()),
             1 => Event::StatusEnd,
-            2 => Event::BusReset,
+            2 => Event::BusReset(value),
             3 => Event::Halt(value),
             4 => Event::PacketPassed(value),
             5 => Event::Power(value),
@@ -49,7 +51,7 @@ impl Event {
         match self {
             Event::Setup(setup) => (0, 0, setup),
             Event::StatusEnd => (1, 0, &[]),
-            Event::BusReset => (2, 0, &[]),
+            Event::BusReset(speed) => (2, *speed, &[]),
             Event::Halt(address) => (3, *address, &[]),
             Event::PacketPassed(address) => (4, *address, &[]),
             Event::Power(source) => (5, *source, &[]),
@@ -62,7 +64,7 @@ impl Event {
 
     /// Whether a call by number looks at the value.
     pub fn reads_value(&self) -> bool {
-        matches!(self, Event::BusReset | Event::Halt(_) | Event::PacketPassed(_) | Event::Power(_))
+        matches!(self, Event::BusReset(_) | Event::Halt(_) | Event::PacketPassed(_) | Event::Power(_))
     }
 }
 
@@ -71,6 +73,7 @@ pub enum Block {
     Set,
     Serial,
     Reply,
+    High,
 }
 
 #[derive(Clone, Copy, PartialEq, Eq, Debug)]
@@ -99,12 +102,14 @@ enum Reply {
 /// A reply, or the number of the refusal.
 type Answer = Result<Reply, u8>;
 
-/// A set and a serial block as they are lent, opened once.
+/// One set or two and a serial block as they are lent, opened once.
 #[derive(Clone, Debug)]
 pub struct Lent {
+    /// The one set, or the full-speed one.
     pub set: Vec<u8>,
+    pub high: Option<Vec<u8>>,
     pub serial: Vec<u8>,
-    pub opened: Result<Board, Rule>,
+    pub opened: Result<Boards, Refused>,
     pub fault: Fault,
 }
 
@@ -116,13 +121,32 @@ impl Outcome {
 
 impl Lent {
     pub fn new(set: Vec<u8>, serial: Vec<u8>, fault: Fault) -> Lent {
-        let opened = Board::open(&set, &serial, fault);
-        Lent { set, serial, opened, fault }
+        let opened = Boards::open_alone(&set, &serial, fault);
+        Lent { set, high: None, serial, opened, fault }
+    }
+
+    /// "The two sets are one accepted input."
+    pub fn two(set: Vec<u8>, high: Vec<u8>, serial: Vec<u8>, fault: Fault) -> Lent {
+        let opened = Boards::open_pair(&set, &high, &serial, fault);
+        Lent { set, high: Some(high), serial, opened, fault }
+    }
+
+    /// The slice of that set.
+    pub fn slice(&self, block: Block) -> &[u8] {
+        match (&self.high, block) {
+            (Some(high), Block::High) => high,
+            _ => &self.set,
+        }
+    }
+
+    /// The one set's board; of two sets there is none.
+    pub fn alone(&self) -> Result<&Board, u8> {
+        self.opened.as_ref().map(|boards| &boards.full).map_err(|refused| refused.number())
     }
 
     /// "An image not 32 bytes gives 8 before group 1; else it becomes the fresh record, accepted or not."
     pub fn open(&self, image: &[u8]) -> Outcome {
-        let number = self.opened.as_ref().map_or_else(|rule| rule.group(), |_| 0);
+        let number = self.opened.as_ref().map_or_else(|refused| refused.number(), |_| 0);
         if image.len() != IMAGE_LENGTH {
             let late = self.fault == Fault::ImageLengthJudgedAfterGroups && number > 0;
             return Outcome::new(if late { number } else { 8 }, image.to_vec());
@@ -137,7 +161,19 @@ impl Lent {
         if self.fault == Fault::OpeningKeepsSleep {
             fresh.suspended = image[6];
         }
+        if self.fault == Fault::OpeningKeepsSpeed && self.high.is_some() {
+            fresh.speed = image[7];
+        }
         Outcome::new(number, fresh.image())
+    }
+
+    /// Record byte 7, but for faults.
+    fn speed_looked_at(&self, record: &Record) -> u8 {
+        match self.fault {
+            Fault::FullSetAlwaysInUse => FULL_SPEED,
+            Fault::FullSetInTestMode if record.is_in_test_mode() => FULL_SPEED,
+            _ => record.speed,
+        }
     }
 
     /// "Order: 7, 8, then for a setup 9 to 14, for a function event 16."
@@ -146,7 +182,7 @@ impl Lent {
         if self.fault == Fault::RecordBeforeSet && image.len() != IMAGE_LENGTH {
             return unchanged(8);
         }
-        let Ok(board) = &self.opened else { return unchanged(7) };
+        let Ok(boards) = &self.opened else { return unchanged(7) };
         let setup_length_wrong = matches!(event, Event::Setup(bytes) if bytes.len() != SETUP_LENGTH);
         if self.fault == Fault::SetupLengthBeforeRecord && setup_length_wrong {
             return unchanged(9);
@@ -155,17 +191,20 @@ impl Lent {
             Fault::LongerImagePasses if image.len() > IMAGE_LENGTH => &image[..IMAGE_LENGTH],
             _ => image,
         };
-        let mends = self.fault == Fault::BusResetMendsRecord && *event == Event::BusReset;
-        match Record::read(image) {
-            Some(record) if record.fits(board) || mends => Step { board, record }.take(event),
-            _ => unchanged(8),
+        let mends = self.fault == Fault::BusResetMendsRecord && *event == Event::BusReset(FULL_SPEED);
+        let Some(record) = Record::read(image) else { return unchanged(8) };
+        let board = boards.in_use(self.speed_looked_at(&record));
+        if !record.fits(board) && !mends {
+            return unchanged(8);
         }
+        Step { board, boards, record }.take(event)
     }
 }
 
-/// A record that fits its board, while an event changes it.
+/// A record that fits the board in use, while an event changes it.
 struct Step<'a> {
     board: &'a Board,
+    boards: &'a Boards,
     record: Record,
 }
 
@@ -180,7 +219,7 @@ impl Step<'_> {
         let answer = match event {
             Event::Setup(bytes) => self.setup(bytes),
             Event::StatusEnd => self.status_end(),
-            Event::BusReset => self.bus_reset(),
+            Event::BusReset(speed) => self.bus_reset(*speed),
             Event::Halt(address) => self.halt(*address),
             Event::PacketPassed(address) => self.packet_passed(*address),
             Event::Power(source) => self.power(*source),
@@ -203,6 +242,15 @@ impl Step<'_> {
         self.board.fault == fault
     }
 
+    /// The board in use; for the one fault, the full-speed set's.
+    fn board_unless(&self, fault: Fault) -> &Board {
+        if self.has_fault(fault) {
+            &self.boards.full
+        } else {
+            self.board
+        }
+    }
+
     /// A setup of 8 bytes drops a waiting address and ends the sleep, whatever comes of it.
     fn setup(&mut self, bytes: &[u8]) -> Answer {
         let bytes = match self.board.fault {
@@ -214,13 +262,20 @@ impl Step<'_> {
                 self.record.waiting = NOTHING_WAITS;
             }
             self.wake_up_if(Fault::WrongSetupLengthClearsSleep);
-            return Err(9);
+            let early = self.record.is_in_test_mode() && self.has_fault(Fault::TestModeBeforeSetupLength);
+            return Err(if early { 17 } else { 9 });
         };
         let waited = self.record.waiting;
+        let was_waiting_for_test = self.record.waits_for_test_mode();
         self.record.waiting = NOTHING_WAITS;
         let slept = std::mem::take(&mut self.record.suspended);
-        let checked = requests::check(&setup, self.record.state, self.board.fault);
-        let answer = checked.and_then(|()| self.perform(&setup));
+        let answer = self.answer_setup(&setup, was_waiting_for_test);
+        if answer.is_err() && was_waiting_for_test && self.has_fault(Fault::RefusedSetupKeepsWaitingTestMode) {
+            self.record.waiting = waited;
+        }
+        if answer.is_ok() && was_waiting_for_test && self.has_fault(Fault::AcceptedSetupKeepsWaitingTestMode) {
+            self.record.waiting = waited;
+        }
         let keeps_waiting = match &answer {
             Ok(_) => self.has_fault(Fault::AcceptedRequestKeepsWaitingAddress) && setup.code != requests::SET_ADDRESS,
             Err(10) => self.has_fault(Fault::UnknownRequestKeepsWaitingAddress),
@@ -234,12 +289,27 @@ impl Step<'_> {
         let keeps_sleep = match (&answer, self.board.fault) {
             (Ok(_), fault) => fault == Fault::AcceptedSetupKeepsSleep,
             (Err(14), Fault::RefusedFeatureKeepsSleep) => true,
+            (Err(17), Fault::TestModeRefusalKeepsSleep) => true,
             (Err(_), fault) => fault == Fault::RefusedSetupKeepsSleep,
         };
         if keeps_sleep {
             self.record.suspended = slept;
         }
         answer
+    }
+
+    /// "17 any 8-byte setup once test mode is entered, after 9."
+    fn answer_setup(&mut self, setup: &Setup, was_waiting_for_test: bool) -> Answer {
+        let refuses = match self.board.fault {
+            Fault::TestModeAnswersSetups => false,
+            Fault::WaitingTestModeRefusesSetups => self.record.is_in_test_mode() || was_waiting_for_test,
+            _ => self.record.is_in_test_mode(),
+        };
+        if refuses {
+            return Err(if self.has_fault(Fault::TestModeRefusalIsOfState) { 11 } else { 17 });
+        }
+        requests::check(setup, &self.record, self.board)?;
+        self.perform(setup)
     }
 
     /// Ends the sleep where only a fault would.
@@ -255,6 +325,7 @@ impl Step<'_> {
             (0x81, requests::GET_STATUS) => self.interface(setup.index).map(|_| Reply::Bytes(vec![0, 0])),
             (0x82, requests::GET_STATUS) => self.get_status_endpoint(setup),
             (0x00, requests::CLEAR_FEATURE) => self.feature_device(setup, 0),
+            (0x00, requests::SET_FEATURE) if setup.asks_test_mode(self.board) => self.set_test_mode(setup),
             (0x00, requests::SET_FEATURE) => self.feature_device(setup, 1),
             (0x01, requests::CLEAR_FEATURE | requests::SET_FEATURE) => self.interface(setup.index).and(Err(14)),
             (0x02, requests::CLEAR_FEATURE) => self.clear_feature_endpoint(setup),
@@ -319,12 +390,39 @@ impl Step<'_> {
             Some(selected) if self.has_fault(Fault::WakeupOfSelectedConfigurationOnly) => {
                 selected.attributes & 0x20 != 0
             }
-            _ => self.board.supports_wakeup(),
+            _ => self.board_unless(Fault::WakeupOfFullSet).supports_wakeup(),
         };
-        if self.selector(setup) != 1 || !supported {
+        let clears_test = self.has_fault(Fault::ClearFeatureKnowsTestMode) && self.board.is_paired() && wakeup == 0;
+        if clears_test && setup.value == requests::TEST_MODE {
+            return Ok(Reply::Nothing);
+        }
+        if self.selector(setup) != requests::DEVICE_REMOTE_WAKEUP || !supported {
             return Err(14);
         }
         self.record.wakeup = wakeup;
+        Ok(Reply::Nothing)
+    }
+
+    /// "An invalid selector, or a test mode at full speed outside Default, gets 14."
+    fn set_test_mode(&mut self, setup: &Setup) -> Answer {
+        let selector = (setup.index >> 8) as u8;
+        let selectors = match self.board.fault {
+            Fault::SelectorZeroPasses => 0..=5,
+            Fault::SelectorSixPasses => 1..=6,
+            Fault::SelectorFiveRefused => 1..=4,
+            _ => 1..=5,
+        };
+        let at_speed = self.record.speed == HIGH_SPEED || self.has_fault(Fault::TestModeAtFullSpeed);
+        if !at_speed || !selectors.contains(&selector) {
+            return Err(14);
+        }
+        if self.has_fault(Fault::TestModeNotInConfigured) && self.record.state == CONFIGURED {
+            return Err(14);
+        }
+        self.record.waiting = waiting_test(selector);
+        if self.has_fault(Fault::TestModeEnteredAtOnce) {
+            return self.status_end();
+        }
         Ok(Reply::Nothing)
     }
 
@@ -389,6 +487,9 @@ impl Step<'_> {
         if waited == NOTHING_WAITS {
             return Ok(Reply::Nothing);
         }
+        if self.record.waits_for_test_mode() && !self.has_fault(Fault::StatusEndTakesTestModeAsAddress) {
+            return self.enter_test_mode(waited - waiting_test(0));
+        }
         self.record.address = waited;
         let leads_to_default = waited == 0 && !self.has_fault(Fault::AddressZeroLeadsToAddress);
         self.record.state = if leads_to_default { DEFAULT } else { ADDRESS };
@@ -401,12 +502,33 @@ impl Step<'_> {
         Ok(Reply::Nothing)
     }
 
+    /// State, address and configuration stay.
+    fn enter_test_mode(&mut self, selector: u8) -> Answer {
+        self.record.waiting = NOTHING_WAITS;
+        self.record.speed = match self.board.fault {
+            Fault::EnteredTestModeWithoutSpeed => 16 * selector,
+            Fault::TestModeForgottenAtStatusEnd => self.record.speed,
+            _ => entered_test(selector),
+        };
+        match self.board.fault {
+            Fault::TestModeLeadsToDefault => {
+                let Record { power, suspended, speed, wakeup, .. } = self.record;
+                self.record = Record { power, suspended, speed, wakeup, ..Record::fresh() };
+            }
+            Fault::TestModeClearsWakeup => self.record.wakeup = 0,
+            Fault::TestModeClearsSleep => self.record.suspended = 0,
+            _ => {}
+        }
+        Ok(Reply::Nothing)
+    }
+
     /// Never more than wLength bytes, from the start of the body.
     fn get_descriptor(&self, setup: &Setup) -> Answer {
         let [index, descriptor_type] = setup.value.to_le_bytes();
         let body = match descriptor_type {
             DEVICE if self.has_fault(Fault::DeviceIndexIgnored) => self.body_in_set(DEVICE, 0, 0)?,
             DEVICE | CONFIGURATION => self.body_in_set(descriptor_type, index, 0)?,
+            QUALIFIER | OTHER_SPEED => self.of_the_other_speed(descriptor_type, index)?,
             STRING => self.string(index, setup.index)?,
             _ => return Err(13),
         };
@@ -418,28 +540,51 @@ impl Step<'_> {
     }
 
     fn body_in_set(&self, descriptor_type: u8, index: u8, language: u16) -> Result<Part, u8> {
-        let entry = self.board.entry(descriptor_type, index, language).ok_or(13)?;
-        Ok(Part { block: Block::Set, offset: entry.offset, length: entry.length })
+        self.body_in(self.board, descriptor_type, index, language)
+    }
+
+    fn body_in(&self, board: &Board, descriptor_type: u8, index: u8, language: u16) -> Result<Part, u8> {
+        let entry = board.entry(descriptor_type, index, language).ok_or(13)?;
+        let block = if self.has_fault(Fault::PartInFullSet) { Block::Set } else { board.block() };
+        Ok(Part { block, offset: entry.offset, length: entry.length })
+    }
+
+    /// Types 6 and 7, from the set in use; a set lent alone has none.
+    fn of_the_other_speed(&self, descriptor_type: u8, index: u8) -> Result<Part, u8> {
+        let other = self.boards.in_use(u8::from(self.board.block() == Block::Set));
+        match (self.board.fault, descriptor_type) {
+            (Fault::QualifierDoesNotExist, QUALIFIER) => Err(13),
+            (Fault::OtherSpeedDoesNotExist, OTHER_SPEED) => Err(13),
+            (Fault::OtherSpeedNeedsState, _) if self.record.state == DEFAULT => Err(13),
+            (Fault::QualifierIndexNotAsked, QUALIFIER) => self.body_in_set(QUALIFIER, 0, 0),
+            (Fault::QualifierFromOtherSet, QUALIFIER) => self.body_in(other, QUALIFIER, index, 0),
+            (Fault::OtherSpeedIsOthersConfiguration, OTHER_SPEED) if self.board.is_paired() => {
+                self.body_in(other, CONFIGURATION, index, 0)
+            }
+            _ => self.body_in_set(descriptor_type, index, 0),
+        }
     }
 
     /// String 0 for any wIndex; others in one listed language; the serial index is answered from the serial block.
     fn string(&self, index: u8, asked: u16) -> Result<Part, u8> {
-        let listed = self.board.languages.contains(&asked);
+        let board = self.board_unless(Fault::StringsOfFullSet);
+        let listed = board.languages.contains(&asked);
         if index == 0 && (listed || !self.has_fault(Fault::StringZeroNeedsListedLanguage)) {
-            return self.body_in_set(STRING, 0, 0);
+            return self.body_in(board, STRING, 0, 0);
         }
-        let language = self.language_for(index, asked).ok_or(13)?;
-        let is_serial = index != 0 && index == self.board.serial_index;
+        let language = self.language_for(board, index, asked).ok_or(13)?;
+        let serial_index = self.board_unless(Fault::SerialIndexOfFullSet).serial_index;
+        let is_serial = index != 0 && index == serial_index;
         if is_serial && (listed || !self.has_fault(Fault::SerialNeedsListedLanguage)) {
-            return Ok(Part { block: Block::Serial, offset: 0, length: self.board.serial_length });
+            return Ok(Part { block: Block::Serial, offset: 0, length: board.serial_length });
         }
-        self.body_in_set(STRING, index, language)
+        self.body_in(board, STRING, index, language)
     }
 
     /// "In the first listed language when the asked one is not listed."
-    fn language_for(&self, index: u8, asked: u16) -> Option<u16> {
-        let languages = &self.board.languages;
-        let stands_in = |language: &&u16| self.board.entry(STRING, index, **language).is_some();
+    fn language_for(&self, board: &Board, index: u8, asked: u16) -> Option<u16> {
+        let languages = &board.languages;
+        let stands_in = |language: &&u16| board.entry(STRING, index, **language).is_some();
         let needs_entry = self.has_fault(Fault::FallsBackThoughLanguageListed);
         if languages.contains(&asked) && (!needs_entry || stands_in(&&asked)) {
             return Some(asked);
@@ -458,7 +603,7 @@ impl Step<'_> {
         let value = u8::try_from(value).map_err(|_| 13)?;
         let exists = match self.board.fault {
             Fault::ConfigurationSelectedByIndex => usize::from(value) <= self.board.configurations.len(),
-            _ => self.board.configuration(value).is_some(),
+            _ => self.board_unless(Fault::ConfigurationOfFullSet).configuration(value).is_some(),
         };
         if value != 0 && !exists {
             return Err(13);
@@ -519,8 +664,49 @@ impl Step<'_> {
         settings.flat_map(|setting| &setting.endpoints).fold(0, |bits, endpoint| bits | bit(endpoint.address))
     }
 
-    /// The fresh record; the power source stays.
-    fn bus_reset(&mut self) -> Answer {
+    /// The fresh record at that speed; the power source stays. A valid one in a test mode changes nothing.
+    fn bus_reset(&mut self, speed: u8) -> Answer {
+        let speed = if self.has_fault(Fault::ResetByLowBit) { speed & 1 } else { speed };
+        let allowed = match self.board.fault {
+            Fault::ResetToHighAlonePasses => speed <= HIGH_SPEED,
+            Fault::ResetToHighRefused => speed == FULL_SPEED,
+            Fault::ResetAboveOnePasses => speed == FULL_SPEED || self.board.is_paired(),
+            Fault::TestModeTakesAnyReset if self.record.is_in_test_mode() => true,
+            _ => speed == FULL_SPEED || speed == HIGH_SPEED && self.board.is_paired(),
+        };
+        if !allowed {
+            return self.refused_reset();
+        }
+        if self.record.is_in_test_mode() && !self.has_fault(Fault::BusResetEndsTestMode) {
+            self.wake_up_if(Fault::ResetInTestModeClearsSleep);
+            return if self.has_fault(Fault::ResetInTestModeRefused) { Err(17) } else { Ok(Reply::Nothing) };
+        }
+        let before = self.record.clone();
+        let answer = self.reset_record();
+        self.record.speed = match self.board.fault {
+            Fault::BusResetKeepsSpeed => before.speed,
+            Fault::BusResetIsToFullSpeed => FULL_SPEED,
+            _ => speed.min(HIGH_SPEED),
+        };
+        match self.board.fault {
+            Fault::ResetToHighClearsPower if speed == HIGH_SPEED => self.record.power = 0,
+            Fault::BusResetKeepsWaitingTestMode if before.waits_for_test_mode() => self.record.waiting = before.waiting,
+            _ => {}
+        }
+        answer
+    }
+
+    fn refused_reset(&mut self) -> Answer {
+        match self.board.fault {
+            Fault::RefusedResetIsTaken => drop(self.reset_record()),
+            Fault::RefusedResetDropsWaiting => self.record.waiting = NOTHING_WAITS,
+            Fault::RefusedResetClearsSleep => self.record.suspended = 0,
+            _ => {}
+        }
+        Err(16)
+    }
+
+    fn reset_record(&mut self) -> Answer {
         let wakeup = if self.has_fault(Fault::BusResetKeepsWakeup) { self.record.wakeup } else { 0 };
         let power = if self.has_fault(Fault::BusResetClearsPower) { 0 } else { self.record.power };
         let suspended = if self.has_fault(Fault::BusResetKeepsSleep) { self.record.suspended } else { 0 };
@@ -531,6 +717,9 @@ impl Step<'_> {
     /// Bulk or interrupt in a current setting; keeps the toggle.
     fn halt(&mut self, address: u8) -> Answer {
         self.wake_up_if(Fault::HaltClearsSleep);
+        if self.record.is_in_test_mode() && self.has_fault(Fault::TestModeRefusesFunctionEvents) {
+            return Err(17);
+        }
         match self.record.endpoint(self.board, address) {
             Some(endpoint) if endpoint.has_halt() => {
                 self.record.halts |= bit(endpoint.address);
@@ -589,7 +778,12 @@ impl Step<'_> {
         if self.has_fault(Fault::SuspendTwiceIsRefused) && self.record.suspended == 1 {
             return Err(19);
         }
-        if self.has_fault(Fault::SuspendDropsWaitingAddress) {
+        let drops = match self.board.fault {
+            Fault::SuspendDropsWaitingAddress => true,
+            Fault::SuspendDropsWaitingTestMode => self.record.waits_for_test_mode(),
+            _ => false,
+        };
+        if drops {
             self.record.waiting = NOTHING_WAITS;
         }
         if self.has_fault(Fault::SuspendClearsWakeup) {
@@ -617,7 +811,8 @@ impl Step<'_> {
         let suspended = self.record.suspended == 1 || self.has_fault(Fault::WakeWithoutSleep);
         let wakeup = self.record.wakeup == 1 || self.has_fault(Fault::WakeWithoutWakeup);
         let in_state = self.record.state == CONFIGURED || !self.has_fault(Fault::WakeInConfiguredOnly);
-        if suspended && wakeup && in_state {
+        let in_mode = !self.record.is_in_test_mode() || !self.has_fault(Fault::WakeNotInTestMode);
+        if suspended && wakeup && in_state && in_mode {
             self.wake_up_if(Fault::WakeClearsSleep);
             return Ok(Reply::Nothing);
         }

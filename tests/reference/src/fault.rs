@@ -64,6 +64,7 @@ faults! {
         BusResetKeepsSleep OpeningKeepsSleep SuspendDropsWaitingAddress SuspendClearsWakeup SuspendInConfiguredOnly
         SuspendTwiceIsRefused ResumeAwakeIsRefused ResumeDropsWaitingAddress SuspendedTwoFits
         SuspendedInDefaultDoesNotFit
+        ResetToHighAlonePasses HighSpeedAloneFits TestModeAlone
     }
     PACKETS {
         EmptyLastPacketMissing EmptyPacketWhenEqual EmptyReplyAlwaysHasPacket PacketSize128Passes
@@ -88,6 +89,35 @@ faults! {
         EndpointsOfEverySetting EndpointsOfFirstConfiguration EndpointsByAddress EndpointsFromOne EndpointOffsetInBody
         EndpointOfSevenBytes MissingEndpointDoesNotExist MissingEndpointDropsWaitingAddress EndpointNotInThisState
     }
+    PAIRS {
+        HighSetOpenedFirst HighSetByFullLimits AgreementBeforeHighSet HighSetDoesNotMirror
+        HighControlSizeEightPasses HighControlSizeAsFullSpeed HighBulkSizeByLowBits HighBulkSizeSixtyFourPasses
+        HighSizeOneMore HighBurstsThreePass HighBurstsRefused HighSizeTopBitsIgnored HighInterruptIntervalAsFullSpeed
+        QualifierMissingPasses SecondQualifierPasses QualifierIndexIgnored QualifierLengthByteIgnored
+        QualifierOfOwnDevice QualifierPacketSizeIgnored QualifierCountIgnored QualifierLastByteIgnored
+        OtherSpeedFewerPass OtherSpeedLanguageIgnored OtherSpeedTypeByteTwo OtherSpeedTypeByteIgnored
+        OtherSpeedLastByteIgnored OtherSpeedBytesIgnored OtherSpeedFirstOnly
+    }
+    SPEEDS {
+        TypesOfPairAloneToo OpeningKeepsSpeed FullSetAlwaysInUse FullSetInTestMode StringsOfFullSet SerialIndexOfFullSet WakeupOfFullSet
+        ConfigurationOfFullSet PartInFullSet EndpointsOfFullSet EndpointsInFullSet
+        QualifierDoesNotExist OtherSpeedDoesNotExist OtherSpeedNeedsState QualifierIndexNotAsked QualifierFromOtherSet
+        OtherSpeedIsOthersConfiguration
+        ResetByLowBit ResetToHighRefused ResetAboveOnePasses BusResetKeepsSpeed BusResetIsToFullSpeed
+        ResetToHighClearsPower BusResetKeepsWaitingTestMode RefusedResetIsTaken RefusedResetDropsWaiting
+        RefusedResetClearsSleep
+        BusResetEndsTestMode ResetInTestModeClearsSleep ResetInTestModeRefused TestModeTakesAnyReset
+        TestModeByLowByte TestModeNeedsIndexZero TestModeLowByteIgnored TestModeInDefaultRefused
+        TestModeFieldsBeforeState TestModeSelectorBeforeFields SelectorZeroPasses SelectorSixPasses SelectorFiveRefused
+        TestModeAtFullSpeed TestModeNotInConfigured TestModeEnteredAtOnce ClearFeatureKnowsTestMode
+        RefusedSetupKeepsWaitingTestMode AcceptedSetupKeepsWaitingTestMode SuspendDropsWaitingTestMode
+        WaitingTestModeRefusesSetups StatusEndTakesTestModeAsAddress EnteredTestModeWithoutSpeed
+        TestModeForgottenAtStatusEnd TestModeLeadsToDefault TestModeClearsWakeup TestModeClearsSleep
+        TestModeAnswersSetups TestModeRefusalKeepsSleep TestModeRefusalIsOfState TestModeBeforeSetupLength
+        TestModeRefusesFunctionEvents WakeNotInTestMode
+        WaitingInTestModeFits TestModeWaitsAtFullSpeedFits SixthTestModeFits TestModeInConfiguredDoesNotFit
+        AnySpeedFits
+    }
     LISTER {
         AttributesInsteadOfTransferType PacketSizeByLowByte IndexInsteadOfValue FirstSettingsOnly
         SettingsInsteadOfInterfaces
@@ -97,7 +127,7 @@ faults! {
 impl Fault {
     /// All that show at the C boundary.
     pub fn at_boundary() -> impl Iterator<Item = Fault> {
-        [OPENING, EVENTS, PACKETS, ENDPOINTS, WRITER, DUMPS, TRIM].into_iter().flatten().copied()
+        [OPENING, EVENTS, PACKETS, ENDPOINTS, WRITER, DUMPS, TRIM, PAIRS, SPEEDS].into_iter().flatten().copied()
     }
 
     pub fn name(self) -> String {

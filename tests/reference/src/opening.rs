@@ -1,13 +1,17 @@
 //! Opening: groups 1 to 6 in order; the first rule broken, or the board that the set and the serial block describe.
 
 use crate::descriptors::Configuration;
+use crate::events::Block;
 use crate::fault::Fault;
+use crate::kind::Kind;
 use crate::octets::number;
 use crate::rule::{require, Rule};
 
 pub const DEVICE: u8 = 1;
 pub const CONFIGURATION: u8 = 2;
 pub const STRING: u8 = 3;
+pub const QUALIFIER: u8 = 6;
+pub const OTHER_SPEED: u8 = 7;
 
 /// One line of the set's contents.
 #[derive(Clone, Copy, Debug)]
@@ -27,6 +31,7 @@ pub struct Board {
     pub languages: Vec<u16>,
     pub serial_index: u8,
     pub serial_length: usize,
+    pub kind: Kind,
     pub fault: Fault,
 }
 
@@ -41,7 +46,7 @@ impl Entry {
         }
     }
 
-    fn body<'a>(&self, set: &'a [u8]) -> &'a [u8] {
+    pub fn body<'a>(&self, set: &'a [u8]) -> &'a [u8] {
         &set[self.offset..self.offset + self.length]
     }
 }
@@ -49,11 +54,15 @@ impl Entry {
 impl Board {
     /// The first rule broken, in the order of the groups.
     pub fn open(set: &[u8], serial: &[u8], fault: Fault) -> Result<Board, Rule> {
+        Board::open_as(Kind::Alone, set, serial, fault)
+    }
+
+    pub fn open_as(kind: Kind, set: &[u8], serial: &[u8], fault: Fault) -> Result<Board, Rule> {
         let set = if fault == Fault::SetLengthSixteenBits { &set[..set.len() % 65_536] } else { set };
         check_frame(set, fault)?;
-        let entries = contents(set, fault)?;
-        let device = device(set, &entries, fault)?;
-        let configurations = configurations(set, &entries, fault)?;
+        let entries = contents(kind, set, fault)?;
+        let device = device(kind, set, &entries, fault)?;
+        let configurations = configurations(kind, set, &entries, fault)?;
         if fault == Fault::SerialBeforeStrings {
             check_serial(device[16], serial, fault)?;
         }
@@ -61,7 +70,28 @@ impl Board {
             Strings { set, entries: &entries, device, configurations: &configurations, fault }.languages()?;
         check_serial(device[16], serial, fault)?;
         let serial_index = device[16];
-        Ok(Board { entries, configurations, languages, serial_index, serial_length: serial.len(), fault })
+        let serial_length = serial.len();
+        Ok(Board { entries, configurations, languages, serial_index, serial_length, kind, fault })
+    }
+
+    /// Groups 1 and 2 alone: no rule asks this, a fault does.
+    pub fn contents_of(kind: Kind, set: &[u8], fault: Fault) -> Result<Vec<Entry>, Rule> {
+        check_frame(set, fault)?;
+        contents(kind, set, fault)
+    }
+
+    /// Two sets are lent.
+    pub fn is_paired(&self) -> bool {
+        self.kind.is_paired()
+    }
+
+    /// The slice that the bodies lie in.
+    pub fn block(&self) -> Block {
+        if self.kind == Kind::PairedHigh {
+            Block::High
+        } else {
+            Block::Set
+        }
     }
 
     /// A configuration by its bConfigurationValue, never by its index.
@@ -109,9 +139,14 @@ fn contents_end(set: &[u8]) -> usize {
     4 + 8 * usize::from(set[2])
 }
 
-fn contents(set: &[u8], fault: Fault) -> Result<Vec<Entry>, Rule> {
+fn contents(kind: Kind, set: &[u8], fault: Fault) -> Result<Vec<Entry>, Rule> {
     let entries: Vec<Entry> = set[4..contents_end(set)].chunks(8).map(Entry::read).collect();
-    let known_type = |entry: &Entry| (DEVICE..=STRING).contains(&entry.descriptor_type);
+    let paired = kind.is_paired() || fault == Fault::TypesOfPairAloneToo;
+    let known_type = |entry: &Entry| match entry.descriptor_type {
+        DEVICE..=STRING => true,
+        QUALIFIER | OTHER_SPEED => paired,
+        _ => false,
+    };
     require(entries.iter().all(known_type), Rule::EntryType)?;
     require(entries.windows(2).all(|pair| ascends(&pair[0], &pair[1], fault)), Rule::EntryOrder)?;
     let shortest = if fault == Fault::EntryOfTwoBytesRefused { 3 } else { 2 };
@@ -134,7 +169,7 @@ fn ascends(one: &Entry, next: &Entry, fault: Fault) -> bool {
     key(one) < key(next) || fault == Fault::EqualEntriesPass && key(one) == key(next)
 }
 
-fn device<'a>(set: &'a [u8], entries: &[Entry], fault: Fault) -> Result<&'a [u8], Rule> {
+fn device<'a>(kind: Kind, set: &'a [u8], entries: &[Entry], fault: Fault) -> Result<&'a [u8], Rule> {
     let count_of = |asked: u8| entries.iter().filter(|entry| entry.descriptor_type == asked).count();
     require(count_of(DEVICE) > 0, Rule::DeviceEntryMissing)?;
     require(count_of(DEVICE) == 1, Rule::DeviceEntryRepeated)?;
@@ -145,8 +180,7 @@ fn device<'a>(set: &'a [u8], entries: &[Entry], fault: Fault) -> Result<&'a [u8]
     require(body.len() == 18, Rule::DeviceBodyLength)?;
     require(body[0] == 18, Rule::DeviceLengthByte)?;
     require(body[1] == DEVICE, Rule::DeviceTypeByte)?;
-    let size_passes = [8, 16, 32, 64].contains(&body[7]) || fault == Fault::MaxPacketSize128Passes && body[7] == 128;
-    require(size_passes, Rule::DeviceMaxPacketSize)?;
+    require(kind.control_sizes(fault).contains(&body[7]), Rule::DeviceMaxPacketSize)?;
     require(body[4] != 0 || body[5] == 0 || fault == Fault::SubclassIgnored, Rule::DeviceSubclass)?;
     let most = if fault == Fault::NinthConfigurationPasses { 9 } else { 8 };
     require(body[17] >= 1, Rule::DeviceNoConfiguration)?;
@@ -157,12 +191,12 @@ fn device<'a>(set: &'a [u8], entries: &[Entry], fault: Fault) -> Result<&'a [u8]
     Ok(body)
 }
 
-fn configurations(set: &[u8], entries: &[Entry], fault: Fault) -> Result<Vec<Configuration>, Rule> {
+fn configurations(kind: Kind, set: &[u8], entries: &[Entry], fault: Fault) -> Result<Vec<Configuration>, Rule> {
     let mut configurations: Vec<Configuration> = Vec::new();
     for entry in entries.iter().filter(|entry| entry.descriptor_type == CONFIGURATION) {
         require(usize::from(entry.index) == configurations.len(), Rule::ConfigurationIndex)?;
         require(entry.language == 0, Rule::ConfigurationLanguage)?;
-        let configuration = Configuration::read(entry.body(set), fault)?;
+        let configuration = Configuration::read(kind, entry.body(set), fault)?;
         let zero_passes = fault == Fault::ConfigurationValueZeroPasses;
         require(configuration.value != 0 || zero_passes, Rule::ConfigurationValueZero)?;
         let compared = match fault {

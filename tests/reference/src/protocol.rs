@@ -4,6 +4,7 @@
 //! is four bytes of length and its bytes:
 //!
 //!     S block                lends a set from now on       U block        lends a serial block from now on
+//!     H block                lends a high-speed set from now on: the calls for two sets go by it, S is the full-speed set
 //!     o image                hk_open                       s image setup  hk_setup
 //!     e image                hk_status_end                 r image        hk_bus_reset
 //!     h endpoint(1) image    hk_halt                       p endpoint(1) image   hk_packet_passed
@@ -11,7 +12,9 @@
 //!     z image                hk_suspend                    y image        hk_resume
 //!     a image                hk_wake
 //!     k reply_length(4) asked(2) size(4) number(4)         hk_packet
-//!     n number(1) image      hk_endpoint
+//!     n number(1) image      hk_endpoint                   R speed(1) image      hk_bus_reset_to
+//!     O image                hk_two_open                   V event(1) value(1) image setup    hk_two_event
+//!     N number(1) image      hk_two_endpoint
 //!     w pieces buffer        hk_write: length is what was written, the image is the buffer
 //!     i dump buffer          hk_import, in the same way    x buffer       hk_export
 //!     t set                  hk_trim: length is the total, the image is the set
@@ -23,6 +26,7 @@ use std::io::{self, Read, Write};
 use crate::call::Call;
 use crate::events::{Block, Event, Outcome};
 use crate::octets::{hex, number, wide_number};
+use crate::record::FULL_SPEED;
 
 /// How a call's blocks stand: NULL where empty, at the front edge of their room, and up to 3 bytes off the edge.
 pub const FLAGS: u8 = 0x0f;
@@ -33,6 +37,7 @@ const LONGEST_BLOCK: usize = 100_000;
 pub enum Command {
     Set(Vec<u8>),
     Serial(Vec<u8>),
+    High(Vec<u8>),
     Call(Call),
 }
 
@@ -99,7 +104,7 @@ impl Response {
             4 => "; the call stopped the program",
             _ => "; the command was not understood",
         };
-        let block = ["set", "serial", "reply"].get(usize::from(self.block)).unwrap_or(&"nowhere");
+        let block = ["set", "serial", "reply", "high"].get(usize::from(self.block)).unwrap_or(&"nowhere");
         format!(
             "{}, count {}, bytes {}, part {block}:{}:{}, image {}{error}",
             self.number,
@@ -117,6 +122,7 @@ impl Command {
         let operation = match self {
             Command::Set(_) => b'S',
             Command::Serial(_) => b'U',
+            Command::High(_) => b'H',
             Command::Call(Call::Open { .. }) => b'o',
             Command::Call(Call::Packet { .. }) => b'k',
             Command::Call(Call::Write { .. }) => b'w',
@@ -125,23 +131,27 @@ impl Command {
             Command::Call(Call::Numbered { .. }) => b'v',
             Command::Call(Call::Trim { .. }) => b't',
             Command::Call(Call::Endpoint { .. }) => b'n',
+            Command::Call(Call::ResetTo { .. }) => b'R',
+            Command::Call(Call::TwoOpen { .. }) => b'O',
+            Command::Call(Call::TwoEvent { .. }) => b'V',
+            Command::Call(Call::TwoEndpoint { .. }) => b'N',
             Command::Call(Call::Event { event, .. }) => match event {
                 Event::Setup(_) => b's',
                 Event::StatusEnd => b'e',
-                Event::BusReset => b'r',
+                Event::BusReset(FULL_SPEED) => b'r',
                 Event::Halt(_) => b'h',
                 Event::PacketPassed(_) => b'p',
                 Event::Power(_) => b'P',
                 Event::Suspend => b'z',
                 Event::Resume => b'y',
                 Event::Wake => b'a',
-                // has no call of its own, and no command
-                Event::Other { .. } => return Err(io::ErrorKind::InvalidInput.into()),
+                // have no call of their own, and no command
+                Event::BusReset(_) | Event::Other { .. } => return Err(io::ErrorKind::InvalidInput.into()),
             },
         };
         stream.write_all(&[operation, flags])?;
         match self {
-            Command::Set(block) | Command::Serial(block) => write_block(stream, block),
+            Command::Set(block) | Command::Serial(block) | Command::High(block) => write_block(stream, block),
             Command::Call(call) => write_call(call, stream),
         }
     }
@@ -156,6 +166,7 @@ impl Command {
         let command = match operation[0] {
             b'S' => Command::Set(read_block(stream)?),
             b'U' => Command::Serial(read_block(stream)?),
+            b'H' => Command::High(read_block(stream)?),
             operation => Command::Call(read_call(operation, stream)?),
         };
         Ok(Some(command))
@@ -164,7 +175,7 @@ impl Command {
 
 fn write_call(call: &Call, stream: &mut impl Write) -> io::Result<()> {
     match call {
-        Call::Open { image } => write_block(stream, image),
+        Call::Open { image } | Call::TwoOpen { image } => write_block(stream, image),
         Call::Event { image, event } => match event {
             Event::Setup(setup) => {
                 write_block(stream, image)?;
@@ -176,9 +187,9 @@ fn write_call(call: &Call, stream: &mut impl Write) -> io::Result<()> {
             }
             _ => write_block(stream, image),
         },
-        Call::Numbered { record, number, value, setup } => {
+        Call::Numbered { record: image, number, value, setup } | Call::TwoEvent { image, number, value, setup } => {
             stream.write_all(&[*number, *value])?;
-            write_block(stream, record)?;
+            write_block(stream, image)?;
             write_block(stream, setup)
         }
         Call::Packet { reply_length, asked, size, packet } => {
@@ -192,7 +203,9 @@ fn write_call(call: &Call, stream: &mut impl Write) -> io::Result<()> {
             write_block(stream, buffer)
         }
         Call::Export { buffer } | Call::Trim { set: buffer } => write_block(stream, buffer),
-        Call::Endpoint { image, number } => {
+        Call::Endpoint { image, number }
+        | Call::TwoEndpoint { image, number }
+        | Call::ResetTo { image, speed: number } => {
             stream.write_all(&[*number])?;
             write_block(stream, image)
         }
@@ -202,6 +215,7 @@ fn write_call(call: &Call, stream: &mut impl Write) -> io::Result<()> {
 fn read_call(operation: u8, stream: &mut impl Read) -> io::Result<Call> {
     let event = match operation {
         b'o' => return Ok(Call::Open { image: read_block(stream)? }),
+        b'O' => return Ok(Call::TwoOpen { image: read_block(stream)? }),
         b'k' => return read_packet(stream),
         b'w' => return Ok(Call::Write { pieces: read_block(stream)?, buffer: read_block(stream)? }),
         b'i' => return Ok(Call::Import { dump: read_block(stream)?, buffer: read_block(stream)? }),
@@ -211,16 +225,25 @@ fn read_call(operation: u8, stream: &mut impl Read) -> io::Result<Call> {
             return Ok(Call::Numbered { record: read_block(stream)?, number, value, setup: read_block(stream)? });
         }
         b't' => return Ok(Call::Trim { set: read_block(stream)? }),
-        b'n' => {
+        b'V' => {
+            let [number, value] = read_array(stream)?;
+            return Ok(Call::TwoEvent { image: read_block(stream)?, number, value, setup: read_block(stream)? });
+        }
+        b'n' | b'N' | b'R' => {
             let number = read_array::<1>(stream)?[0];
-            return Ok(Call::Endpoint { image: read_block(stream)?, number });
+            let image = read_block(stream)?;
+            return Ok(match operation {
+                b'n' => Call::Endpoint { image, number },
+                b'N' => Call::TwoEndpoint { image, number },
+                _ => Call::ResetTo { image, speed: number },
+            });
         }
         b's' => {
             let image = read_block(stream)?;
             return Ok(Call::Event { image, event: Event::Setup(read_block(stream)?) });
         }
         b'e' => Event::StatusEnd,
-        b'r' => Event::BusReset,
+        b'r' => Event::BusReset(FULL_SPEED),
         b'h' => Event::Halt(read_array::<1>(stream)?[0]),
         b'p' => Event::PacketPassed(read_array::<1>(stream)?[0]),
         b'P' => Event::Power(read_array::<1>(stream)?[0]),

@@ -6,21 +6,27 @@ use crate::events::Event;
 use crate::fault::Fault;
 use crate::opening::{Board, CONFIGURATION, DEVICE, STRING};
 use crate::packets;
+use crate::pair::Boards;
 use crate::random::Random;
-use crate::record::{bit, Record, ADDRESS, CONFIGURED, DEFAULT, IMAGE_LENGTH};
+use crate::record::{bit, entered_test, waiting_test, Record};
+use crate::record::{ADDRESS, CONFIGURED, DEFAULT, FULL_SPEED, HIGH_SPEED, IMAGE_LENGTH};
 use crate::requests::{self, Row, Setup, TABLE};
 
 const FIRST_OTHER_EVENT: u8 = 9;
 
 /// A record that fits, in any state.
-pub fn fitting(board: &Board, random: &mut Random) -> Record {
-    let mut record = Record::fresh();
+pub fn fitting(boards: &Boards, random: &mut Random) -> Record {
+    let mut record = Record { speed: any_speed(boards, random), ..Record::fresh() };
+    let board = boards.in_use(record.speed);
     record.state = random.pick(&[DEFAULT, ADDRESS, CONFIGURED, CONFIGURED, CONFIGURED]);
     if record.state != DEFAULT {
         record.address = address_value(random).max(1);
     }
-    if record.state != CONFIGURED && random.percent(40) {
+    if record.state != CONFIGURED && random.percent(40) && !record.is_in_test_mode() {
         record.waiting = address_value(random);
+    }
+    if record.speed == HIGH_SPEED && random.percent(30) {
+        record.waiting = waiting_test(random.between(1, 5) as u8);
     }
     if board.supports_wakeup() && random.percent(50) {
         record.wakeup = 1;
@@ -43,6 +49,15 @@ pub fn fitting(board: &Board, random: &mut Random) -> Record {
     record
 }
 
+/// Full speed, high speed or a test mode; full speed where one set is lent.
+fn any_speed(boards: &Boards, random: &mut Random) -> u8 {
+    if boards.high.is_none() {
+        return FULL_SPEED;
+    }
+    let entered = entered_test(random.between(1, 5) as u8);
+    random.pick(&[FULL_SPEED, FULL_SPEED, HIGH_SPEED, HIGH_SPEED, HIGH_SPEED, HIGH_SPEED, entered])
+}
+
 fn current_endpoints<'a>(configuration: &'a Configuration, record: &Record) -> impl Iterator<Item = &'a Endpoint> {
     let alternates = record.alternates;
     let current = configuration
@@ -58,17 +73,18 @@ fn address_value(random: &mut Random) -> u8 {
 }
 
 /// A record with one field changed: it mostly no longer fits.
-pub fn nearly_fitting(board: &Board, random: &mut Random) -> Record {
-    let mut record = fitting(board, random);
+pub fn nearly_fitting(boards: &Boards, random: &mut Random) -> Record {
+    let mut record = fitting(boards, random);
+    let board = boards.in_use(record.speed);
     let any_bit = 1 << random.below(32);
     let listed_bit = any_listed(board, &record, random).map_or(any_bit, bit);
     match random.below(14) {
         0 => record.state = random.pick(&[0, 1, 2, 3, 255]),
         1 => record.address = random.pick(&[0, 1, 127, 128, 255]),
-        2 => record.waiting = random.pick(&[0, 5, 127, 128, 254, 255]),
+        2 => record.waiting = random.pick(&[0, 5, 127, 128, 129, 131, 133, 134, 254, 255]),
         3 => record.configuration = random.pick(&[0, 1, 2, 255, record.configuration.wrapping_add(1)]),
         4 => record.wakeup = random.pick(&[0, 1, 1, 1, 2, 255]),
-        5 => record.zero = random.pick(&[1, 255]),
+        5 => record.speed = random.pick(&[0, 1, 1, 2, 16, 17, 18, 32, 81, 97, 241, 255]),
         12 => record.power = random.pick(&[0, 1, 2, 255]),
         13 => record.suspended = random.pick(&[0, 1, 2, 255]),
         6 => record.alternates[random.below(16)] = random.pick(&[0, 1, 2, 15, 16, 255]),
@@ -96,14 +112,14 @@ fn any_listed(board: &Board, record: &Record, random: &mut Random) -> Option<u8>
 }
 
 /// An image to lend: fitting, nearly fitting, anything, or of a wrong length.
-pub fn image(board: Option<&Board>, random: &mut Random) -> Vec<u8> {
-    let image = match board {
-        Some(board) if random.percent(70) => fitting(board, random).image(),
-        Some(board) if random.percent(95) => nearly_fitting(board, random).image(),
+pub fn image(boards: Option<&Boards>, random: &mut Random) -> Vec<u8> {
+    let image = match boards {
+        Some(boards) if random.percent(70) => fitting(boards, random).image(),
+        Some(boards) if random.percent(95) => nearly_fitting(boards, random).image(),
         None if random.percent(50) => Record::fresh().image(),
         _ => random.bytes(IMAGE_LENGTH),
     };
-    if random.percent(if board.is_some() { 97 } else { 80 }) {
+    if random.percent(if boards.is_some() { 97 } else { 80 }) {
         image
     } else {
         of_wrong_length(image, random)
@@ -152,7 +168,7 @@ fn interface_number(board: &Board, record: &Record, random: &mut Random) -> u16 
 pub fn event(board: &Board, record: &Record, random: &mut Random) -> Event {
     match random.below(25) {
         0 | 1 => Event::StatusEnd,
-        2 => Event::BusReset,
+        2 => Event::BusReset(reset_speed(random)),
         3 | 4 => Event::Halt(endpoint_address(board, record, random)),
         5..=7 => Event::PacketPassed(endpoint_address(board, record, random)),
         8 => Event::Setup(of_wrong_length(setup(board, record, random).bytes(), random)),
@@ -163,6 +179,11 @@ pub fn event(board: &Board, record: &Record, random: &mut Random) -> Event {
         13 => Event::Wake,
         _ => Event::Setup(setup(board, record, random).bytes()),
     }
+}
+
+pub fn reset_speed(random: &mut Random) -> u8 {
+    let any = random.byte();
+    random.pick(&[0, 0, 0, 1, 1, 1, 1, 2, 3, 17, 255, any])
 }
 
 pub fn power_source(random: &mut Random) -> u8 {
@@ -181,15 +202,29 @@ pub fn other_event(setup: Vec<u8>, random: &mut Random) -> Event {
 pub fn numbered(record: &[u8], event: &Event, random: &mut Random) -> Option<Call> {
     let mut call = Call::numbered(record, event)?;
     if let Call::Numbered { number, value, setup, .. } = &mut call {
-        if !event.reads_value() {
-            *value = random.byte();
-        }
-        if *number != 0 && random.percent(50) {
-            let length = random.pick(&[1, 7, 8, 9]);
-            *setup = random.bytes(length);
-        }
+        add_unread(event, *number, value, setup, random);
     }
     Some(call)
+}
+
+/// The same where two sets are lent: on an image of any length.
+pub fn two_event(image: &[u8], event: &Event, random: &mut Random) -> Call {
+    let mut call = Call::two_event(image, event);
+    if let Call::TwoEvent { number, value, setup, .. } = &mut call {
+        add_unread(event, *number, value, setup, random);
+    }
+    call
+}
+
+/// A value and a setup that the event does not read.
+fn add_unread(event: &Event, number: u8, value: &mut u8, setup: &mut Vec<u8>, random: &mut Random) {
+    if !event.reads_value() {
+        *value = random.byte();
+    }
+    if number != 0 && random.percent(50) {
+        let length = random.pick(&[1, 7, 8, 9]);
+        *setup = random.bytes(length);
+    }
 }
 
 /// GET_DESCRIPTOR, SET_CONFIGURATION and SET_INTERFACE have more to get wrong than one try in fifteen would show.
@@ -200,7 +235,8 @@ pub fn setup(board: &Board, record: &Record, random: &mut Random) -> Setup {
     let any = random.below(TABLE.len());
     let often = random.pick(&OFTEN);
     let row = TABLE[if random.percent(35) { often } else { any }];
-    let mut setup = right_setup(row, board, record, random);
+    let tested = random.percent(if board.is_paired() { 25 } else { 1 });
+    let mut setup = if tested { test_mode(random) } else { right_setup(row, board, record, random) };
     match random.below(24) {
         0 => setup.request_type ^= random.pick(&[0x01, 0x02, 0x03, 0x20, 0x40, 0x80, 0x10]),
         1 => setup.code = random.pick(&[0x02, 0x04, 0x07, 0x0a, 0x0b, 0x0c, 0x0d, 0xff]),
@@ -211,6 +247,14 @@ pub fn setup(board: &Board, record: &Record, random: &mut Random) -> Setup {
         _ => {}
     }
     setup
+}
+
+/// SET_FEATURE(TEST_MODE) with a selector that there is, mostly.
+fn test_mode(random: &mut Random) -> Setup {
+    let (right, wrong) = (random.between(1, 5) as u16, random.pick(&[0, 6, 16, 255]));
+    let selector = if random.percent(80) { right } else { wrong };
+    let index = selector << 8 | random.pick(&[0, 0, 0, 0, 0, 0, 0, 0, 1, 128]);
+    Setup { request_type: 0x00, code: requests::SET_FEATURE, value: requests::TEST_MODE, index, length: 0 }
 }
 
 /// Off by one, with another high byte, or anything.
@@ -371,12 +415,14 @@ pub fn event_for(configuration: &Configuration, interface: u8, random: &mut Rand
 }
 
 /// The requests with which a host brings a device from power-on to Configured.
-pub fn enumeration(board: &Board, random: &mut Random) -> Vec<Event> {
+pub fn enumeration(boards: &Boards, random: &mut Random) -> Vec<Event> {
+    let speed = if boards.high.is_some() && random.percent(70) { HIGH_SPEED } else { FULL_SPEED };
+    let board = boards.in_use(speed);
     let setup =
         |request_type, code, value, length| Event::Setup(Setup { request_type, code, value, index: 0, length }.bytes());
     let value = board.configurations[random.below(board.configurations.len())].value;
     vec![
-        Event::BusReset,
+        Event::BusReset(speed),
         setup(0x80, requests::GET_DESCRIPTOR, 0x0100, 64),
         setup(0x00, requests::SET_ADDRESS, u16::from(address_value(random).max(1)), 0),
         Event::StatusEnd,

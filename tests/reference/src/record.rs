@@ -12,6 +12,19 @@ pub const DEFAULT: u8 = 0;
 pub const ADDRESS: u8 = 1;
 pub const CONFIGURED: u8 = 2;
 
+pub const FULL_SPEED: u8 = 0;
+pub const HIGH_SPEED: u8 = 1;
+
+/// "It waits for the status end as 128 plus the selector in byte 2."
+pub fn waiting_test(selector: u8) -> u8 {
+    128 + selector
+}
+
+/// "Once entered, byte 7 is 1 plus 16 times the selector."
+pub fn entered_test(selector: u8) -> u8 {
+    HIGH_SPEED + 16 * selector
+}
+
 #[derive(Clone, PartialEq, Eq, Debug)]
 pub struct Record {
     pub state: u8,
@@ -22,7 +35,8 @@ pub struct Record {
     /// 0 the bus, 1 its own supply.
     pub power: u8,
     pub suspended: u8,
-    pub zero: u8,
+    /// 0 full speed, 1 high speed, 1 plus 16 times the selector in a test mode.
+    pub speed: u8,
     pub alternates: [u8; 16],
     pub halts: u32,
     pub toggles: u32,
@@ -44,7 +58,7 @@ impl Record {
             wakeup: 0,
             power: 0,
             suspended: 0,
-            zero: 0,
+            speed: FULL_SPEED,
             alternates: [0; 16],
             halts: 0,
             toggles: 0,
@@ -64,7 +78,7 @@ impl Record {
             wakeup: image[4],
             power: image[5],
             suspended: image[6],
-            zero: image[7],
+            speed: image[7],
             alternates,
             halts: wide_number(image, 24),
             toggles: wide_number(image, 28),
@@ -73,7 +87,7 @@ impl Record {
 
     pub fn image(&self) -> Vec<u8> {
         let mut image = vec![self.state, self.address, self.waiting, self.configuration, self.wakeup, self.power];
-        image.extend([self.suspended, self.zero]);
+        image.extend([self.suspended, self.speed]);
         image.extend(self.alternates);
         image.extend(self.halts.to_le_bytes());
         image.extend(self.toggles.to_le_bytes());
@@ -82,11 +96,11 @@ impl Record {
 
     pub fn fits(&self, board: &Board) -> bool {
         self.state_fits(board)
-            && self.waiting_fits(board.fault)
+            && self.waiting_fits(board)
             && (self.wakeup == 0 || self.wakeup == 1 && wakeup_fits(board))
             && self.power_fits(board)
             && self.suspended_fits(board.fault)
-            && (self.zero == 0 || board.fault == Fault::ZeroBytesIgnored)
+            && self.speed_fits(board)
             && (0..16).all(|interface| self.alternate_fits(board, interface))
             && self.halts & !self.bits_that_may_stand(board, Fault::HaltOfOtherSettingFits) == 0
             && self.toggles & !self.bits_that_may_stand(board, Fault::IsochronousToggleFits) == 0
@@ -102,10 +116,46 @@ impl Record {
         }
     }
 
-    fn waiting_fits(&self, fault: Fault) -> bool {
+    /// Nothing, an address outside Configured, or at high speed a test mode; nothing once a test mode is entered.
+    fn waiting_fits(&self, board: &Board) -> bool {
+        let fault = board.fault;
         let highest = if fault == Fault::Waiting128Fits { 128 } else { 127 };
         let may_wait = self.state != CONFIGURED || fault == Fault::WaitingInConfiguredFits;
-        self.waiting == NOTHING_WAITS || may_wait && self.waiting <= highest
+        let entered = self.is_in_test_mode() && fault != Fault::WaitingInTestModeFits;
+        let waits_address = may_wait && self.waiting <= highest && !entered;
+        self.waiting == NOTHING_WAITS || waits_address || self.test_mode_may_wait(board)
+    }
+
+    fn test_mode_may_wait(&self, board: &Board) -> bool {
+        let at_speed = match board.fault {
+            Fault::TestModeWaitsAtFullSpeedFits => self.speed <= HIGH_SPEED,
+            _ => self.speed == HIGH_SPEED,
+        };
+        let last = if board.fault == Fault::SixthTestModeFits { 6 } else { 5 };
+        let in_state = self.state != CONFIGURED || board.fault != Fault::TestModeInConfiguredDoesNotFit;
+        let selected = (waiting_test(1)..=waiting_test(last)).contains(&self.waiting);
+        board.is_paired() && at_speed && in_state && selected
+    }
+
+    /// 0 where one set is lent.
+    fn speed_fits(&self, board: &Board) -> bool {
+        match board.fault {
+            Fault::ZeroBytesIgnored if !board.is_paired() => return true,
+            Fault::HighSpeedAloneFits if !board.is_paired() => return self.speed <= HIGH_SPEED,
+            Fault::AnySpeedFits if board.is_paired() => return true,
+            _ => {}
+        }
+        let last = if board.fault == Fault::SixthTestModeFits { 6 } else { 5 };
+        let at_high = self.speed == HIGH_SPEED || (1..=last).any(|selector| self.speed == entered_test(selector));
+        self.speed == FULL_SPEED || board.is_paired() && at_high
+    }
+
+    pub fn is_in_test_mode(&self) -> bool {
+        self.speed > HIGH_SPEED
+    }
+
+    pub fn waits_for_test_mode(&self) -> bool {
+        self.waiting > 127 && self.waiting != NOTHING_WAITS
     }
 
     /// "Fitting a record now allows 0 or 1 there", whatever the configurations promise.

@@ -2,10 +2,13 @@
 
 use crate::fault::Fault;
 use crate::octets::number;
-use crate::opening::STRING;
-use crate::record::{ADDRESS, CONFIGURED, DEFAULT};
+use crate::opening::{Board, STRING};
+use crate::record::{Record, ADDRESS, CONFIGURED, DEFAULT, FULL_SPEED};
 
 pub const SETUP_LENGTH: usize = 8;
+
+pub const DEVICE_REMOTE_WAKEUP: u16 = 1;
+pub const TEST_MODE: u16 = 2;
 
 pub const GET_STATUS: u8 = 0x00;
 pub const CLEAR_FEATURE: u8 = 0x01;
@@ -94,6 +97,13 @@ impl Setup {
     pub fn recipient(&self) -> u8 {
         self.request_type & 0x1f
     }
+
+    /// SET_FEATURE(TEST_MODE), which boards with two sets know; the selector is wIndex's high byte.
+    pub fn asks_test_mode(&self, board: &Board) -> bool {
+        let feature = if board.fault == Fault::TestModeByLowByte { self.value & 0xff } else { self.value };
+        let known = board.is_paired() || board.fault == Fault::TestModeAlone;
+        known && (self.request_type, self.code, feature) == (0x00, SET_FEATURE, TEST_MODE)
+    }
 }
 
 impl Field {
@@ -141,14 +151,42 @@ fn allowed_in(state: u8, code: u8, fault: Fault) -> bool {
     }
 }
 
+/// "At high speed passes the state check in all three states", and "needs wIndex's low byte 0 (else 12)".
+fn check_test_mode(setup: &Setup, record: &Record, fault: Fault) -> Result<(), u8> {
+    let right = match fault {
+        Fault::TestModeNeedsIndexZero => setup.index == 0 && setup.length == 0,
+        Fault::TestModeLowByteIgnored => setup.length == 0,
+        _ => setup.index & 0xff == 0 && setup.length == 0,
+    };
+    let passes_state = record.speed != FULL_SPEED && fault != Fault::TestModeInDefaultRefused;
+    if fault == Fault::TestModeFieldsBeforeState && !right {
+        return Err(12);
+    }
+    if !passes_state && !allowed_in(record.state, setup.code, fault) {
+        return Err(11);
+    }
+    if fault == Fault::TestModeSelectorBeforeFields && !(1..=5).contains(&(setup.index >> 8)) {
+        return Err(14);
+    }
+    if right {
+        Ok(())
+    } else {
+        Err(12)
+    }
+}
+
 /// The order is 10, 11, 12.
-pub fn check(setup: &Setup, state: u8, fault: Fault) -> Result<(), u8> {
+pub fn check(setup: &Setup, record: &Record, board: &Board) -> Result<(), u8> {
+    let fault = board.fault;
     let same = |row: &&Row| (row.request_type, row.code) == (setup.request_type, setup.code);
     let row = TABLE.iter().find(same).ok_or(10)?;
+    if setup.asks_test_mode(board) {
+        return check_test_mode(setup, record, fault);
+    }
     if fault == Fault::FieldsBeforeState && !row.allows(setup, fault) {
         return Err(12);
     }
-    if !allowed_in(state, setup.code, fault) {
+    if !allowed_in(record.state, setup.code, fault) {
         return Err(11);
     }
     if row.allows(setup, fault) {

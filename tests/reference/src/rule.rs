@@ -2,7 +2,7 @@
 
 macro_rules! rules {
     ($($group:literal { $($rule:ident)* })*) => {
-        /// One rule of document 01, "The descriptor set".
+        /// One rule of document 01, "The descriptor set", or of document 02, L7.
         #[derive(Clone, Copy, PartialEq, Eq, PartialOrd, Ord, Debug)]
         pub enum Rule { $($($rule,)*)* }
 
@@ -47,6 +47,11 @@ rules! {
         ManufacturerMissing ProductMissing ConfigurationStringMissing InterfaceStringMissing
     }
     6 { SerialNotEmpty SerialOddLength SerialShorterThanFour SerialOver254 SerialLengthByte SerialTypeByte }
+    24 {
+        QualifierMissing QualifierRepeated QualifierIndex QualifierLanguage QualifierBodyLength QualifierLengthByte
+        QualifierTypeByte QualifierFields QualifierConfigurations QualifierLastByte
+        OtherSpeedCount OtherSpeedIndex OtherSpeedLanguage OtherSpeedLength OtherSpeedTypeByte OtherSpeedBytes
+    }
 }
 
 /// The rule is broken unless the condition holds.

@@ -7,13 +7,18 @@ use crate::compare::Comparison;
 use crate::concerns::concerned;
 use crate::damage::{damaged, flipped};
 use crate::draft::Draft;
-use crate::events::{Event, Lent, Outcome};
+use crate::events::{Block, Event, Lent, Outcome};
 use crate::fault::Fault;
 use crate::opening::Board;
+use crate::pair::{Boards, Refused};
+use crate::pair_draft::{any_pair, valid_pair};
 use crate::questions::{self, enumeration, event_for, fitting};
 use crate::random::Random;
 use crate::record::{Record, IMAGE_LENGTH};
 use crate::rule::Rule;
+
+/// The number for types 6 and 7 that are not as said.
+const AGREEMENT: u8 = 24;
 
 /// A set and its serial block: valid, damaged near a rule, or with flipped bytes.
 pub fn any_set(random: &mut Random) -> (Vec<u8>, Vec<u8>) {
@@ -32,12 +37,40 @@ pub fn opening(comparison: &mut Comparison, sets: usize, seed: u64, fault: Fault
     while comparison.calls < sets && !comparison.stopped() {
         let (set, serial) = any_set(&mut random);
         let lent = Arc::new(Lent::new(set, serial, fault));
-        if let Err(rule) = lent.opened {
+        if let Err(Refused { rule, .. }) = lent.opened {
             reached[rule as usize].1 += 1;
         }
         let image = any_image(&mut random);
         comparison.ask(&lent, Call::Open { image });
     }
+    // what two sets must have in common is no rule of one
+    reached.retain(|(rule, _)| rule.group() != AGREEMENT);
+    reached
+}
+
+/// A serial block that breaks these has been refused for the full-speed set, or is empty.
+const JUDGED_IN_FULL_SET: [Rule; 4] =
+    [Rule::SerialOddLength, Rule::SerialOver254, Rule::SerialLengthByte, Rule::SerialTypeByte];
+
+/// How often each rule was the first broken, in each of two sets.
+pub type ReachedByPairs = Vec<(Block, Rule, usize)>;
+
+/// Lends pairs to hk_two_open.
+pub fn opening_two(comparison: &mut Comparison, pairs: usize, seed: u64, fault: Fault) -> ReachedByPairs {
+    let mut random = Random::new(seed);
+    let in_block = |block| Rule::ALL.iter().map(move |&rule| (block, rule, 0));
+    let mut reached: ReachedByPairs = in_block(Block::Set).chain(in_block(Block::High)).collect();
+    while comparison.calls < pairs && !comparison.stopped() {
+        let (full, high, serial) = any_pair(&mut random);
+        let lent = Arc::new(Lent::two(full, high, serial, fault));
+        if let Err(Refused { rule, block }) = lent.opened {
+            let found = reached.iter_mut().find(|(in_block, broken, _)| (*in_block, *broken) == (block, rule));
+            found.into_iter().for_each(|(_, _, count)| *count += 1);
+        }
+        let image = any_image(&mut random);
+        comparison.ask(&lent, Call::TwoOpen { image });
+    }
+    reached.retain(|(block, rule, _)| *block == Block::Set || !JUDGED_IN_FULL_SET.contains(rule));
     reached
 }
 
@@ -51,11 +84,21 @@ fn any_image(random: &mut Random) -> Vec<u8> {
     }
 }
 
-/// Runs over the whole boundary; the first pair of runs that order made unlike, if there was one.
+/// Runs over the whole boundary of one set; the first pair of runs that order made unlike, if there was one.
 pub fn whole(comparison: &mut Comparison, calls: usize, seed: u64, fault: Fault) -> Option<String> {
     let mut asker = Asker { comparison, random: Random::new(seed), fault, unlike: None };
     while asker.comparison.calls < calls && !asker.comparison.stopped() {
         asker.visit();
+        asker.packets();
+    }
+    asker.unlike
+}
+
+/// The same of two sets.
+pub fn whole_two(comparison: &mut Comparison, calls: usize, seed: u64, fault: Fault) -> Option<String> {
+    let mut asker = Asker { comparison, random: Random::new(seed), fault, unlike: None };
+    while asker.comparison.calls < calls && !asker.comparison.stopped() {
+        asker.visit_pair();
     }
     asker.unlike
 }
@@ -68,6 +111,33 @@ struct Asker<'a> {
 }
 
 impl Asker<'_> {
+    /// All that is asked of one pair of sets, and of one of them by itself.
+    fn visit_pair(&mut self) {
+        let (full, high, serial) =
+            if self.random.percent(80) { valid_pair(&mut self.random) } else { any_pair(&mut self.random) };
+        if self.random.percent(5) {
+            // a set of a pair is none that is lent alone
+            let alone = Arc::new(Lent::new(full.clone(), serial.clone(), self.fault));
+            let image = any_image(&mut self.random);
+            self.comparison.ask(&alone, Call::Open { image });
+        }
+        let lent = Arc::new(Lent::two(full, high, serial, self.fault));
+        let image = any_image(&mut self.random);
+        self.comparison.ask(&lent, Call::TwoOpen { image });
+        self.events(&lent);
+    }
+
+    fn events(&mut self, lent: &Arc<Lent>) {
+        match &lent.opened {
+            Ok(boards) => {
+                self.run_from_power_on(lent, boards);
+                self.single_events(lent, boards);
+                self.reorder(lent, boards);
+            }
+            Err(_) => self.refused_events(lent),
+        }
+    }
+
     /// All that is asked of one set.
     fn visit(&mut self) {
         let (set, serial) = if self.random.percent(70) {
@@ -79,38 +149,37 @@ impl Asker<'_> {
         let lent = Arc::new(Lent::new(set, serial, self.fault));
         let image = any_image(&mut self.random);
         self.comparison.ask(&lent, Call::Open { image });
-        match &lent.opened {
-            Ok(board) => {
-                self.run_from_power_on(&lent, board);
-                self.single_events(&lent, board);
-                self.reorder(&lent, board);
-            }
-            Err(_) => self.refused_events(&lent),
-        }
-        self.packets();
+        self.events(&lent);
     }
 
-    /// By the call for the event or by its number; where there is neither, a setup of no bytes stands in.
+    /// By a call for the event or by its number; where there is neither, a setup of no bytes stands in.
     fn send(&mut self, lent: &Arc<Lent>, image: &[u8], event: &Event) -> Outcome {
+        if lent.high.is_some() {
+            let call = questions::two_event(image, event, &mut self.random);
+            return self.comparison.ask(lent, call);
+        }
         let by_number = questions::numbered(image, event, &mut self.random);
-        let call = match Call::event(image, event) {
-            Some(call) if by_number.is_none() || self.random.percent(70) => call,
+        let mut calls = Call::event(image, event);
+        let call = match calls.is_empty() {
+            false if by_number.is_none() || self.random.percent(70) => {
+                calls.swap_remove(self.random.below(calls.len()))
+            }
             _ => by_number.unwrap_or(Call::Event { image: image.to_vec(), event: Event::Setup(Vec::new()) }),
         };
         self.comparison.ask(lent, call)
     }
 
     /// Enumerated as a host does, mostly, and then whatever comes.
-    fn run_from_power_on(&mut self, lent: &Arc<Lent>, board: &Board) {
+    fn run_from_power_on(&mut self, lent: &Arc<Lent>, boards: &Boards) {
         let mut image = Record::fresh().image();
-        let mut events = enumeration(board, &mut self.random);
+        let mut events = enumeration(boards, &mut self.random);
         events.truncate(self.random.between(0, 14));
         for event in &events {
             image = self.send(lent, &image, event).image;
         }
         for _ in 0..self.random.between(0, 20) {
             let Some(record) = Record::read(&image) else { return };
-            let event = questions::event(board, &record, &mut self.random);
+            let event = questions::event(boards.in_use(record.speed), &record, &mut self.random);
             image = self.send(lent, &image, &event).image;
         }
         self.count_endpoints(lent, &image);
@@ -125,14 +194,19 @@ impl Asker<'_> {
     }
 
     fn ask_endpoint(&mut self, lent: &Arc<Lent>, image: &[u8], number: u8) -> bool {
-        self.comparison.ask(lent, Call::Endpoint { image: image.to_vec(), number }).number == 0
+        let image = image.to_vec();
+        let call = match lent.high {
+            Some(_) => Call::TwoEndpoint { image, number },
+            None => Call::Endpoint { image, number },
+        };
+        self.comparison.ask(lent, call).number == 0
     }
 
-    fn single_events(&mut self, lent: &Arc<Lent>, board: &Board) {
+    fn single_events(&mut self, lent: &Arc<Lent>, boards: &Boards) {
         for _ in 0..self.random.between(5, 30) {
-            let image = questions::image(Some(board), &mut self.random);
+            let image = questions::image(Some(boards), &mut self.random);
             let record = Record::read(&image).unwrap_or(Record::fresh());
-            let event = questions::event(board, &record, &mut self.random);
+            let event = questions::event(boards.in_use(record.speed), &record, &mut self.random);
             self.send(lent, &image, &event);
             let number = self.random.pick(&[0, 0, 1, 2, 3, 7, 29, 30, 255]);
             self.ask_endpoint(lent, &image, number);
@@ -147,7 +221,7 @@ impl Asker<'_> {
             let setup = Event::Setup(self.random.bytes(length));
             let kinds = [
                 Event::StatusEnd,
-                Event::BusReset,
+                Event::BusReset(questions::reset_speed(&mut self.random)),
                 Event::Halt(address),
                 Event::PacketPassed(address),
                 Event::Power(questions::power_source(&mut self.random)),
@@ -172,8 +246,9 @@ impl Asker<'_> {
     }
 
     /// The events of two interfaces, each in its own order, put together in two ways: ends and answers are equal.
-    fn reorder(&mut self, lent: &Arc<Lent>, board: &Board) {
-        let record = fitting(board, &mut self.random);
+    fn reorder(&mut self, lent: &Arc<Lent>, boards: &Boards) {
+        let record = fitting(boards, &mut self.random);
+        let board = boards.in_use(record.speed);
         let interfaces = record.selected(board).map_or(0, |selected| usize::from(selected.interface_count));
         if interfaces < 2 {
             return;

@@ -2,31 +2,62 @@
 
 use std::io::{self, BufReader, BufWriter, Write};
 
-use crate::call::{nothing_lent, Call};
+use crate::call::Call;
 use crate::events::Lent;
 use crate::fault::Fault;
 use crate::protocol::{Command, Response};
 
+/// What is lent, opened as one set and as a pair when a call first asks.
+struct Blocks {
+    set: Vec<u8>,
+    high: Vec<u8>,
+    serial: Vec<u8>,
+    alone: Option<Lent>,
+    pair: Option<Lent>,
+    fault: Fault,
+}
+
+impl Blocks {
+    fn lend(&mut self, set: Vec<u8>, high: Vec<u8>, serial: Vec<u8>) {
+        *self = Blocks { set, high, serial, alone: None, pair: None, fault: self.fault };
+    }
+
+    fn answer(&mut self, call: &Call) -> Response {
+        let (set, serial, fault) = (&self.set, &self.serial, self.fault);
+        let outcome = match call {
+            // the set to be trimmed comes with the call
+            Call::Trim { set } => call.answer(&Lent::new(set.clone(), serial.clone(), fault)),
+            Call::TwoOpen { .. } | Call::TwoEvent { .. } | Call::TwoEndpoint { .. } => {
+                let opened = || Lent::two(set.clone(), self.high.clone(), serial.clone(), fault);
+                call.answer(self.pair.get_or_insert_with(opened))
+            }
+            _ => call.answer(self.alone.get_or_insert_with(|| Lent::new(set.clone(), serial.clone(), fault))),
+        };
+        Response::of(call, &outcome)
+    }
+}
+
 pub fn serve(fault: Fault) -> io::Result<()> {
     let mut commands = BufReader::with_capacity(1 << 16, io::stdin().lock());
     let mut responses = BufWriter::with_capacity(1 << 16, io::stdout().lock());
-    let mut lent = nothing_lent(fault);
+    let (set, high, serial) = (Vec::new(), Vec::new(), Vec::new());
+    let mut lent = Blocks { set, high, serial, alone: None, pair: None, fault };
     loop {
         // the other side may wait for what is still held back here
         if commands.buffer().is_empty() {
             responses.flush()?;
         }
+        let Blocks { set, high, serial, .. } = &mut lent;
+        let (set, high, serial) = (std::mem::take(set), std::mem::take(high), std::mem::take(serial));
         match Command::read(&mut commands)? {
             None => return responses.flush(),
-            Some(Command::Set(set)) => lent = Lent::new(set, lent.serial, fault),
-            Some(Command::Serial(serial)) => lent = Lent::new(lent.set, serial, fault),
-            // the set to be trimmed comes with the call
-            Some(Command::Call(Call::Trim { set })) => {
-                let lent = Lent::new(set.clone(), lent.serial.clone(), fault);
-                let call = Call::Trim { set };
-                Response::of(&call, &call.answer(&lent)).write(&mut responses)?;
+            Some(Command::Set(set)) => lent.lend(set, high, serial),
+            Some(Command::Serial(serial)) => lent.lend(set, high, serial),
+            Some(Command::High(high)) => lent.lend(set, high, serial),
+            Some(Command::Call(call)) => {
+                (lent.set, lent.high, lent.serial) = (set, high, serial);
+                lent.answer(&call).write(&mut responses)?;
             }
-            Some(Command::Call(call)) => Response::of(&call, &call.answer(&lent)).write(&mut responses)?,
         }
     }
 }

@@ -7,10 +7,10 @@ use crate::fault::Fault;
 use crate::lister::list;
 use crate::octets::{from_hex, hex};
 use crate::packets;
-use crate::record::Record;
+use crate::record::{Record, FULL_SPEED};
 
 /// The requests of document 02 that change old answers and have landed.
-const LANDED: [&str; 3] = ["l2", "l6", "l12"];
+const LANDED: [&str; 4] = ["l2", "l6", "l12", "l7"];
 
 /// What is lent from now on, and the record for the next question.
 struct Script {
@@ -67,7 +67,11 @@ impl Script {
     fn lend(&mut self, line: &str) -> Option<()> {
         let (what, rest) = line.split_once(' ')?;
         match (what, rest) {
-            ("#", _) | ("high", "none") => return Some(()),
+            ("#", _) => return Some(()),
+            ("high", "none") => {
+                self.relend(self.lent.set.clone(), None, self.lent.serial.clone());
+                return Some(());
+            }
             ("rules", _) => {
                 self.carries_over = false;
                 self.landed = rest.split(' ').all(|rule| LANDED.contains(&rule));
@@ -77,18 +81,31 @@ impl Script {
         }
         let bytes = from_hex(rest)?;
         match what {
-            "set" => self.lent = Lent::new(bytes, self.lent.serial.clone(), Fault::None),
-            "serial" => self.lent = Lent::new(self.lent.set.clone(), bytes, Fault::None),
+            "set" => self.relend(bytes, self.lent.high.clone(), self.lent.serial.clone()),
+            "high" => self.relend(self.lent.set.clone(), Some(bytes), self.lent.serial.clone()),
+            "serial" => self.relend(self.lent.set.clone(), self.lent.high.clone(), bytes),
             "record" => self.record = bytes,
             _ => return None,
         }
         Some(())
     }
 
+    fn relend(&mut self, set: Vec<u8>, high: Option<Vec<u8>>, serial: Vec<u8>) {
+        self.lent = match high {
+            Some(high) => Lent::two(set, high, serial, Fault::None),
+            None => Lent::new(set, serial, Fault::None),
+        };
+    }
+
+    fn lends_two(&self) -> bool {
+        self.lent.high.is_some()
+    }
+
     fn tell(&mut self, question: &str) -> Option<Told> {
         let words: Vec<&str> = question.split(' ').collect();
         let told = |text: String| Some(Told { text, calls: Vec::new() });
         match words[0] {
+            "open" if self.lends_two() => Some(self.tell_call(Call::TwoOpen { image: self.record.clone() })),
             "open" => Some(self.tell_call(Call::Open { image: self.record.clone() })),
             "event" if self.landed => Some(self.tell_event(&event(&words[1..])?)),
             "packet" => {
@@ -107,7 +124,12 @@ impl Script {
             "trim" => Some(self.tell_call(Call::Trim { set: self.lent.set.clone() })),
             "endpoint" => {
                 let number = words.get(1)?.parse().ok()?;
-                Some(self.tell_call(Call::Endpoint { image: self.record.clone(), number }))
+                let image = self.record.clone();
+                let call = match self.lends_two() {
+                    true => Call::TwoEndpoint { image, number },
+                    false => Call::Endpoint { image, number },
+                };
+                Some(self.tell_call(call))
             }
             "count" => tell_count(&numbers(&words[1..])?),
             "list" => told(hex(list(&self.lent.set, &self.lent.serial, Fault::None).as_bytes())),
@@ -120,7 +142,9 @@ impl Script {
     fn tell_call(&mut self, call: Call) -> Told {
         let outcome = call.answer(&self.lent);
         let text = call.answer_words(&outcome);
-        if self.carries_over && matches!(call, Call::Open { .. } | Call::Event { .. } | Call::Numbered { .. }) {
+        let leaves_record =
+            !matches!(call, Call::Endpoint { .. } | Call::TwoEndpoint { .. }) && !call.image().is_empty();
+        if self.carries_over && leaves_record {
             self.record = outcome.image;
         }
         Told { text, calls: vec![call] }
@@ -128,21 +152,28 @@ impl Script {
 
     /// By every call that there is for it.
     fn tell_event(&mut self, event: &Event) -> Told {
-        let calls = [Call::event(&self.record, event), Call::numbered(&self.record, event)];
+        if self.lends_two() {
+            return self.tell_call(Call::two_event(&self.record, event));
+        }
+        let mut calls = Call::event(&self.record, event);
+        calls.extend(Call::numbered(&self.record, event));
         let told = self.tell_call(Call::Event { image: self.record.clone(), event: event.clone() });
-        Told { calls: calls.into_iter().flatten().collect(), ..told }
+        Told { calls, ..told }
     }
 
     fn fits(&self) -> bool {
         match (&self.lent.opened, Record::read(&self.record)) {
-            (Ok(board), Some(record)) => record.fits(board),
+            (Ok(boards), Some(record)) => record.fits(boards.in_use(record.speed)),
             _ => false,
         }
     }
 
     fn concerned(&self, event: &Event) -> String {
         let interface = match (&self.lent.opened, Record::read(&self.record)) {
-            (Ok(board), Some(record)) if record.fits(board) => concerned(board, &record, event),
+            (Ok(boards), Some(record)) => {
+                let board = boards.in_use(record.speed);
+                record.fits(board).then(|| concerned(board, &record, event)).flatten()
+            }
             _ => None,
         };
         interface.map_or("-".to_string(), |interface| interface.to_string())
@@ -154,7 +185,8 @@ fn event(words: &[&str]) -> Option<Event> {
     match *words.first()? {
         "setup" => Some(Event::Setup(from_hex(words.get(1)?)?)),
         "status" => Some(Event::StatusEnd),
-        "reset" => (words.len() == 1 || byte(1)? == 0).then_some(Event::BusReset),
+        "reset" if words.len() == 1 => Some(Event::BusReset(FULL_SPEED)),
+        "reset" => Some(Event::BusReset(byte(1)?)),
         "halt" => Some(Event::Halt(byte(1)?)),
         "passed" => Some(Event::PacketPassed(byte(1)?)),
         "power" => Some(Event::Power(byte(1)?)),
