@@ -1,2 +1,3 @@
 pub mod Image
 pub mod Fitting
+pub mod Putting
