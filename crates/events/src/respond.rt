@@ -5,14 +5,15 @@ use crate::facts::Facts;
 use crate::reaction::Reaction;
 use crate::reaction::done;
 use crate::reaction::refused;
+use crate::reaction::settling;
 use crate::standard;
 use records::Change;
 use records::Device;
-use records::Settings;
 use requests::Setup;
 ghost use mathlib.Core.Path.{_≡_};
 ghost use Prim.Native.Nat.{_<_};
 ghost use Rattle.sets.specs.View.{View};
+ghost use Rattle.records.specs.declared.Device.{Device};
 ghost use Rattle.records.specs.Device.{afterReset, withSuspended};
 ghost use Rattle.requests.specs.Table.{refusal};
 ghost use Rattle.events.specs.Answer.{done};
@@ -32,10 +33,10 @@ fn request(facts: Facts, device: Device, setup: Setup) -> Reaction
         0x00 => standard::get_status(facts, device, setup),
         0x01 => standard::clear_feature(facts, device, setup),
         0x03 => standard::set_feature(facts, device, setup),
-        0x05 => standard::set_address(device, setup),
-        0x06 => standard::get_descriptor(facts, device, setup),
+        0x05 => standard::set_address(setup),
+        0x06 => standard::get_descriptor(facts, setup),
         0x08 => standard::get_configuration(device),
-        0x09 => standard::set_configuration(facts, device, setup),
+        0x09 => standard::set_configuration(facts, setup),
         0x0a => standard::get_interface(facts, device, setup),
         _ => standard::set_interface(facts, device, setup),
     }
@@ -48,13 +49,10 @@ fn answer_setup(facts: Facts, device: Device, setup: Setup) -> Reaction
     ensures { λ r. ⌜ ((v : View) → Tells v device setup facts → outcomeOf r device ≡ answerSetup v device setup) ⌝ }
 {
     let number = requests::refusal(device.state, setup);
-    let mut settled = device;
-    settled.waiting = 255;
-    settled.suspended = 0;
     if number == 0 {
-        return request(facts, settled, setup);
+        return settling(request(facts, records::settled(device), setup));
     }
-    refused(number, settled)
+    settling(refused(number))
 }
 
 // The status stage of a request has ended: a waiting address is taken.
@@ -62,54 +60,39 @@ fn status_end(device: Device) -> Reaction
     ensures { λ r. ⌜ outcomeOf r device ≡ statusEnd device ⌝ }
 {
     let waiting = device.waiting;
-    let mut next = records::kept(device);
     if waiting == 255 {
-        return done(next);
+        return done(Change::Kept);
     }
-    next.state = (1 <= waiting) as u8;
-    next.address = waiting;
-    next.waiting = 255;
-    done(next)
+    done(Change::Address {
+        state: (1 <= waiting) as u8,
+        address: waiting,
+    })
 }
 
 // The bus was reset: the power source stays.
 fn bus_reset(device: Device) -> Reaction
     ensures { λ r. ⌜ outcomeOf r device ≡ done (afterReset device) ⌝ }
 {
-    done(Change {
-        state: 0,
-        address: 0,
-        waiting: 255,
-        configuration: 0,
-        wakeup: 0,
+    done(Change::Fresh {
         power: device.power,
-        suspended: 0,
-        speed: 0,
-        settings: Settings::Cleared,
-        halts: 0,
-        toggles: 0,
     })
 }
 
 // The power source has changed, or was found.
-fn power(source: u8, device: Device) -> Reaction
-    ensures { λ r. ⌜ outcomeOf r device ≡ power device source ⌝ }
+fn power(source: u8) -> Reaction
+    ensures { λ r. ⌜ ((d : Device) → outcomeOf r d ≡ power d source) ⌝ }
 {
     if source <= 1 {
-        let mut next = records::kept(device);
-        next.power = source;
-        return done(next);
+        return done(Change::Power(source));
     }
-    refused(16, device)
+    refused(16)
 }
 
 // The device is suspended from now on, or is not.
-fn suspended(on: bool, device: Device) -> Reaction
-    ensures { λ r. ⌜ outcomeOf r device ≡ done (withSuspended (digit on) device) ⌝ }
+fn suspended(on: bool) -> Reaction
+    ensures { λ r. ⌜ ((d : Device) → outcomeOf r d ≡ done (withSuspended (digit on) d)) ⌝ }
 {
-    let mut next = records::kept(device);
-    next.suspended = on as u8;
-    done(next)
+    done(Change::Suspended(on as u8))
 }
 
 // The device asks to wake the host: it may, if it is suspended and wakeup is on.
@@ -117,9 +100,9 @@ fn wake(device: Device) -> Reaction
     ensures { λ r. ⌜ outcomeOf r device ≡ wake device ⌝ }
 {
     if (device.suspended == 1) & (device.wakeup == 1) {
-        return done(records::kept(device));
+        return done(Change::Kept);
     }
-    refused(19, device)
+    refused(19)
 }
 
 // Every event.
@@ -132,14 +115,14 @@ pub fn respond(facts: Facts, device: Device, event: Event) -> Reaction
     let endpoint = survey.endpoint;
     match event {
         Event::Request(setup) => answer_setup(facts, device, setup),
-        Event::Malformed => refused(9, device),
+        Event::Malformed => refused(9),
         Event::StatusEnd => status_end(device),
         Event::BusReset => bus_reset(device),
         Event::Halt(_) => endpoint::halt(endpoint, device),
         Event::PacketPassed(_) => endpoint::packet_passed(endpoint, device),
-        Event::Power(source) => power(source, device),
-        Event::Suspend => suspended(true, device),
-        Event::Resume => suspended(false, device),
+        Event::Power(source) => power(source),
+        Event::Suspend => suspended(true),
+        Event::Resume => suspended(false),
         Event::Wake => wake(device),
     }
 }

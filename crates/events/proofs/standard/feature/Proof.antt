@@ -8,7 +8,7 @@ device-feature-requires : tie.Need-device-feature-requires
 device-feature-requires c κs = search needs
 
 returns : tie.Need-returns
-returns c = λ v t. rw (eq-eqb _ _ (c .before .if1 .taken)) (c .device-feature .ensures v (t .waking))
+returns c = λ v t. rw (eq-eqb _ _ (c .before .if1 .taken)) (c .device-feature .ensures v _ (t .waking))
 
 refused-requires : tie.Need-refused-requires
 refused-requires c κs = search needs
