@@ -16,7 +16,7 @@ refused-requires c κs = search needs
 returns : tie.Need-returns
 returns c = let a = c .before .before .before .before .args in
     let b = lent (a .set .now) (a .serial .now) in
-    c .refused .ensures ∙ sym (set-refused b (a .device) (a .event) (ap (λ n. eqb n 0) (sym (c .before .before .before .before .pre)) ∙ ne-eqb _ _ (c .before .if1 .taken)))
+    rw (c .refused .ensures) (sym (set-refused b (a .device) (a .event) (ap (λ n. eqb n 0) (sym (c .before .before .before .before .pre)) ∙ ne-eqb _ _ (c .before .if1 .taken))))
 
 gather-requires : tie.Need-gather-requires
 gather-requires c κs = sym (c .before .before .before .pre) ∙ c .if1 .left
@@ -33,7 +33,7 @@ returns-2 c = let a = c .before .before .before .before .before .before .before 
     let opens = eq-eqb _ _ (sym (c .before .before .before .before .before .before .before .before .pre) ∙ c .before .before .before .before .before .if1 .left) in
     let t = c .before .before .before .before .gather .ensures in
     let fit = c .before .before .fits2 .ensures (viewOf b) (askedBy (questionOf (a .event))) (t .surveyed) (t .configured) (t .waking) in
-    c .refused2 .ensures ∙ sym (record-refused b (a .device) (a .event) opens (sym fit ∙ not-true _ (c .before .if2 .taken)))
+    rw (c .refused2 .ensures) (sym (record-refused b (a .device) (a .event) opens (sym fit ∙ not-true _ (c .before .if2 .taken))))
 
 respond-requires : tie.Need-respond-requires
 respond-requires c κs = let a = c .before .before .before .before .before .before .before .args in

@@ -6,11 +6,11 @@ use Rattle.steps.proofs.step_opened.Statement.{statement}
 react-requires : tie.Need-react-requires
 react-requires c κs = search needs
 
-changed-requires : tie.Need-changed-requires
-changed-requires c κs = search needs
+after-requires : tie.Need-after-requires
+after-requires c κs = search needs
 
 returns : tie.Need-returns
-returns c = rw (c .changed .ensures) (c .before .before .react .ensures)
+returns c = rw (c .after .ensures) (c .before .react .ensures)
 
 pub step-opened-spec : {M : Type 1} → statement M
-step-opened-spec = tie.close (tie.spec react-requires changed-requires returns)
+step-opened-spec = tie.close (tie.spec react-requires after-requires returns)
