@@ -1,6 +1,7 @@
 // The C interface: every function of include/heideklonk.h, and nothing else.
 use events::Answer;
 use events::Event;
+use records::Change;
 use records::Device;
 ghost use mathlib.Core.Path.{_≡_};
 ghost use Rattle.sets.specs.Opening.{lent};
@@ -23,7 +24,7 @@ pub extern "C" fn hk_open(set: &[u8], serial: &[u8], image: &mut [u8]) -> u8
     if image.len() != 32 {
         return 8;
     }
-    records::store(records::fresh(), image);
+    records::renewal::renew(image, false, Change::Fresh { power: 0, speed: 0 });
     steps::opening(set, serial)
 }
 
@@ -41,17 +42,9 @@ fn happen(
     ensures answer { λ r. ⌜ r ≡ eventIn number (viewIn paired (now (set .entry)) (now (serial .entry))) (now (image .entry)) what .answer ⌝ }
     ensures image { λ _. ⌜ now (image .exit) ≡ eventIn number (viewIn paired (now (set .entry)) (now (serial .entry))) (now (image .entry)) what .image ⌝ }
 {
-    if image.len() != 32 {
-        if number == 0 {
-            return Answer::Refused(8);
-        }
-        return Answer::Refused(7);
-    }
-    let was = records::load(image);
-    let reaction = steps::react(number, paired, set, serial, was, what);
+    let reaction = steps::react(number, paired, set, serial, records::read(image), what);
     let change = reaction.next;
-    let next = records::changed(change, was);
-    records::store(next, image);
+    records::renewal::renew(image, reaction.settles, change);
     reaction.answer
 }
 

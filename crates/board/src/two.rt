@@ -2,6 +2,7 @@
 use crate::endpoint;
 use crate::numbers;
 use events::reply;
+use records::Change;
 ghost use Rattle.sets.specs.Opening.{lentTwo};
 ghost use Rattle.board.specs.Exports.{Opens, spotOf, spotsTwo, numbered, AnswersImage, GivesEndpoint};
 
@@ -13,7 +14,7 @@ pub extern "C" fn hk_two_open(full: &[u8], high: &[u8], serial: &[u8], image: &m
     if image.len() != 32 {
         return 8;
     }
-    records::store(records::fresh(), image);
+    records::renewal::renew(image, false, Change::Fresh { power: 0, speed: 0 });
     pairs::opening_two(full, high, serial)
 }
 

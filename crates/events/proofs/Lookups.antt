@@ -1,7 +1,7 @@
 -- What a lookup tells of the board. No axiom.
 use Prim.Native.Nat.{ℕ, zero, suc, _%_, _≤_, _<_}
 use native.Mathlib.Omega.{arith}
-use mathlib.Core.Path.{_≡_, refl}
+use mathlib.Core.Path.{_≡_, refl, ap, _∙_}
 use mathlib.Core.Bool.{Bool, true, false, _&&_, not}
 use mathlib.Core.Option.{Option, some, none}
 use lib.Dec.{eqb, leb}
@@ -14,11 +14,15 @@ use Rattle.descriptors.specs.Lookup.{found}
 use Rattle.sets.specs.View.{View}
 use Rattle.records.specs.declared.Device.{Device}
 use Rattle.records.specs.Device.{inDefault, inAddress, testWaits, settled}
+use Rattle.records.specs.Change.{after}
 use Rattle.records.specs.Fits.{goodWaiting}
 use Rattle.requests.specs.declared.Setup.{Setup}
 use Rattle.events.specs.declared.facts.Facts.{Facts}
+use Rattle.events.specs.declared.reaction.Reaction.{Reaction}
+use Rattle.events.specs.declared.Outcome.{Outcome}
+use Rattle.events.specs.Answer.{gives}
 use Rattle.events.specs.Requests.{digit}
-use Rattle.events.specs.Facts.{Tells}
+use Rattle.events.specs.Facts.{Tells, outcomeOf}
 
 -- ---- an endpoint that was looked up
 pub is-there : (o : Option Endpoint) {e : Endpoint} → found o ≡ At e → o ≡ some e
@@ -61,3 +65,11 @@ settles t = record {
   configuration = t .configuration;
   located = t .located;
 }
+
+-- ---- a reaction at the settled record is one that settles first
+pub settling : (d : Device) {o : Outcome} (r : Reaction) → outcomeOf r (settled d) ≡ o → outcomeOf (record { answer = r .answer; settles = true; next = r .next }) d ≡ o
+settling d r q = ap (gives (r .answer)) (go (r .settles)) ∙ q
+  where
+    go : (b : Bool) → after true (r .next) d ≡ after b (r .next) (settled d)
+    go true = refl
+    go false = refl

@@ -50,14 +50,16 @@ pub fn with_halt(on: bool, device: Device, endpoint: Endpoint) -> Change
     ensures { λ r. ⌜ changed r device ≡ withHalt on device (bitOf (endpoint .address)) ⌝ }
 {
     let k = bit_of(endpoint.address);
-    let mut next = records::kept(device);
     if on {
-        next.halts = octets::set_bit(device.halts, k);
-        return next;
+        return Change::Endpoints {
+            halts: octets::set_bit(device.halts, k),
+            toggles: device.toggles,
+        };
     }
-    next.halts = octets::clear_bit(device.halts, k);
-    next.toggles = octets::clear_bit(device.toggles, k);
-    next
+    Change::Endpoints {
+        halts: octets::clear_bit(device.halts, k),
+        toggles: octets::clear_bit(device.toggles, k),
+    }
 }
 
 // An endpoint's toggle flips, and the device is awake.
@@ -65,10 +67,9 @@ fn with_toggle(device: Device, endpoint: Endpoint) -> Change
     ensures { λ r. ⌜ changed r device ≡ awake (withEndpoints (device .alternates) (device .halts) (flipBit (device .toggles) (bitOf (endpoint .address))) device) ⌝ }
 {
     let k = bit_of(endpoint.address);
-    let mut next = records::kept(device);
-    next.toggles = octets::flip_bit(device.toggles, k);
-    next.suspended = 0;
-    next
+    Change::Passed {
+        toggles: octets::flip_bit(device.toggles, k),
+    }
 }
 
 // A word with the bits of some endpoints cleared.
@@ -83,12 +84,12 @@ pub fn halt(endpoint: EndpointFound, device: Device) -> Reaction
     ensures { λ r. ⌜ ((v : View) (a : ℕ) → endpoint ≡ found (endpointAt v device a) → outcomeOf r device ≡ halt v device a) ⌝ }
 {
     match endpoint {
-        EndpointFound::Nothing => refused(16, device),
+        EndpointFound::Nothing => refused(16),
         EndpointFound::At(e) => {
             if can_halt(e) {
                 return done(with_halt(true, device, e));
             }
-            refused(16, device)
+            refused(16)
         }
     }
 }
@@ -98,14 +99,14 @@ pub fn packet_passed(endpoint: EndpointFound, device: Device) -> Reaction
     ensures { λ r. ⌜ ((v : View) (a : ℕ) → endpoint ≡ found (endpointAt v device a) → outcomeOf r device ≡ packetPassed v device a) ⌝ }
 {
     match endpoint {
-        EndpointFound::Nothing => refused(16, device),
+        EndpointFound::Nothing => refused(16),
         EndpointFound::At(e) => {
             let fit = can_halt(e);
             let halted = is_halted(device, e);
             if fit & !halted {
                 return done(with_toggle(device, e));
             }
-            refused(16, device)
+            refused(16)
         }
     }
 }

@@ -5,15 +5,16 @@ use crate::facts::Facts;
 use crate::reaction::Reaction;
 use crate::reaction::done;
 use crate::reaction::refused;
+use crate::reaction::settling;
 use crate::standard;
 use records::Change;
 use records::Device;
-use records::Settings;
 use requests::Setup;
 ghost use mathlib.Core.Path.{_≡_};
 ghost use Prim.Native.Nat.{_<_};
 ghost use Rattle.sets.specs.View.{View};
 ghost use mathlib.Core.Bool.{true};
+ghost use Rattle.records.specs.declared.Device.{Device};
 ghost use Rattle.records.specs.Device.{withSuspended};
 ghost use Rattle.records.specs.Fits.{goodWaiting};
 ghost use Rattle.events.specs.Answer.{done};
@@ -33,10 +34,10 @@ fn request(facts: Facts, device: Device, setup: Setup) -> Reaction
         0x00 => standard::get_status(facts, device, setup),
         0x01 => standard::clear_feature(facts, device, setup),
         0x03 => standard::set_feature(facts, device, setup),
-        0x05 => standard::set_address(device, setup),
-        0x06 => standard::get_descriptor(facts, device, setup),
+        0x05 => standard::set_address(setup),
+        0x06 => standard::get_descriptor(facts, setup),
         0x08 => standard::get_configuration(device),
-        0x09 => standard::set_configuration(facts, device, setup),
+        0x09 => standard::set_configuration(facts, setup),
         0x0a => standard::get_interface(facts, device, setup),
         _ => standard::set_interface(facts, device, setup),
     }
@@ -76,18 +77,15 @@ fn answer_setup(facts: Facts, device: Device, setup: Setup) -> Reaction
     requires { ⌜ device .power < 2 ⌝ }
     ensures { λ r. ⌜ ((v : View) → Tells v device setup facts → outcomeOf r device ≡ answerSetup v device setup) ⌝ }
 {
-    let mut settled = device;
-    settled.waiting = 255;
-    settled.suspended = 0;
     if 2 <= device.speed {
-        return refused(17, settled);
+        return settling(refused(17));
     }
     let paired = facts.paired;
     let number = requests::refusal(state_for(paired, device, setup), setup_for(paired, setup));
     if number == 0 {
-        return request(facts, settled, setup);
+        return settling(request(facts, records::settled(device), setup));
     }
-    refused(number, settled)
+    settling(refused(number))
 }
 
 // The status stage of a request has ended: a waiting address is taken, a waiting test mode is entered.
@@ -96,18 +94,17 @@ fn status_end(device: Device) -> Reaction
     ensures { λ r. ⌜ outcomeOf r device ≡ statusEnd device ⌝ }
 {
     let waiting = device.waiting;
-    let mut next = records::kept(device);
     if waiting == 255 {
-        return done(next);
+        return done(Change::Kept);
     }
-    next.waiting = 255;
     if 128 <= waiting {
-        next.speed = 1 + 16 * (waiting - 128);
-        return done(next);
+        let speed = 1 + 16 * (waiting - 128);
+        return done(Change::TestMode(speed));
     }
-    next.state = (1 <= waiting) as u8;
-    next.address = waiting;
-    done(next)
+    done(Change::Address {
+        state: (1 <= waiting) as u8,
+        address: waiting,
+    })
 }
 
 // The bus was reset, to a speed that the board has: the power source stays. An entered test mode stays as it is.
@@ -116,44 +113,31 @@ fn bus_reset(paired: bool, speed: u8, device: Device) -> Reaction
 {
     if (speed == 0) | (paired & (speed == 1)) {
         if 2 <= device.speed {
-            return done(records::kept(device));
+            return done(Change::Kept);
         }
-        return done(Change {
-            state: 0,
-            address: 0,
-            waiting: 255,
-            configuration: 0,
-            wakeup: 0,
+        return done(Change::Fresh {
             power: device.power,
-            suspended: 0,
             speed,
-            settings: Settings::Cleared,
-            halts: 0,
-            toggles: 0,
         });
     }
-    refused(16, device)
+    refused(16)
 }
 
 // The power source has changed, or was found.
-fn power(source: u8, device: Device) -> Reaction
-    ensures { λ r. ⌜ outcomeOf r device ≡ power device source ⌝ }
+fn power(source: u8) -> Reaction
+    ensures { λ r. ⌜ ((d : Device) → outcomeOf r d ≡ power d source) ⌝ }
 {
     if source <= 1 {
-        let mut next = records::kept(device);
-        next.power = source;
-        return done(next);
+        return done(Change::Power(source));
     }
-    refused(16, device)
+    refused(16)
 }
 
 // The device is suspended from now on, or is not.
-fn suspended(on: bool, device: Device) -> Reaction
-    ensures { λ r. ⌜ outcomeOf r device ≡ done (withSuspended (digit on) device) ⌝ }
+fn suspended(on: bool) -> Reaction
+    ensures { λ r. ⌜ ((d : Device) → outcomeOf r d ≡ done (withSuspended (digit on) d)) ⌝ }
 {
-    let mut next = records::kept(device);
-    next.suspended = on as u8;
-    done(next)
+    done(Change::Suspended(on as u8))
 }
 
 // The device asks to wake the host: it may, if it is suspended and wakeup is on.
@@ -161,9 +145,9 @@ fn wake(device: Device) -> Reaction
     ensures { λ r. ⌜ outcomeOf r device ≡ wake device ⌝ }
 {
     if (device.suspended == 1) & (device.wakeup == 1) {
-        return done(records::kept(device));
+        return done(Change::Kept);
     }
-    refused(19, device)
+    refused(19)
 }
 
 // Every event.
@@ -177,14 +161,14 @@ pub fn respond(facts: Facts, device: Device, event: Event) -> Reaction
     let endpoint = survey.endpoint;
     match event {
         Event::Request(setup) => answer_setup(facts, device, setup),
-        Event::Malformed => refused(9, device),
+        Event::Malformed => refused(9),
         Event::StatusEnd => status_end(device),
         Event::BusReset(speed) => bus_reset(facts.paired, speed, device),
         Event::Halt(_) => endpoint::halt(endpoint, device),
         Event::PacketPassed(_) => endpoint::packet_passed(endpoint, device),
-        Event::Power(source) => power(source, device),
-        Event::Suspend => suspended(true, device),
-        Event::Resume => suspended(false, device),
+        Event::Power(source) => power(source),
+        Event::Suspend => suspended(true),
+        Event::Resume => suspended(false),
         Event::Wake => wake(device),
     }
 }

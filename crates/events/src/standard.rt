@@ -11,13 +11,11 @@ use crate::reaction::refused;
 use descriptors::lookup::EndpointFound;
 use records::Change;
 use records::Device;
-use records::Settings;
 use requests::Setup;
 ghost use mathlib.Core.Path.{_≡_};
 ghost use Prim.Native.Nat.{_<_, min};
 ghost use Rattle.sets.specs.View.{View, hasValue, wakes};
-ghost use Rattle.records.specs.Device.{withConfiguration};
-ghost use Rattle.records.specs.Change.{changed};
+ghost use Rattle.records.specs.declared.Device.{Device};
 ghost use Rattle.events.specs.Requests.{digit, getStatus, deviceFeature, setTestMode, endpointFeature, clearFeature, setFeature, setAddress, locate, getDescriptor, getConfiguration, setConfiguration, getInterface, setInterface};
 ghost use Rattle.events.specs.Facts.{Tells, withHalt, feature, outcomeOf};
 
@@ -29,41 +27,33 @@ pub fn get_status(facts: Facts, device: Device, setup: Setup) -> Reaction
 {
     let recipient = setup.bmRequestType % 32;
     if recipient == 0 {
-        return gives(
-            Answer::TwoBytes(device.power + 2 * device.wakeup, 0),
-            device,
-        );
+        return gives(Answer::TwoBytes(device.power + 2 * device.wakeup, 0));
     }
     if recipient == 1 {
         if facts.interface {
-            return gives(Answer::TwoBytes(0, 0), device);
+            return gives(Answer::TwoBytes(0, 0));
         }
-        return refused(13, device);
+        return refused(13);
     }
     if endpoint::is_zero(setup.wIndex) {
-        return gives(Answer::TwoBytes(0, 0), device);
+        return gives(Answer::TwoBytes(0, 0));
     }
     let survey = facts.survey;
     let asked = survey.endpoint;
     match asked {
-        EndpointFound::Nothing => refused(13, device),
-        EndpointFound::At(e) => gives(
-            Answer::TwoBytes(endpoint::is_halted(device, e) as u8, 0),
-            device,
-        ),
+        EndpointFound::Nothing => refused(13),
+        EndpointFound::At(e) => gives(Answer::TwoBytes(endpoint::is_halted(device, e) as u8, 0)),
     }
 }
 
 // The device's feature: wakeup, if the device can wake the host.
-fn device_feature(on: bool, facts: Facts, device: Device, setup: Setup) -> Reaction
-    ensures { λ r. ⌜ ((v : View) → facts .waking ≡ wakes v → outcomeOf r device ≡ deviceFeature (digit on) v device setup) ⌝ }
+fn device_feature(on: bool, facts: Facts, setup: Setup) -> Reaction
+    ensures { λ r. ⌜ ((v : View) (d : Device) → facts .waking ≡ wakes v → outcomeOf r d ≡ deviceFeature (digit on) v d setup) ⌝ }
 {
     if (setup.wValue == 1) & facts.waking {
-        let mut next = records::kept(device);
-        next.wakeup = on as u8;
-        return done(next);
+        return done(Change::Wakeup(on as u8));
     }
-    refused(14, device)
+    refused(14)
 }
 
 // The test mode that wIndex's high byte selects: it waits for the status end, at high speed alone.
@@ -72,11 +62,10 @@ fn set_test_mode(device: Device, setup: Setup) -> Reaction
 {
     let selector = setup.wIndex / 256;
     if (device.speed == 1) & (1 <= selector) & (selector <= 5) {
-        let mut next = records::kept(device);
-        next.waiting = 128 + selector as u8;
-        return done(next);
+        let waiting = 128 + selector as u8;
+        return done(Change::Waiting(waiting));
     }
-    refused(14, device)
+    refused(14)
 }
 
 // An endpoint's feature: its halt.
@@ -84,17 +73,17 @@ fn endpoint_feature(on: bool, facts: Facts, device: Device, setup: Setup) -> Rea
     ensures { λ r. ⌜ ((v : View) → Tells v device setup facts → outcomeOf r device ≡ endpointFeature (withHalt on) v device setup) ⌝ }
 {
     if endpoint::is_zero(setup.wIndex) {
-        return refused(14, device);
+        return refused(14);
     }
     let survey = facts.survey;
     let asked = survey.endpoint;
     match asked {
-        EndpointFound::Nothing => refused(13, device),
+        EndpointFound::Nothing => refused(13),
         EndpointFound::At(e) => {
             if (setup.wValue == 0) & endpoint::can_halt(e) {
                 return done(endpoint::with_halt(on, device, e));
             }
-            refused(14, device)
+            refused(14)
         }
     }
 }
@@ -108,13 +97,13 @@ fn feature(on: bool, facts: Facts, device: Device, setup: Setup) -> Reaction
         if on & (facts.paired & (setup.wValue == 2)) {
             return set_test_mode(device, setup);
         }
-        return device_feature(on, facts, device, setup);
+        return device_feature(on, facts, setup);
     }
     if recipient == 1 {
         if facts.interface {
-            return refused(14, device);
+            return refused(14);
         }
-        return refused(13, device);
+        return refused(13);
     }
     endpoint_feature(on, facts, device, setup)
 }
@@ -134,13 +123,11 @@ pub fn set_feature(facts: Facts, device: Device, setup: Setup) -> Reaction
 }
 
 // SET_ADDRESS: the address waits for the status end.
-pub fn set_address(device: Device, setup: Setup) -> Reaction
+pub fn set_address(setup: Setup) -> Reaction
     requires { ⌜ setup .wValue < 256 ⌝ }
-    ensures { λ r. ⌜ ((v : View) → outcomeOf r device ≡ setAddress v device setup) ⌝ }
+    ensures { λ r. ⌜ ((v : View) (d : Device) → outcomeOf r d ≡ setAddress v d setup) ⌝ }
 {
-    let mut next = records::kept(device);
-    next.waiting = setup.wValue as u8;
-    done(next)
+    done(Change::Waiting(setup.wValue as u8))
 }
 
 fn least(a: usize, b: u16) -> usize
@@ -153,20 +140,20 @@ fn least(a: usize, b: u16) -> usize
 }
 
 // GET_DESCRIPTOR: never more than wLength bytes, from the start of the body.
-pub fn get_descriptor(facts: Facts, device: Device, setup: Setup) -> Reaction
-    ensures { λ r. ⌜ ((v : View) → facts .located ≡ locate v setup → outcomeOf r device ≡ getDescriptor v device setup) ⌝ }
+pub fn get_descriptor(facts: Facts, setup: Setup) -> Reaction
+    ensures { λ r. ⌜ ((v : View) (d : Device) → facts .located ≡ locate v setup → outcomeOf r d ≡ getDescriptor v d setup) ⌝ }
 {
     let located = facts.located;
     match located {
         Located::Body { offset, length } => {
             let length = least(length, setup.wLength);
-            gives(Answer::SetPart { offset, length }, device)
+            gives(Answer::SetPart { offset, length })
         }
         Located::Serial { length } => {
             let length = least(length, setup.wLength);
-            gives(Answer::SerialPart { length }, device)
+            gives(Answer::SerialPart { length })
         }
-        Located::Nowhere => refused(13, device),
+        Located::Nowhere => refused(13),
     }
 }
 
@@ -174,41 +161,22 @@ pub fn get_descriptor(facts: Facts, device: Device, setup: Setup) -> Reaction
 pub fn get_configuration(device: Device) -> Reaction
     ensures { λ r. ⌜ ((v : View) (s : Setup) → outcomeOf r device ≡ getConfiguration v device s) ⌝ }
 {
-    gives(Answer::OneByte(device.configuration), device)
-}
-
-// Another state and configuration, with every setting, halt and toggle 0.
-fn with_configuration(state: u8, value: u8, device: Device) -> Change
-    ensures { λ r. ⌜ changed r device ≡ withConfiguration state value device ⌝ }
-{
-    Change {
-        state,
-        address: device.address,
-        waiting: device.waiting,
-        configuration: value,
-        wakeup: device.wakeup,
-        power: device.power,
-        suspended: device.suspended,
-        speed: device.speed,
-        settings: Settings::Cleared,
-        halts: 0,
-        toggles: 0,
-    }
+    gives(Answer::OneByte(device.configuration))
 }
 
 // SET_CONFIGURATION by value; 0 leads to Address.
-pub fn set_configuration(facts: Facts, device: Device, setup: Setup) -> Reaction
+pub fn set_configuration(facts: Facts, setup: Setup) -> Reaction
     requires { ⌜ setup .wValue < 256 ⌝ }
-    ensures { λ r. ⌜ ((v : View) → facts .configuration ≡ hasValue (record { 0 = setup .wValue }) (v .configurations) → outcomeOf r device ≡ setConfiguration v device setup) ⌝ }
+    ensures { λ r. ⌜ ((v : View) (d : Device) → facts .configuration ≡ hasValue (record { 0 = setup .wValue }) (v .configurations) → outcomeOf r d ≡ setConfiguration v d setup) ⌝ }
 {
     let value = setup.wValue as u8;
     if value == 0 {
-        return done(with_configuration(1, 0, device));
+        return done(Change::Configuration { state: 1, value: 0 });
     }
     if facts.configuration {
-        return done(with_configuration(2, value, device));
+        return done(Change::Configuration { state: 2, value });
     }
-    refused(13, device)
+    refused(13)
 }
 
 // GET_INTERFACE
@@ -218,9 +186,9 @@ pub fn get_interface(facts: Facts, device: Device, setup: Setup) -> Reaction
     if facts.interface {
         let alternates = device.alternates;
         let alternate = octets::peek(&alternates[..], setup.wIndex as usize);
-        return gives(Answer::OneByte(alternate), device);
+        return gives(Answer::OneByte(alternate));
     }
-    refused(13, device)
+    refused(13)
 }
 
 // SET_INTERFACE: halts and toggles of the endpoints of the old and the new setting are cleared. A setting that is there has small numbers.
@@ -229,23 +197,12 @@ pub fn set_interface(facts: Facts, device: Device, setup: Setup) -> Reaction
 {
     let survey = facts.survey;
     if survey.there {
-        let settings = Settings::Put {
+        return done(Change::Setting {
             interface: (setup.wIndex % 16) as u8,
             alternate: (setup.wValue % 16) as u8,
-        };
-        return done(Change {
-            state: device.state,
-            address: device.address,
-            waiting: device.waiting,
-            configuration: device.configuration,
-            wakeup: device.wakeup,
-            power: device.power,
-            suspended: device.suspended,
-            speed: device.speed,
-            settings,
             halts: endpoint::without(device.halts, survey.bits),
             toggles: endpoint::without(device.toggles, survey.bits),
         });
     }
-    refused(13, device)
+    refused(13)
 }

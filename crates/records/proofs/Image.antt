@@ -4,7 +4,7 @@ use native.Mathlib.Omega.{arith}
 use native.Mathlib.Nat.{add-zero, zero-add, le-of-eq, min-le-left, div-div-eq-div-mul}
 use mathlib.Core.Path.{_≡_, sym, ap, _∙_}
 use mathlib.Core.List.{List, [], _∷_, _++_, append-assoc, append-nil}
-use lib.ListN.{length, take, drop, length-append, length-take, length-drop, take-append-drop, drop-of-length-le}
+use lib.ListN.{length, set, take, drop, length-append, length-take, length-drop, take-append-drop, drop-of-length-le}
 use lib.Seq.{drop-cons, drop-drop, getD-append-add, take-at, take-length}
 use Rattle.octets.specs.Octets.{byte, part}
 use Rattle.records.specs.declared.Device.{Device}
@@ -40,6 +40,11 @@ pub spelled : (n : ℕ) (bytes : List ℕ) → length bytes ≡ n → bytes ≡ 
 spelled n bytes e =
     let past : length bytes ≤ n + 0 = omega arith in
     window-drop n 0 bytes (omega arith) ∙ rw (drop-of-length-le bytes past, append-nil)
+
+-- four bytes, written one by one
+pub all-set : (bytes : List ℕ) (a b c d : ℕ) → length bytes ≡ 4 → set (set (set (set bytes 0 a) 1 b) 2 c) 3 d ≡ a ∷ b ∷ c ∷ d ∷ []
+unfolding window
+all-set bytes a b c d h = rw (spelled 4 bytes h)
 
 -- ---- a number of four bytes
 four-at : (xs ys : List ℕ) (k : ℕ) → length xs ≡ k → fourBytes (xs ++ ys) k ≡ fourBytes ys 0

@@ -1,24 +1,50 @@
--- Working definitions: a record after an event, by what becomes of the sixteen alternate settings and by the value of each other field; no
--- promise cites them.
+-- Working definitions: a record after an event, by what the event changes of it; no promise cites them.
 use Prim.Native.Nat.{ℕ}
+use mathlib.Core.Bool.{Bool, true, false}
 use mathlib.Core.List.{List}
-use lib.ListN.{set}
-use lib.Dec.{ltb}
+use lib.ListN.{length, set}
+use lib.Dec.{eqb, ltb}
 use Rattle.octets.specs.Sentences.{pick}
 use Rattle.records.specs.declared.Device.{Device}
-use Rattle.records.specs.declared.Settings.{Settings}
-use Rattle.records.specs.declared.Settings.the-variants.{Kept, Cleared, Put}
 use Rattle.records.specs.declared.Change.{Change}
-use Rattle.records.specs.Device.{zeros}
+use Rattle.records.specs.declared.Change.the-variants.{Kept, Waiting, Wakeup, Power, Suspended, Address, Configuration, Setting, Endpoints, Passed, Fresh, TestMode}
+use Rattle.records.specs.Device.{nothing, fresh, withWaiting, withWakeup, withPower, withSpeed, withSuspended, awake, settled, withAddress, withConfiguration, withEndpoints}
+use Rattle.records.specs.Image.{deviceOf, imageOf}
 
-abbrev pub settingsAfter : Settings → List ℕ → List ℕ
-settingsAfter Kept alternates = alternates
-settingsAfter Cleared alternates = zeros
-settingsAfter (Put interface alternate) alternates = pick (ltb interface 16) (set alternates interface alternate) alternates
+-- the alternate settings with another one of interface j, if there is room for it
+abbrev pub withSetting : ℕ → ℕ → List ℕ → List ℕ
+withSetting j alternate alternates = pick (ltb j 16) (set alternates j alternate) alternates
 
 abbrev pub changed : Change → Device → Device
-changed c d = record { state = c .state; address = c .address; waiting = c .waiting; configuration = c .configuration; wakeup = c .wakeup; power = c .power; suspended = c .suspended; speed = c .speed; alternates = settingsAfter (c .settings) (d .alternates); halts = c .halts; toggles = c .toggles }
+changed Kept d = d
+changed (Waiting address) d = withWaiting address d
+changed (Wakeup on) d = withWakeup on d
+changed (Power source) d = withPower source d
+changed (Suspended on) d = withSuspended on d
+changed (Address state address) d = withAddress state address d
+changed (Configuration state value) d = withConfiguration state value d
+changed (Setting j alternate halts toggles) d = withEndpoints (withSetting j alternate (d .alternates)) halts toggles d
+changed (Endpoints halts toggles) d = withEndpoints (d .alternates) halts toggles d
+changed (Passed toggles) d = awake (withEndpoints (d .alternates) (d .halts) toggles d)
+changed (Fresh power speed) d = withSpeed speed (withPower power fresh)
+changed (TestMode speed) d = withSpeed speed (withWaiting nothing d)
 
--- nothing changes
-abbrev pub kept : Device → Change
-kept d = record { state = d .state; address = d .address; waiting = d .waiting; configuration = d .configuration; wakeup = d .wakeup; power = d .power; suspended = d .suspended; speed = d .speed; settings = Kept; halts = d .halts; toggles = d .toggles }
+-- settled first, or not
+abbrev pub settledIf : Bool → Device → Device
+settledIf true d = settled d
+settledIf false d = d
+
+abbrev pub after : Bool → Change → Device → Device
+after settles c d = changed c (settledIf settles d)
+
+-- ---- on images of any length
+-- a record that fits no set stands for an image of another length
+abbrev pub misfit : Device
+misfit = record { state = 255; address = 0; waiting = 255; configuration = 0; wakeup = 0; power = 0; suspended = 0; speed = 0; alternates = fresh .alternates; halts = 0; toggles = 0 }
+
+abbrev pub recordIn : List ℕ → Device
+recordIn image = pick (eqb (length image) 32) (deviceOf image) misfit
+
+-- the image after a change: of another length it stays
+unfoldable pub renewed : Bool → Change → List ℕ → List ℕ
+renewed settles c image = pick (eqb (length image) 32) (imageOf (after settles c (deviceOf image))) image

@@ -6,11 +6,13 @@ ghost use lib.ListN.{length};
 ghost use Rattle.descriptors.specs.declared.survey.Asked.{Asked};
 ghost use Rattle.descriptors.specs.Survey.{Surveys};
 ghost use Rattle.sets.specs.View.{View, hasValue, wakes};
-ghost use Rattle.records.specs.Device.{fresh, testWaits};
+ghost use Rattle.records.specs.Device.{fresh, settled, testWaits};
 ghost use Rattle.records.specs.Image.{fourBytes, bytesOfFour, deviceOf, imageOf};
-ghost use Rattle.records.specs.Change.{settingsAfter, changed, kept};
+ghost use Rattle.records.specs.Change.{withSetting, changed, after, misfit, recordIn};
 ghost use Rattle.records.specs.Current.{selected};
 ghost use Rattle.records.specs.Fits.{inRange, goodWaiting, goodState, fits};
+
+pub mod renewal;
 
 // In the order of its 32-byte image. state: 0 Default, 1 Address, 2 Configured; waiting: the address that the next status end
 // applies, or 128 plus the selector of the test mode that it enters, 255 for none; power: 0 bus, 1 own supply; suspended: 0 or 1; speed: 0 full, 1
@@ -30,26 +32,41 @@ pub struct Device {
     pub toggles: u32,
 }
 
-// What becomes of the alternate settings: they are kept, they become 0, or one interface gets another.
-pub enum Settings {
+// What an event changes of a record: nothing, or the fields that a variant names, which get these values. Small, so that it travels where the record would not.
+// Address: nothing waits any more; Configuration: every setting, halt and toggle becomes 0; Setting: one interface gets another; Passed: the device is awake, too;
+// Fresh: the fresh record, but for its power source and its speed; TestMode: byte 7 of an entered test mode, and nothing waits any more.
+pub enum Change {
     Kept,
-    Cleared,
-    Put { interface: u8, alternate: u8 },
-}
-
-// A record after an event, by what becomes of its alternate settings: no array, so that it travels in registers.
-pub struct Change {
-    pub state: u8,
-    pub address: u8,
-    pub waiting: u8,
-    pub configuration: u8,
-    pub wakeup: u8,
-    pub power: u8,
-    pub suspended: u8,
-    pub speed: u8,
-    pub settings: Settings,
-    pub halts: u32,
-    pub toggles: u32,
+    Waiting(u8),
+    Wakeup(u8),
+    Power(u8),
+    Suspended(u8),
+    Address {
+        state: u8,
+        address: u8,
+    },
+    Configuration {
+        state: u8,
+        value: u8,
+    },
+    Setting {
+        interface: u8,
+        alternate: u8,
+        halts: u32,
+        toggles: u32,
+    },
+    Endpoints {
+        halts: u32,
+        toggles: u32,
+    },
+    Passed {
+        toggles: u32,
+    },
+    Fresh {
+        power: u8,
+        speed: u8,
+    },
+    TestMode(u8),
 }
 
 pub fn fresh() -> Device
@@ -70,65 +87,91 @@ pub fn fresh() -> Device
     }
 }
 
-// Nothing changes.
-pub fn kept(device: Device) -> Change
-    ensures { λ r. ⌜ r ≡ kept device ⌝ }
+// What a setup settles: nothing waits any more, and the device is awake.
+pub fn settled(device: Device) -> Device
+    ensures { λ r. ⌜ r ≡ settled device ⌝ }
 {
-    Change {
-        state: device.state,
-        address: device.address,
-        waiting: device.waiting,
-        configuration: device.configuration,
-        wakeup: device.wakeup,
-        power: device.power,
-        suspended: device.suspended,
-        speed: device.speed,
-        settings: Settings::Kept,
-        halts: device.halts,
-        toggles: device.toggles,
-    }
+    let mut next = device;
+    next.waiting = 255;
+    next.suspended = 0;
+    next
 }
 
-// The alternate settings after a change.
-fn settings_after(settings: Settings, alternates: [u8; 16]) -> [u8; 16]
-    ensures { λ r. ⌜ r ≡ settingsAfter settings alternates ⌝ }
+// The alternate settings with another one of an interface.
+fn with_setting(interface: u8, alternate: u8, alternates: [u8; 16]) -> [u8; 16]
+    ensures { λ r. ⌜ r ≡ withSetting interface alternate alternates ⌝ }
 {
-    match settings {
-        Settings::Kept => alternates,
-        Settings::Cleared => [0; 16],
-        Settings::Put {
-            interface,
-            alternate,
-        } => {
-            let mut next = alternates;
-            if interface < 16 {
-                next[interface as usize] = alternate;
-            }
-            next
-        }
+    let mut next = alternates;
+    if interface < 16 {
+        next[interface as usize] = alternate;
     }
+    next
 }
 
 // The record after a change.
 pub fn changed(change: Change, device: Device) -> Device
     ensures { λ r. ⌜ r ≡ changed change device ⌝ }
 {
-    let settings = change.settings;
-    let was = device.alternates;
-    let alternates = settings_after(settings, was);
-    Device {
-        state: change.state,
-        address: change.address,
-        waiting: change.waiting,
-        configuration: change.configuration,
-        wakeup: change.wakeup,
-        power: change.power,
-        suspended: change.suspended,
-        speed: change.speed,
-        alternates,
-        halts: change.halts,
-        toggles: change.toggles,
+    let mut next = device;
+    match change {
+        Change::Kept => {}
+        Change::Waiting(address) => next.waiting = address,
+        Change::Wakeup(on) => next.wakeup = on,
+        Change::Power(source) => next.power = source,
+        Change::Suspended(on) => next.suspended = on,
+        Change::Address { state, address } => {
+            next.state = state;
+            next.address = address;
+            next.waiting = 255;
+        }
+        Change::Configuration { state, value } => {
+            next.state = state;
+            next.configuration = value;
+            next.alternates = [0; 16];
+            next.halts = 0;
+            next.toggles = 0;
+        }
+        Change::Setting {
+            interface,
+            alternate,
+            halts,
+            toggles,
+        } => {
+            let was = next.alternates;
+            let alternates = with_setting(interface, alternate, was);
+            next.alternates = alternates;
+            next.halts = halts;
+            next.toggles = toggles;
+        }
+        Change::Endpoints { halts, toggles } => {
+            next.halts = halts;
+            next.toggles = toggles;
+        }
+        Change::Passed { toggles } => {
+            next.suspended = 0;
+            next.toggles = toggles;
+        }
+        Change::Fresh { power, speed } => {
+            next = fresh();
+            next.power = power;
+            next.speed = speed;
+        }
+        Change::TestMode(speed) => {
+            next.waiting = 255;
+            next.speed = speed;
+        }
     }
+    next
+}
+
+// The record after an event: of what a setup settles, if it is one, what is changed.
+pub fn after(settles: bool, change: Change, device: Device) -> Device
+    ensures { λ r. ⌜ r ≡ after settles change device ⌝ }
+{
+    if settles {
+        return changed(change, settled(device));
+    }
+    changed(change, device)
 }
 
 // The number of four bytes at k.
@@ -161,6 +204,25 @@ pub fn load(image: &[u8]) -> Device
         halts: four_bytes(image, 24),
         toggles: four_bytes(image, 28),
     }
+}
+
+// A record that fits no set: it stands for an image of another length.
+fn misfit() -> Device
+    ensures { λ r. ⌜ r ≡ misfit ⌝ }
+{
+    let mut none = fresh();
+    none.state = 255;
+    none
+}
+
+// The record of an image of any length.
+pub fn read(image: &[u8]) -> Device
+    ensures { λ r. ⌜ r ≡ recordIn (now (image .entry)) ⌝ }
+{
+    if image.len() == 32 {
+        return load(image);
+    }
+    misfit()
 }
 
 // A number as four bytes.

@@ -51,12 +51,12 @@ pub fn react(
     ensures { λ r. ⌜ outcomeOf r device ≡ stepIn number (viewIn paired (now (set .entry)) (now (serial .entry))) device event ⌝ }
 {
     if number != 0 {
-        return reaction::refused(7, device);
+        return reaction::refused(7);
     }
     let known = facts::gather(paired, set, serial, device, event);
     let survey = known.survey;
     if !records::fits(survey, known.configured, known.waking, paired, device) {
-        return reaction::refused(8, device);
+        return reaction::refused(8);
     }
     events::respond::respond(known, device, event)
 }
@@ -71,7 +71,7 @@ pub fn step_opened(number: u8, set: &[u8], serial: &[u8], device: Device, event:
     let next = reaction.next;
     Outcome {
         answer,
-        device: records::changed(next, device),
+        device: records::after(reaction.settles, next, device),
     }
 }
 

@@ -2,20 +2,17 @@
 use Prim.Native.Nat.{ℕ}
 use native.Mathlib.Nat.{le-of-eq}
 use mathlib.Core.Path.{_≡_, refl, sym, _∙_}
-use mathlib.Core.List.{List, [], _++_, append-assoc, append-nil}
+use mathlib.Core.List.{List, [], _++_, append-nil}
 use lib.ListN.{length, drop, length-append, drop-of-length-le}
-use lib.Seq.{take-at, drop-at, drop-drop}
+use lib.Seq.{drop-drop}
 use borrow.Rule.Slice.PartMut.{putMid}
 use Rattle.records.specs.declared.Device.{Device}
 use Rattle.records.specs.Image.{bytesOfFour, imageOf}
 use Rattle.records.proofs.Image.{front, copied, alternates-length}
+use Rattle.records.proofs.Putting.{put-after}
 use borrow.Author.Needs.{needs, length-unmapped}
 use Rattle.records.proofs.store.Statement.{statement}
 use Rattle.records.proofs.store.Tie as tie
-
--- a part written behind what is written already
-put-after : (p q m : List ℕ) (n k : ℕ) → length p ≡ n → putMid n k (p ++ q) m ≡ p ++ m ++ drop k q
-put-after p q m n k e = rw (take-at p q n e, drop-at p q n e) (sym (append-assoc p m (drop k q)))
 
 all-put : (f a h t image : List ℕ) → length f ≡ 8 → length a ≡ 16 → length h ≡ 4 → length image ≡ 32
     → putMid 28 4 (putMid 24 4 (putMid 8 16 (f ++ drop 8 image) a) h) t ≡ f ++ a ++ h ++ t

@@ -1,10 +1,6 @@
 -- `records::store_four` meets its contract. No axiom.
-use Prim.Native.Nat.{ℕ}
-use mathlib.Core.Path.{_≡_}
-use mathlib.Core.List.{List, [], _∷_}
-use lib.ListN.{length, set}
 use Rattle.records.specs.Image.{bytesOfFour}
-use Rattle.records.proofs.Image.{window, spelled}
+use Rattle.records.proofs.Image.{all-set}
 use borrow.Author.Needs.{needs}
 use Rattle.records.proofs.store_four.Statement.{statement}
 use Rattle.records.proofs.store_four.Tie as tie
@@ -35,10 +31,6 @@ slice-write-bytes-4 c = search needs
 
 same-length : tie.Need-same-length
 same-length c = search needs
-
-all-set : (bytes : List ℕ) (a b c d : ℕ) → length bytes ≡ 4 → set (set (set (set bytes 0 a) 1 b) 2 c) 3 d ≡ a ∷ b ∷ c ∷ d ∷ []
-unfolding window
-all-set bytes a b c d h = rw (spelled 4 bytes h)
 
 returns : tie.Need-returns
 unfolding bytesOfFour

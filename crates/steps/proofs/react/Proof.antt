@@ -13,7 +13,7 @@ refused-requires c κs = search needs
 
 returns : tie.Need-returns
 returns c = let a = c .before .before .before .before .args in
-    c .refused .ensures ∙ sym (set-refused (a .number) (viewIn (a .paired) (a .set .now) (a .serial .now)) (a .device) (a .event) (c .before .if1 .taken))
+    rw (c .refused .ensures) (sym (set-refused (a .number) (viewIn (a .paired) (a .set .now) (a .serial .now)) (a .device) (a .event) (c .before .if1 .taken)))
 
 gather-requires : tie.Need-gather-requires
 gather-requires c κs = c .before .before .before .pre (c .if1 .left)
@@ -29,7 +29,7 @@ returns-2 c = let a = c .before .before .before .before .before .before .before 
     let v = viewIn (a .paired) (a .set .now) (a .serial .now) in
     let t = c .before .before .before .before .gather .ensures in
     let fit = c .before .before .fits2 .ensures v (askedBy (questionOf (a .event))) (t .surveyed) (t .configured) (t .waking) refl in
-    c .refused2 .ensures ∙ sym (record-refused (a .number) v (a .device) (a .event) (c .before .before .before .before .before .if1 .left) (sym fit ∙ not-true _ (c .before .if2 .taken)))
+    rw (c .refused2 .ensures) (sym (record-refused (a .number) v (a .device) (a .event) (c .before .before .before .before .before .if1 .left) (sym fit ∙ not-true _ (c .before .if2 .taken))))
 
 respond-requires : tie.Need-respond-requires
 respond-requires c κs = let a = c .before .before .before .before .before .before .before .args in

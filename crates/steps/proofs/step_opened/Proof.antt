@@ -13,15 +13,15 @@ use Rattle.steps.proofs.step_opened.Statement.{statement}
 react-requires : tie.Need-react-requires
 react-requires c κs = λ z. (fullSpeed, sym (c .before .before .pre) ∙ z)
 
-changed-requires : tie.Need-changed-requires
-changed-requires c κs = search needs
+after-requires : tie.Need-after-requires
+after-requires c κs = search needs
 
 returns : tie.Need-returns
 returns c =
-    let start = c .before .before .before .before .before in
+    let start = c .before .before .before .before in
     let a = start .args in
     let b = lent (a .set .now) (a .serial .now) in
-    rw (c .changed .ensures) (c .before .before .react .ensures ∙ ap (λ (n : ℕ). stepIn n (viewIn false (a .set .now) (a .serial .now)) (a .device) (a .event)) (start .pre) ∙ sym (step-in b (a .device) (a .event)))
+    rw (c .after .ensures) (c .before .react .ensures ∙ ap (λ (n : ℕ). stepIn n (viewIn false (a .set .now) (a .serial .now)) (a .device) (a .event)) (start .pre) ∙ sym (step-in b (a .device) (a .event)))
 
 pub step-opened-spec : {M : Type 1} → statement M
-step-opened-spec = tie.close (tie.spec react-requires changed-requires returns)
+step-opened-spec = tie.close (tie.spec react-requires after-requires returns)

@@ -6,14 +6,11 @@ use Rattle.events.proofs.endpoint.with_toggle.Statement.{statement}
 bit-of-requires : tie.Need-bit-of-requires
 bit-of-requires c κs = search needs
 
-kept-requires : tie.Need-kept-requires
-kept-requires c κs = search needs
-
 flip-bit-requires : tie.Need-flip-bit-requires
 flip-bit-requires c κs = search needs
 
 returns : tie.Need-returns
-returns c = rw (c .flip-bit .ensures, c .before .kept .ensures, c .before .before .bit-of .ensures .0)
+returns c = rw (c .flip-bit .ensures, c .before .bit-of .ensures .0)
 
 pub with-toggle-spec : {M : Type 1} → statement M
-with-toggle-spec = tie.close (tie.spec bit-of-requires kept-requires flip-bit-requires returns)
+with-toggle-spec = tie.close (tie.spec bit-of-requires flip-bit-requires returns)

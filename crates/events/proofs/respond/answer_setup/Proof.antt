@@ -9,7 +9,7 @@ use Rattle.requests.specs.declared.Setup.{Setup}
 use Rattle.requests.specs.Table.{refusal}
 use Rattle.events.specs.Step.{stateFor, setupFor, refusalFor, answerSetup}
 use Rattle.events.proofs.Rows.{one-byte}
-use Rattle.events.proofs.Lookups.{settles}
+use Rattle.events.proofs.Lookups.{settles, settling}
 use Rattle.events.proofs.respond.answer_setup.Statement.{statement}
 use Rattle.events.proofs.respond.answer_setup.Tie as tie
 
@@ -21,9 +21,12 @@ judged paired known d s {tabled = t} k p q r = p ∙ ap (λ x. refusal x t) q �
 refused-requires : tie.Need-refused-requires
 refused-requires c κs = search needs
 
+settling-requires : tie.Need-settling-requires
+settling-requires c κs = search needs
+
 returns : tie.Need-returns
 unfolding answerSetup
-returns c = λ v t. rw (le-leb _ _ (c .before .if1 .taken)) (c .refused .ensures)
+returns c = λ v t. rw (le-leb _ _ (c .before .before .if1 .taken), c .settling .ensures, c .before .refused .ensures)
 
 state-for-requires : tie.Need-state-for-requires
 state-for-requires c κs = search needs
@@ -34,35 +37,53 @@ setup-for-requires c κs = search needs
 refusal-requires : tie.Need-refusal-requires
 refusal-requires c κs = search needs
 
+settled-requires : tie.Need-settled-requires
+settled-requires c κs = search needs
+
 request-requires : tie.Need-request-requires
 request-requires c κs =
-    let a = c .before .before .before .before .before .before .args in
+    let start = c .before .before .before .before .before .before .before in
+    let a = start .args in
     let paired = a .facts .paired in
-    let passed = judged paired paired (a .device) (a .setup) refl (c .before .refusal .ensures) (c .before .before .before .state-for .ensures) (c .before .before .setup-for .ensures) in
-    let pre = c .before .before .before .before .before .before .pre in
-    (pre .0, (pre .1, one-byte (stateFor paired (a .device) (a .setup)) (setupFor paired (a .setup)) (sym passed ∙ c .if2 .taken)))
+    let passed = judged paired paired (a .device) (a .setup) refl (c .before .before .refusal .ensures) (c .before .before .before .before .state-for .ensures) (c .before .before .before .setup-for .ensures) in
+    rw (c .settled .ensures) (start .pre .0, (start .pre .1, one-byte (stateFor paired (a .device) (a .setup)) (setupFor paired (a .setup)) (sym passed ∙ c .before .if2 .taken)))
+
+settling-requires-2 : tie.Need-settling-requires-2
+settling-requires-2 c κs = search needs
 
 returns-2 : tie.Need-returns-2
 unfolding answerSetup
-returns-2 c = λ v t. let a = c .before .before .before .before .before .before .before .args in rw (lt-leb _ _ (c .before .before .before .before .before .if1 .left), ← judged (v .paired) (a .facts .paired) (a .device) (a .setup) (t .paired) (c .before .before .refusal .ensures) (c .before .before .before .before .state-for .ensures) (c .before .before .before .setup-for .ensures), eq-eqb _ _ (c .before .if2 .taken)) (c .request .ensures v (settles t))
+returns-2 c = λ v t.
+    let a = c .before .before .before .before .before .before .before .before .before .args in
+    rw (lt-leb _ _ (c .before .before .before .before .before .before .before .if1 .left), ← judged (v .paired) (a .facts .paired) (a .device) (a .setup) (t .paired) (c .before .before .before .before .refusal .ensures) (c .before .before .before .before .before .before .state-for .ensures) (c .before .before .before .before .before .setup-for .ensures), eq-eqb _ _ (c .before .before .before .if2 .taken), c .settling2 .ensures)
+    (settling (a .device) (c .before .request .result) (rw (c .before .before .settled .ensures) at (c .before .request .ensures v (rw (c .before .before .settled .ensures) (settles t)))))
 
 refused-requires-2 : tie.Need-refused-requires-2
 refused-requires-2 c κs = search needs
 
+settling-requires-3 : tie.Need-settling-requires-3
+settling-requires-3 c κs = search needs
+
 returns-3 : tie.Need-returns-3
 unfolding answerSetup
-returns-3 c = λ v t. let a = c .before .before .before .before .before .before .before .args in rw (lt-leb _ _ (c .before .before .before .before .before .if1 .left), ← judged (v .paired) (a .facts .paired) (a .device) (a .setup) (t .paired) (c .before .before .refusal .ensures) (c .before .before .before .before .state-for .ensures) (c .before .before .before .setup-for .ensures), ne-eqb _ _ (c .before .if2 .left)) (c .refused2 .ensures)
+returns-3 c = λ v t.
+    let a = c .before .before .before .before .before .before .before .before .args in
+    rw (lt-leb _ _ (c .before .before .before .before .before .before .if1 .left), ← judged (v .paired) (a .facts .paired) (a .device) (a .setup) (t .paired) (c .before .before .before .refusal .ensures) (c .before .before .before .before .before .state-for .ensures) (c .before .before .before .before .setup-for .ensures), ne-eqb _ _ (c .before .before .if2 .left), c .settling3 .ensures, c .before .refused2 .ensures)
 
 pub answer-setup-spec : {M : Type 1} → statement M
 answer-setup-spec =
     tie.close
     (tie.spec
     refused-requires
+    settling-requires
     returns
     state-for-requires
     setup-for-requires
     refusal-requires
+    settled-requires
     request-requires
+    settling-requires-2
     returns-2
     refused-requires-2
+    settling-requires-3
     returns-3)

@@ -4,14 +4,11 @@ use borrow.Author.Tests.{le-leb, lt-leb}
 use Rattle.events.proofs.respond.bus_reset.Statement.{statement}
 use Rattle.events.proofs.respond.bus_reset.Tie as tie
 
-kept-requires : tie.Need-kept-requires
-kept-requires c κs = search needs
-
 done-requires : tie.Need-done-requires
 done-requires c κs = search needs
 
 returns : tie.Need-returns
-returns c = λ v p. rw (c .done .ensures, c .before .kept .ensures, ← p, c .before .before .before .before .if1 .taken, le-leb _ _ (c .before .before .if2 .taken))
+returns c = λ v p. rw (c .done .ensures, ← p, c .before .before .before .if1 .taken, le-leb _ _ (c .before .if2 .taken))
 
 done-requires-2 : tie.Need-done-requires-2
 done-requires-2 c κs = search needs
@@ -29,7 +26,6 @@ pub bus-reset-spec : {M : Type 1} → statement M
 bus-reset-spec =
     tie.close
     (tie.spec
-    kept-requires
     done-requires
     returns
     done-requires-2

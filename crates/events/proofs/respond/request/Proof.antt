@@ -54,11 +54,11 @@ returns-3 c = λ v t. let x = tests (c .before .match .keys3) in rw (x 0x00, x 0
 
 returns-4 : tie.Need-returns-4
 unfolding request
-returns-4 c = λ v t. let x = tests (c .before .match .keys4) in rw (x 0x00, x 0x01, x 0x03, x 0x05) (c .set-address .ensures v)
+returns-4 c = λ v t. let x = tests (c .before .match .keys4) in rw (x 0x00, x 0x01, x 0x03, x 0x05) (c .set-address .ensures v _)
 
 returns-5 : tie.Need-returns-5
 unfolding request
-returns-5 c = λ v t. let x = tests (c .before .match .keys5) in rw (x 0x00, x 0x01, x 0x03, x 0x05, x 0x06) (c .get-descriptor .ensures v (t .located (c .before .match .keys5)))
+returns-5 c = λ v t. let x = tests (c .before .match .keys5) in rw (x 0x00, x 0x01, x 0x03, x 0x05, x 0x06) (c .get-descriptor .ensures v _ (t .located (c .before .match .keys5)))
 
 returns-6 : tie.Need-returns-6
 unfolding request
@@ -66,7 +66,7 @@ returns-6 c = λ v t. let x = tests (c .before .match .keys6) in rw (x 0x00, x 0
 
 returns-7 : tie.Need-returns-7
 unfolding request
-returns-7 c = λ v t. let x = tests (c .before .match .keys7) in rw (x 0x00, x 0x01, x 0x03, x 0x05, x 0x06, x 0x08, x 0x09) (c .set-configuration .ensures v (t .configuration (c .before .match .keys7) (c .before .before .pre .1 .1 (or-right (eqb (c .before .before .args .setup .bRequest) 5) (eq-eqb _ _ (c .before .match .keys7))))))
+returns-7 c = λ v t. let x = tests (c .before .match .keys7) in rw (x 0x00, x 0x01, x 0x03, x 0x05, x 0x06, x 0x08, x 0x09) (c .set-configuration .ensures v _ (t .configuration (c .before .match .keys7) (c .before .before .pre .1 .1 (or-right (eqb (c .before .before .args .setup .bRequest) 5) (eq-eqb _ _ (c .before .match .keys7))))))
 
 returns-8 : tie.Need-returns-8
 unfolding request

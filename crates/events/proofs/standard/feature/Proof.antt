@@ -14,7 +14,7 @@ device-feature-requires : tie.Need-device-feature-requires
 device-feature-requires c κs = search needs
 
 returns-2 : tie.Need-returns-2
-returns-2 c = λ v t. rw (eq-eqb _ _ (c .before .before .before .before .if1 .taken), ← t .paired, c .before .if2 .left) (c .device-feature .ensures v (t .waking))
+returns-2 c = λ v t. rw (eq-eqb _ _ (c .before .before .before .before .if1 .taken), ← t .paired, c .before .if2 .left) (c .device-feature .ensures v _ (t .waking))
 
 refused-requires : tie.Need-refused-requires
 refused-requires c κs = search needs

@@ -9,7 +9,7 @@ gives-requires c κs = search needs
 
 returns : tie.Need-returns
 unfolding getConfiguration
-returns c = λ v s. c .gives .ensures
+returns c = λ v s. rw (c .gives .ensures)
 
 pub get-configuration-spec : {M : Type 1} → statement M
 get-configuration-spec = tie.close (tie.spec gives-requires returns)

@@ -30,15 +30,15 @@ refused-requires c κs = search needs
 
 returns : tie.Need-returns
 unfolding getDescriptor
-returns c = λ v e. rw (c .gives .ensures, c .before .least .ensures, ← e, c .before .before .before .located .given .1)
+returns c = λ v d e. rw (c .gives .ensures, c .before .least .ensures, ← e, c .before .before .before .located .given .1)
 
 returns-2 : tie.Need-returns-2
 unfolding getDescriptor
-returns-2 c = λ v e. rw (c .gives2 .ensures, c .before .least2 .ensures, ← e, c .before .before .before .located2 .given .1)
+returns-2 c = λ v d e. rw (c .gives2 .ensures, c .before .least2 .ensures, ← e, c .before .before .before .located2 .given .1)
 
 returns-3 : tie.Need-returns-3
 unfolding getDescriptor
-returns-3 c = λ v e. rw (c .refused .ensures, ← e, c .before .enum-told .given .1)
+returns-3 c = λ v d e. rw (c .refused .ensures, ← e, c .before .enum-told .given .1)
 
 pub get-descriptor-spec : {M : Type 1} → statement M
 get-descriptor-spec =

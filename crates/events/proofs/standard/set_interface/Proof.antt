@@ -11,11 +11,11 @@ use Rattle.events.proofs.Lookups.{small-mod}
 use Rattle.events.proofs.standard.set_interface.Tie as tie
 use Rattle.events.proofs.standard.set_interface.Statement.{statement}
 
-cast-t8 : tie.Need-cast-t8
-cast-t8 c = search needs
+cast-t7 : tie.Need-cast-t7
+cast-t7 c = search needs
 
-cast-t10 : tie.Need-cast-t10
-cast-t10 c = search needs
+cast-t9 : tie.Need-cast-t9
+cast-t9 c = search needs
 
 without-requires : tie.Need-without-requires
 without-requires c κs = search needs
@@ -45,8 +45,8 @@ pub set-interface-spec : {M : Type 1} → statement M
 set-interface-spec =
     tie.close
     (tie.spec
-    cast-t8
-    cast-t10
+    cast-t7
+    cast-t9
     without-requires
     without-requires-2
     done-requires

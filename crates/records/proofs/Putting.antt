@@ -1,0 +1,90 @@
+-- An image whose bytes are written one by one, or part by part. No axiom.
+use Prim.Native.Nat.{ℕ, zero, suc, _<_}
+use native.Mathlib.Omega.{arith}
+use native.Mathlib.Nat.{le-of-eq}
+use mathlib.Core.Path.{_≡_, refl, sym, ap, _∙_}
+use mathlib.Core.Bool.{Bool, true, false}
+use mathlib.Core.List.{List, [], _∷_, _++_, append-assoc, append-nil}
+use lib.ListN.{length, set, take, drop, replicate, getD, length-append, length-take, length-set, drop-of-length-le}
+use lib.Seq.{take-at, drop-at, drop-drop}
+use lib.Dec.{ltb}
+use Rattle.octets.specs.Sentences.{pick}
+use borrow.Author.Tests.{lt-ltb, le-ltb}
+use borrow.Rule.Slice.PartMut.{putMid}
+use Rattle.records.specs.declared.Device.{Device}
+use Rattle.records.specs.Device.{awake, withConfiguration, withEndpoints}
+use Rattle.records.specs.Image.{bytesOfFour, imageOf}
+use Rattle.records.specs.Change.{withSetting, settledIf}
+use Rattle.records.proofs.Image.{front}
+
+-- a byte that has the value already
+pub put-there : (l : List ℕ) (k v : ℕ) → getD l k 0 ≡ v → set l k v ≡ l
+put-there [] k v e = refl
+put-there (x ∷ l) zero v e = ap (λ (y : ℕ). y ∷ l) (sym e)
+put-there (x ∷ l) (suc k) v e = ap (λ (t : List ℕ). x ∷ t) (put-there l k v e)
+
+-- a byte written in a list that is known
+pub put-on : (k v : ℕ) {was after from : List ℕ} → after ≡ set was k v → was ≡ from → after ≡ set from k v
+put-on k v e p = e ∙ ap (λ (l : List ℕ). set l k v) p
+
+-- a list filled to its end
+pub filled : (l : List ℕ) (k : ℕ) → k ≡ length l → replicate k 0 ++ drop k l ≡ replicate (length l) 0
+filled l k e = rw (e, drop-of-length-le l (le-of-eq refl), append-nil)
+
+-- a part written behind what comes before it
+pub put-after : (p q m : List ℕ) (n k : ℕ) → length p ≡ n → putMid n k (p ++ q) m ≡ p ++ m ++ drop k q
+put-after p q m n k e = rw (take-at p q n e, drop-at p q n e) (sym (append-assoc p m (drop k q)))
+
+-- settling keeps the alternate settings
+pub settled-sixteen : (settles : Bool) (d : Device) → length (d .alternates) ≡ 16 → length (settledIf settles d .alternates) ≡ 16
+settled-sixteen true d e = e
+settled-sixteen false d e = e
+
+pub setting-sixteen : (j alternate : ℕ) (l : List ℕ) → length l ≡ 16 → length (withSetting j alternate l) ≡ 16
+setting-sixteen j alternate l e = go (ltb j 16)
+  where
+    go : (b : Bool) → length (pick b (set l j alternate) l) ≡ 16
+    go true = length-set l j alternate ∙ e
+    go false = e
+
+-- ---- the parts of an image
+module _ (d : Device) where
+  -- what lies behind the eight bytes
+  abbrev behind : List ℕ
+  behind = d .alternates ++ bytesOfFour (d .halts) ++ bytesOfFour (d .toggles)
+
+  pub cleared : length (imageOf d) ≡ 32 → (state value : ℕ) {image zeros : List ℕ} → image ≡ set (set (imageOf d) 0 state) 3 value → zeros ≡ replicate (length (take 24 (drop 8 image))) 0
+      → putMid 8 24 image zeros ≡ imageOf (withConfiguration state value d)
+  unfolding imageOf bytesOfFour
+  cleared long state value p q =
+      let f = state ∷ d .address ∷ d .waiting ∷ value ∷ d .wakeup ∷ d .power ∷ d .suspended ∷ d .speed ∷ [] in
+      let n : length behind ≡ 24 = omega (arith, long) in
+      let m : length (take 24 behind) ≡ 24 = rw (length-take, n) in
+      let past : drop 24 behind ≡ [] = drop-of-length-le behind (le-of-eq n) in
+      rw (q, p, m) (put-after f behind (replicate 24 0) 8 24 refl ∙ rw past)
+
+  module _ (sixteen : length (d .alternates) ≡ 16) where
+    words-at : length (front d ++ d .alternates) ≡ 24
+    words-at = rw (length-append (front d) (d .alternates), sixteen)
+
+    pub setting-put : (j alternate : ℕ) {image part : List ℕ} → j < 16 → image ≡ imageOf d → part ≡ set (take 16 (drop 8 image)) j alternate
+        → putMid 8 16 image part ≡ imageOf (withEndpoints (withSetting j alternate (d .alternates)) (d .halts) (d .toggles) d)
+    unfolding imageOf
+    setting-put j alternate {image} h p q =
+        let a = d .alternates in
+        let words = bytesOfFour (d .halts) ++ bytesOfFour (d .toggles) in
+        let e : image ≡ front d ++ (a ++ words) = p ∙ ap (λ (l : List ℕ). front d ++ l) (append-assoc a (bytesOfFour (d .halts)) (bytesOfFour (d .toggles))) in
+        let b = set a j alternate in
+        rw (q, e, take-at a words 16 sixteen, lt-ltb j 16 h)
+        (put-after (front d) (a ++ words) b 8 16 refl ∙ rw (drop-at a words 16 sixteen) (sym (append-assoc (front d ++ b) (bytesOfFour (d .halts)) (bytesOfFour (d .toggles)))))
+
+    pub toggles-put : (toggles : ℕ) {image part : List ℕ} → image ≡ imageOf d → part ≡ bytesOfFour toggles → putMid 28 4 image part ≡ imageOf (withEndpoints (d .alternates) (d .halts) toggles d)
+    unfolding imageOf bytesOfFour
+    toggles-put toggles p q =
+        let n : length (front d ++ d .alternates ++ bytesOfFour (d .halts)) ≡ 28 = rw (length-append (front d ++ d .alternates) (bytesOfFour (d .halts)), words-at) in
+        rw (p, q) (put-after (front d ++ d .alternates ++ bytesOfFour (d .halts)) (bytesOfFour (d .toggles)) (bytesOfFour toggles) 28 4 n ∙ append-nil _)
+
+    pub halts-put : (halts : ℕ) {image part : List ℕ} → image ≡ imageOf d → part ≡ bytesOfFour halts → putMid 24 4 image part ≡ imageOf (withEndpoints (d .alternates) halts (d .toggles) d)
+    unfolding imageOf bytesOfFour
+    halts-put halts p q =
+        rw (p ∙ append-assoc (front d ++ d .alternates) (bytesOfFour (d .halts)) (bytesOfFour (d .toggles)), q) (put-after (front d ++ d .alternates) (bytesOfFour (d .halts) ++ bytesOfFour (d .toggles)) (bytesOfFour halts) 24 4 words-at)

@@ -1,0 +1,30 @@
+-- `records::renewal::put_address` meets its contract: three bytes. No axiom.
+use Rattle.records.specs.Image.{imageOf}
+use Rattle.records.proofs.Putting.{put-on}
+use borrow.Author.Needs.{needs}
+use Rattle.records.proofs.renewal.put_address.Statement.{statement}
+use Rattle.records.proofs.renewal.put_address.Tie as tie
+
+put-requires : tie.Need-put-requires
+put-requires c κs = search needs
+
+put-requires-2 : tie.Need-put-requires-2
+put-requires-2 c κs = search needs
+
+put-requires-3 : tie.Need-put-requires-3
+put-requires-3 c κs = search needs
+
+same-length : tie.Need-same-length
+same-length c = search needs
+
+returns : tie.Need-returns
+unfolding imageOf
+returns c = λ d e.
+    let second = c .before .before .before .before in
+    let first = second .before .before .before .before in
+    let a = first .before .before .before .before .before .args in
+    put-on 2 255 (c .before .before .put3 .ensures) (put-on 1 (a .address) (second .before .before .put2 .ensures) (put-on 0 (a .state) (first .before .before .put .ensures) e))
+
+pub put-address-spec : {M : Type 1} → statement M
+put-address-spec =
+    tie.close (tie.spec put-requires put-requires-2 put-requires-3 same-length returns)

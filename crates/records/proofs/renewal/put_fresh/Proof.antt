@@ -1,0 +1,53 @@
+-- `records::renewal::put_fresh` meets its contract: every byte. No axiom.
+use Rattle.records.specs.Device.{withAddress}
+use Rattle.records.specs.Image.{imageOf}
+use Rattle.records.proofs.Putting.{put-on}
+use borrow.Author.Needs.{needs}
+use Rattle.records.proofs.renewal.put_fresh.Statement.{statement}
+use Rattle.records.proofs.renewal.put_fresh.Tie as tie
+
+put-address-requires : tie.Need-put-address-requires
+put-address-requires c κs = search needs
+
+put-configuration-requires : tie.Need-put-configuration-requires
+put-configuration-requires c κs = search needs
+
+put-requires : tie.Need-put-requires
+put-requires c κs = search needs
+
+put-requires-2 : tie.Need-put-requires-2
+put-requires-2 c κs = search needs
+
+put-requires-3 : tie.Need-put-requires-3
+put-requires-3 c κs = search needs
+
+put-requires-4 : tie.Need-put-requires-4
+put-requires-4 c κs = search needs
+
+same-length : tie.Need-same-length
+same-length c = search needs
+
+returns : tie.Need-returns
+unfolding imageOf
+returns c = λ d e.
+    let fifth = c .before .before .before .before in
+    let fourth = fifth .before .before .before .before in
+    let third = fourth .before .before .before .before in
+    let second = third .before .before .before .before in
+    let first = second .before .before .before .before in
+    let a = first .before .before .before .before .before .args in
+    put-on 7 (a .speed) (c .before .before .put4 .ensures) (put-on 6 0 (fifth .before .before .put3 .ensures) (put-on 5 (a .power) (fourth .before .before .put2 .ensures) (put-on 4 0 (third .before .before .put .ensures)
+    (second .before .before .put-configuration .ensures (withAddress 0 0 d) (first .before .before .put-address .ensures d e)))))
+
+pub put-fresh-spec : {M : Type 1} → statement M
+put-fresh-spec =
+    tie.close
+    (tie.spec
+    put-address-requires
+    put-configuration-requires
+    put-requires
+    put-requires-2
+    put-requires-3
+    put-requires-4
+    same-length
+    returns)

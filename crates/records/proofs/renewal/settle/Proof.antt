@@ -1,0 +1,27 @@
+-- `records::renewal::settle` meets its contract: two bytes, or none. No axiom.
+use Rattle.records.specs.Image.{imageOf}
+use Rattle.records.proofs.Putting.{put-on}
+use borrow.Author.Needs.{needs}
+use Rattle.records.proofs.renewal.settle.Statement.{statement}
+use Rattle.records.proofs.renewal.settle.Tie as tie
+
+put-requires : tie.Need-put-requires
+put-requires c κs = search needs
+
+put-requires-2 : tie.Need-put-requires-2
+put-requires-2 c κs = search needs
+
+same-length : tie.Need-same-length
+same-length c = search needs
+
+returns : tie.Need-returns
+unfolding imageOf
+returns c = λ d e.
+    let first = c .before .before .before .before in
+    rw (first .before .before .before .before .if1 .taken) (put-on 6 0 (c .before .before .put2 .ensures) (put-on 2 255 (first .before .before .put .ensures) e))
+
+returns-2 : tie.Need-returns-2
+returns-2 c = λ d e. rw (c .if1 .left) e
+
+pub settle-spec : {M : Type 1} → statement M
+settle-spec = tie.close (tie.spec put-requires put-requires-2 same-length returns returns-2)

@@ -1,0 +1,150 @@
+// The image renewed where it stands: of what an event changes, only bytes that differ are written.
+use crate::Change;
+ghost use mathlib.Core.Path.{_≡_};
+ghost use Prim.Native.Nat.{_<_};
+ghost use lib.ListN.{length, set, replicate};
+ghost use Rattle.records.specs.declared.Device.{Device};
+ghost use Rattle.records.specs.Device.{withAddress, withConfiguration, withEndpoints, withPower, withSpeed, fresh};
+ghost use Rattle.records.specs.Image.{bytesOfFour, imageOf};
+ghost use Rattle.records.specs.Change.{withSetting, settledIf, changed, renewed};
+
+// A byte gets a value: it is written if it has another.
+fn put(bytes: &mut [u8], k: usize, value: u8)
+    requires { ⌜ k < length (now bytes) ⌝ }
+    ensures { λ _. ⌜ now (bytes .exit) ≡ set (now (bytes .entry)) k value ⌝ }
+{
+    if bytes[k] != value {
+        bytes[k] = value;
+    }
+}
+
+// Four bytes become those of a number.
+fn put_four(bytes: &mut [u8], n: u32)
+    requires { ⌜ length (now bytes) ≡ 4 ⌝ }
+    ensures { λ _. ⌜ now (bytes .exit) ≡ bytesOfFour n ⌝ }
+{
+    put(bytes, 0, (n % 256) as u8);
+    put(bytes, 1, (n / 256 % 256) as u8);
+    put(bytes, 2, (n / 65536 % 256) as u8);
+    put(bytes, 3, (n / 16777216 % 256) as u8);
+}
+
+// Every byte becomes 0.
+fn clear(bytes: &mut [u8])
+    ensures { λ _. ⌜ now (bytes .exit) ≡ replicate (length (now (bytes .entry))) 0 ⌝ }
+{
+    let mut k = 0;
+    while k < bytes.len() {
+        put(bytes, k, 0);
+        k += 1;
+    }
+}
+
+// What a setup settles, if it is one.
+fn settle(image: &mut [u8], settles: bool)
+    requires { ⌜ length (now image) ≡ 32 ⌝ }
+    ensures { λ _. ⌜ ((d : Device) → now (image .entry) ≡ imageOf d → now (image .exit) ≡ imageOf (settledIf settles d)) ⌝ }
+{
+    if settles {
+        put(image, 2, 255);
+        put(image, 6, 0);
+    }
+}
+
+// Another state and address; nothing waits any more.
+fn put_address(image: &mut [u8], state: u8, address: u8)
+    requires { ⌜ length (now image) ≡ 32 ⌝ }
+    ensures { λ _. ⌜ ((d : Device) → now (image .entry) ≡ imageOf d → now (image .exit) ≡ imageOf (withAddress state address d)) ⌝ }
+{
+    put(image, 0, state);
+    put(image, 1, address);
+    put(image, 2, 255);
+}
+
+// Another state and configuration; every setting, halt and toggle becomes 0.
+fn put_configuration(image: &mut [u8], state: u8, value: u8)
+    requires { ⌜ length (now image) ≡ 32 ⌝ }
+    ensures { λ _. ⌜ ((d : Device) → now (image .entry) ≡ imageOf d → now (image .exit) ≡ imageOf (withConfiguration state value d)) ⌝ }
+{
+    put(image, 0, state);
+    put(image, 3, value);
+    clear(&mut image[8..32]);
+}
+
+// Another setting of one interface.
+fn put_setting(image: &mut [u8], interface: u8, alternate: u8)
+    requires { ⌜ length (now image) ≡ 32 ⌝ }
+    ensures { λ _. ⌜ ((d : Device) → length (d .alternates) ≡ 16 → now (image .entry) ≡ imageOf d
+        → now (image .exit) ≡ imageOf (withEndpoints (withSetting interface alternate (d .alternates)) (d .halts) (d .toggles) d)) ⌝ }
+{
+    if interface < 16 {
+        put(&mut image[8..24], interface as usize, alternate);
+    }
+}
+
+// Other halts and toggles.
+fn put_endpoints(image: &mut [u8], halts: u32, toggles: u32)
+    requires { ⌜ length (now image) ≡ 32 ⌝ }
+    ensures { λ _. ⌜ ((d : Device) → length (d .alternates) ≡ 16 → now (image .entry) ≡ imageOf d → now (image .exit) ≡ imageOf (withEndpoints (d .alternates) halts toggles d)) ⌝ }
+{
+    put_four(&mut image[24..28], halts);
+    put_four(&mut image[28..32], toggles);
+}
+
+// The fresh record, but for its power source and its speed.
+fn put_fresh(image: &mut [u8], power: u8, speed: u8)
+    requires { ⌜ length (now image) ≡ 32 ⌝ }
+    ensures { λ _. ⌜ ((d : Device) → now (image .entry) ≡ imageOf d → now (image .exit) ≡ imageOf (withSpeed speed (withPower power fresh))) ⌝ }
+{
+    put_address(image, 0, 0);
+    put_configuration(image, 0, 0);
+    put(image, 4, 0);
+    put(image, 5, power);
+    put(image, 6, 0);
+    put(image, 7, speed);
+}
+
+// What an event changes.
+fn apply(image: &mut [u8], change: Change)
+    requires { ⌜ length (now image) ≡ 32 ⌝ }
+    ensures { λ _. ⌜ ((d : Device) → length (d .alternates) ≡ 16 → now (image .entry) ≡ imageOf d → now (image .exit) ≡ imageOf (changed change d)) ⌝ }
+{
+    match change {
+        Change::Kept => {}
+        Change::Waiting(address) => put(image, 2, address),
+        Change::Wakeup(on) => put(image, 4, on),
+        Change::Power(source) => put(image, 5, source),
+        Change::Suspended(on) => put(image, 6, on),
+        Change::Address { state, address } => put_address(image, state, address),
+        Change::Configuration { state, value } => put_configuration(image, state, value),
+        Change::Setting {
+            interface,
+            alternate,
+            halts,
+            toggles,
+        } => {
+            put_setting(image, interface, alternate);
+            put_endpoints(image, halts, toggles);
+        }
+        Change::Endpoints { halts, toggles } => put_endpoints(image, halts, toggles),
+        Change::Passed { toggles } => {
+            put(image, 6, 0);
+            put_four(&mut image[28..32], toggles);
+        }
+        Change::Fresh { power, speed } => put_fresh(image, power, speed),
+        Change::TestMode(speed) => {
+            put(image, 2, 255);
+            put(image, 7, speed);
+        }
+    }
+}
+
+// The image after an event; of another length it stays.
+pub fn renew(image: &mut [u8], settles: bool, change: Change)
+    ensures { λ _. ⌜ now (image .exit) ≡ renewed settles change (now (image .entry)) ⌝ }
+{
+    if image.len() == 32 {
+        settle(image, settles);
+        apply(image, change);
+    }
+}
