@@ -8,7 +8,6 @@ use Rattle.descriptors.specs.declared.Limits.{Limits}
 use Rattle.descriptors.specs.Descriptor.{bInterfaceNumber, bAlternateSetting, bNumEndpoints, bEndpointAddress, bmAttributes, transferType, wMaxPacketSize}
 use Rattle.descriptors.specs.Interfaces.{Group}
 use Rattle.descriptors.specs.Configuration.{bConfigurationValue, bNumInterfaces, groupsOf}
-use Rattle.descriptors.specs.Limits.{fullSpeed}
 use Rattle.sets.specs.Contents.{bodies}
 use Rattle.sets.specs.Opening.{Board, opening}
 

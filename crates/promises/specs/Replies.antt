@@ -19,7 +19,7 @@ use Rattle.descriptors.proofs.HighSpeed.{control-64}
 use Rattle.sets.specs.declared.Entry.{Entry}
 use Rattle.sets.specs.Contents.{bodyOf, entriesOf}
 use Rattle.sets.specs.Device.{bMaxPacketSize0, goodDevice, goodDeviceEntries, headBody, deviceBody}
-use Rattle.sets.specs.Opening.{Board, goodDevices}
+use Rattle.sets.specs.Opening.{Board}
 use Rattle.sets.specs.View.{View, openingOf, accepted, wakes}
 use Rattle.records.specs.declared.Device.{Device}
 use Rattle.records.specs.Device.{atFullSpeed, atHighSpeed, inTestMode, settled}
@@ -39,7 +39,7 @@ use Rattle.events.specs.Answer.{numberOf, bytesOf, partOf, refused}
 use Rattle.events.specs.Requests.{byRecipient, isEndpointZero, deviceFeature, namesTestMode, testSelector, setDeviceFeature, interfaceFeature, endpointFeature, endpointStatus, haltFeature, clearHalt, setHalt, locate, describe, getStatus, clearFeature, setFeature, setAddress, getDescriptor, getConfiguration, setConfiguration, getInterface, setInterface}
 use Rattle.events.specs.Step.{request, stateFor, withIndex, setupFor, refusalFor, answerSetup, step, event, setupEvent}
 use Rattle.packets.specs.Packets.{canCut}
-use Rattle.sets.proofs.Groups.{groups}
+use Rattle.sets.proofs.Groups.{groups, one-device}
 use Rattle.laws.proofs.Outcomes.{ruled, chosen}
 use Rattle.promises.specs.Refusals.{eventNumber}
 
@@ -130,7 +130,7 @@ replyWithin b d s = chosen (Within (s .wLength)) (accepted b)
     (λ p. omega arith)
 
 -- the device descriptor of a set that opens
-goodDeviceOf : (limits : Limits) (set : List ℕ) (es : List Entry) → goodDeviceEntries limits set es ≡ true
+pub goodDeviceOf : (limits : Limits) (set : List ℕ) (es : List Entry) → goodDeviceEntries limits set es ≡ true
     → goodDevice limits (length (entriesOf 2 set)) (headBody set es) ≡ true
 goodDeviceOf limits set [] p = absurd (false≢true p)
 goodDeviceOf limits set (e ∷ []) p = both (eqb (e .index) 0 && eqb (e .language) 0) (goodDevice limits (length (entriesOf 2 set)) (bodyOf set e)) p .1
@@ -148,12 +148,11 @@ of-row (some set) speed p q = cases (eqb speed atFullSpeed)
 
 -- of the set in use
 pub sizeCuts : (b : Board) → accepted b ≡ true → (speed r w : ℕ) → r ≤ w → canCut r w (bMaxPacketSize0 (deviceBody (setFor b speed))) ≡ true
-unfolding goodDevices
 sizeCuts b ok speed r w l =
     let row = rowFor (b .high) speed in
     let set = setFor b speed in
     let device = deviceBody set in
-    let good = goodDeviceOf row set (entriesOf 1 set) (groups row (boardFor b speed) (opensFor b speed (eqb-true (openingOf b) 0 ok)) .devices) in
+    let good = goodDeviceOf row set (entriesOf 1 set) (one-device row (boardFor b speed) (groups row (boardFor b speed) (opensFor b speed (eqb-true (openingOf b) 0 ok)))) in
     let size = conjunct 3 (eqb (length device) 18 ∷ eqb (byte device 0) 18 ∷ eqb (byte device 1) 1 ∷ doubled (row .control) (bMaxPacketSize0 device) ∷ _ ∷ _ ∷ _ ∷ _ ∷ []) good in
     joined (of-row (b .high) speed (bMaxPacketSize0 device) size) (le-leb r w l)
 

@@ -9,7 +9,8 @@ use Rattle.events.specs.declared.Answer.the-variants.{Refused}
 use Rattle.events.specs.declared.Event.the-variants.{BusReset}
 use Rattle.events.specs.Step.{event}
 use Rattle.listing.specs.Listing.{listing, line, acceptedWord}
-use Rattle.promises.specs.Examples.{computed, Piece, piece, board, configuration, interface, endpoint, device, S}
+use Rattle.pieces.specs.Pieces.{Piece}
+use Rattle.promises.specs.Examples.{computed, piece, board, configuration, interface, endpoint, device, S}
 use Rattle.promises.specs.Rules.{Example, _opens_}
 use Rattle.promises.specs.Refusal.{freshImage}
 use Rattle.promises.specs.Kinds.{refusedEvents}
@@ -107,8 +108,8 @@ pub acceptedS3 : opening superSpeed S3 ≡ 0
 unfolding computed
 acceptedS3 = refl
 
-pub refusedS3 : event S3 freshImage BusReset .answer ≡ Refused 7
-refusedS3 = refusedEvents S3 acceptedS3 freshImage BusReset
+pub refusedS3 : event S3 freshImage (BusReset 0) .answer ≡ Refused 7
+refusedS3 = refusedEvents S3 acceptedS3 freshImage (BusReset 0)
 
 pub lists : listing superSpeed S3 ≡ line acceptedWord (1 ∷ []) ++ line (67 ∷ []) (1 ∷ 1 ∷ []) ++ line (73 ∷ []) (0 ∷ 0 ∷ 1 ∷ []) ++ line (69 ∷ []) (129 ∷ 3 ∷ 8 ∷ [])
 unfolding computed

@@ -11,7 +11,7 @@ use lib.Dec.{eqb, leb}
 use borrow.Author.Tests.{eq-eqb, ne-eqb, eqb-true, leb-true}
 use Rattle.octets.specs.Octets.{byte, part}
 use Rattle.octets.specs.Sentences.{pick, _⇒_, every, any, first, pairs, isSome}
-use Rattle.octets.proofs.Sentences.{cases, both, if-then, conjunct, every-map, every-member, only-member, first-some}
+use Rattle.octets.proofs.Sentences.{cases, if-then, conjunct, every-map, every-member, only-member, first-some}
 use Rattle.octets.proofs.Counting.{at-member}
 use Rattle.descriptors.specs.declared.Limits.{Limits}
 use Rattle.descriptors.specs.Cut.{cut, descriptorsOf, wellCut}
