@@ -4,9 +4,11 @@ use crate::dumps;
 use crate::endpoints;
 use crate::events::{Block, Event, Lent, Outcome, Part};
 use crate::fault::Fault;
+use crate::kind::Kind;
 use crate::octets::hex;
 use crate::packets;
 use crate::record::IMAGE_LENGTH;
+use crate::superspeed;
 use crate::trim;
 use crate::writer;
 
@@ -18,6 +20,8 @@ pub enum Call {
     Numbered { record: Vec<u8>, number: u8, value: u8, setup: Vec<u8> },
     Packet { reply_length: usize, asked: u16, size: u32, packet: u32 },
     Write { pieces: Vec<u8>, buffer: Vec<u8> },
+    SuperOpen { image: Vec<u8> },
+    SuperWrite { pieces: Vec<u8>, buffer: Vec<u8> },
     Import { dump: Vec<u8>, buffer: Vec<u8> },
     Export { buffer: Vec<u8> },
     /// The set that is lent, in a buffer of its own.
@@ -49,7 +53,11 @@ impl Call {
             Call::Packet { reply_length, asked, size, packet } => {
                 cut(packets::packet(*reply_length, *asked, *size, *packet, lent.fault))
             }
-            Call::Write { pieces, buffer } => writer::write(pieces, &lent.serial, buffer, lent.fault),
+            Call::Write { pieces, buffer } => writer::write(Kind::Alone, pieces, &lent.serial, buffer, lent.fault),
+            Call::SuperOpen { image } => superspeed::open_image(lent, image),
+            Call::SuperWrite { pieces, buffer } => {
+                writer::write(Kind::Super, pieces, &lent.serial, buffer, lent.fault)
+            }
             Call::Import { dump, buffer } => dumps::import(dump, buffer, lent.fault),
             Call::Export { buffer } => {
                 let opened = lent.opened.as_ref().map_err(|rule| rule.group());
@@ -72,6 +80,8 @@ impl Call {
                 format!("packet {reply_length} {asked} {size} {packet}")
             }
             Call::Write { pieces, buffer } => format!("write {} {}", hex(pieces), hex(buffer)),
+            Call::SuperOpen { .. } => "opensuper".to_string(),
+            Call::SuperWrite { pieces, buffer } => format!("writesuper {} {}", hex(pieces), hex(buffer)),
             Call::Import { dump, buffer } => format!("import {} {}", hex(dump), hex(buffer)),
             Call::Export { buffer } => format!("export {}", hex(buffer)),
             Call::Trim { .. } => "trim".to_string(),
@@ -82,7 +92,8 @@ impl Call {
     /// The image that is lent; packets and the makers' calls need none.
     pub fn image(&self) -> &[u8] {
         match self {
-            Call::Open { image } | Call::Event { image, .. } | Call::Numbered { record: image, .. } | Call::Endpoint { image, .. } => image,
+            Call::Open { image } | Call::SuperOpen { image } | Call::Event { image, .. } => image,
+            Call::Numbered { record: image, .. } | Call::Endpoint { image, .. } => image,
             _ => &[],
         }
     }
@@ -91,7 +102,7 @@ impl Call {
     pub fn answer_words(&self, outcome: &Outcome) -> String {
         let Outcome { number, bytes, part, image } = outcome;
         match self {
-            Call::Open { .. } => format!("{number} {}", hex(image)),
+            Call::Open { .. } | Call::SuperOpen { .. } => format!("{number} {}", hex(image)),
             Call::Event { .. } | Call::Numbered { .. } => {
                 format!("{number} {} {} {}", hex(bytes), part_words(*part), hex(image))
             }
@@ -99,7 +110,7 @@ impl Call {
                 let (offset, length) = part.map_or((0, 0), |part| (part.offset, part.length));
                 format!("{number} {offset} {length}")
             }
-            Call::Write { .. } | Call::Import { .. } | Call::Export { .. } | Call::Trim { .. } => {
+            Call::Write { .. } | Call::SuperWrite { .. } | Call::Import { .. } | Call::Export { .. } | Call::Trim { .. } => {
                 format!("{number} {} {}", part.map_or(0, |part| part.length), hex(image))
             }
             Call::Endpoint { .. } => format!("{number} {}", part_words(*part)),

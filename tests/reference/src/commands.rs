@@ -13,6 +13,7 @@ use crate::makers;
 use crate::octets::kebab;
 use crate::runs;
 use crate::serve::serve;
+use crate::super_draft;
 use crate::vectors;
 
 const DEFAULT_SETS: usize = 100_000;
@@ -20,6 +21,7 @@ const DEFAULT_CALLS: usize = 200_000;
 const DEFAULT_WRITES: usize = 50_000;
 const DEFAULT_DUMPS: usize = 50_000;
 const DEFAULT_TRIMS: usize = 50_000;
+const DEFAULT_SUPERS: usize = 100_000;
 
 /// The numbers that opening gives back, and all of them.
 const OPENING_NUMBERS: [u8; 7] = [0, 1, 2, 3, 4, 5, 6];
@@ -32,12 +34,15 @@ pub const USAGE: &str = "\
 reference vectors [--least N] FILE..            answers every question of the files, at least N (1) in each, and compares
 reference run-vectors --program CMD [--least N] FILE..
                                                 the same, and through a harness
-reference compare --program CMD [--sets N] [--calls N] [--writes N] [--dumps N] [--trims N] [--seed S] [--fault NAME]
+reference compare --program CMD [--sets N] [--calls N] [--writes N] [--dumps N] [--trims N] [--supers N] [--seed S]
+                  [--fault NAME]
                                                 sets through opening, calls over the whole boundary, or both; streams of pieces; dumps; sets to trim;
+                                                SuperSpeed sets, opened and written;
                                                 from 100,000 sets and 200,000 calls on each rule and number must be reached
 reference faults --program CMD [--seed S]       every planted fault must be noticed
 reference serve [--fault NAME]                  the reference in a harness's place
 reference list SET SERIAL [--fault NAME]        the lister's text for two files
+reference list-super SET SERIAL                 the same of a SuperSpeed set
 reference generate DIR N [--seed S]             N sets as files set-XXXX.bin and unit-XXXX.bin
 reference samples DIR [--seed S]                the bench set and sets of 16,384 bytes as files, for the stack test
 reference lister --program CMD --directory DIR [--sets N] [--seed S]
@@ -99,6 +104,10 @@ pub fn run(arguments: &Arguments) -> ExitCode {
         ["faults"] => faults(arguments),
         ["serve"] => arguments.fault().and_then(answer_commands),
         ["list", set, serial] => list(arguments, set, serial),
+        ["list-super", set, serial] => {
+            print!("{}", files::list_super_files(set, serial));
+            Ok(true)
+        }
         ["generate", directory, count] => generate(arguments, directory, count),
         ["samples", directory] => samples(arguments, directory),
         ["lister"] => lister(arguments),
@@ -167,7 +176,8 @@ fn compare(arguments: &Arguments) -> Verdict {
     let dumps = arguments.number("dumps")?;
     let both = sets.is_none() && calls.is_none() && writes.is_none() && dumps.is_none();
     let trims = arguments.number("trims")?;
-    let both = both && trims.is_none();
+    let supers = arguments.number("supers")?;
+    let both = both && trims.is_none() && supers.is_none();
     let mut right = true;
     if let Some(writes) = writes {
         right &= compare_writer(arguments, writes)?;
@@ -177,6 +187,9 @@ fn compare(arguments: &Arguments) -> Verdict {
     }
     if let Some(trims) = trims {
         right &= compare_trims(arguments, trims)?;
+    }
+    if let Some(supers) = supers {
+        right &= compare_supers(arguments, supers)?;
     }
     if sets.is_some() || both {
         right &= compare_opening(arguments, sets.unwrap_or(DEFAULT_SETS))?;
@@ -237,6 +250,23 @@ fn compare_trims(arguments: &Arguments, calls: usize) -> Verdict {
     Ok(same & reached(&numbered(&numbers, &OPENING_NUMBERS), demanded) & reached(&kinds, demanded))
 }
 
+fn compare_supers(arguments: &Arguments, sets: usize) -> Verdict {
+    let (seed, fault) = (arguments.seed()?, arguments.fault()?);
+    let mut comparison = Comparison::start(arguments.program()?, PATIENCE).map_err(told)?;
+    let rules = super_draft::opening(&mut comparison, sets, seed, fault);
+    let numbers = comparison.numbers;
+    let same = ended(comparison, "SuperSpeed opening", "calls")?;
+    let demanded = sets >= DEFAULT_SUPERS;
+    let by_name = rules.iter().map(|(rule, count)| (format!("{} {}", rule.group(), kebab(&format!("{rule:?}"))), *count));
+    let met = reached(&numbered(&numbers, &OPENING_NUMBERS), demanded) & reached(&by_name.collect::<Vec<_>>(), demanded);
+    let mut comparison = Comparison::start(arguments.program()?, PATIENCE).map_err(told)?;
+    super_draft::writing(&mut comparison, sets / 4, seed, fault);
+    let numbers = comparison.numbers;
+    let written = ended(comparison, "SuperSpeed writer", "streams")?;
+    let met = met & reached(&[0, 20, 21, 22].map(|number| (format!("number {number}"), numbers[number])), demanded);
+    Ok(same & written & met)
+}
+
 /// Tells how a comparison went and how long it took.
 fn ended(comparison: Comparison, part: &str, unit: &str) -> Verdict {
     let (start, calls) = (comparison.start, comparison.calls);
@@ -271,6 +301,8 @@ fn faults(arguments: &Arguments) -> Verdict {
             makers::dumping(&mut comparison, DEFAULT_CALLS, seed, fault);
         } else if fault::TRIM.contains(&fault) {
             makers::trimming(&mut comparison, DEFAULT_CALLS, seed, fault);
+        } else if fault::SUPER.contains(&fault) {
+            super_draft::opening(&mut comparison, DEFAULT_SUPERS, seed, fault);
         } else {
             runs::whole(&mut comparison, DEFAULT_CALLS, seed, fault);
         }

@@ -1,6 +1,7 @@
 //! A configuration body: its cut into descriptors, its interfaces, settings and endpoints, and their rules (group 4).
 
 use crate::fault::Fault;
+use crate::kind::Kind;
 use crate::octets::number;
 use crate::rule::{require, Rule};
 
@@ -73,14 +74,14 @@ impl Setting {
 
 impl Configuration {
     /// Reads a body that keeps every rule of a configuration body; else the first rule broken.
-    pub fn read(body: &[u8], fault: Fault) -> Result<Configuration, Rule> {
+    pub fn read(kind: Kind, body: &[u8], fault: Fault) -> Result<Configuration, Rule> {
         let descriptors = cut(body, fault)?;
         let first = descriptors[0];
         check_first(first, body.len(), fault)?;
         let settings = settings(&descriptors[1..], fault)?;
         check_interfaces(first[4], &settings, fault)?;
         for endpoint in settings.iter().flat_map(|setting| &setting.endpoints) {
-            check_endpoint(endpoint, fault)?;
+            check_endpoint(kind, endpoint, fault)?;
         }
         check_addresses(&settings, fault)?;
         Ok(Configuration {
@@ -102,7 +103,7 @@ impl Configuration {
 }
 
 /// "Cut by bLength, every bLength at least 2 and inside the body, the last ending exactly at the body's end."
-fn cut(body: &[u8], fault: Fault) -> Result<Vec<&[u8]>, Rule> {
+pub fn cut(body: &[u8], fault: Fault) -> Result<Vec<&[u8]>, Rule> {
     let shortest = if fault == Fault::DescriptorOfTwoBytesRefused { 3 } else { 2 };
     let mut descriptors = Vec::new();
     let mut rest = body;
@@ -194,40 +195,14 @@ fn follows(before: &Setting, next: &Setting, fault: Fault) -> bool {
         || one_higher(before.interface, next.interface) && starts_interface
 }
 
-fn check_endpoint(endpoint: &Endpoint, fault: Fault) -> Result<(), Rule> {
+fn check_endpoint(kind: Kind, endpoint: &Endpoint, fault: Fault) -> Result<(), Rule> {
     require(endpoint.address & 0x70 == 0, Rule::EndpointAddressBits)?;
     require(endpoint.address & 0x0f != 0, Rule::EndpointNumberZero)?;
     require(endpoint.attributes & 0xc0 == 0, Rule::EndpointAttributesHighBits)?;
     require(endpoint.transfer_type() != 0, Rule::EndpointControl)?;
     let middle_bits_free = endpoint.transfer_type() == ISOCHRONOUS && fault != Fault::IsochronousMiddleBitsRefused;
     require(endpoint.attributes & 0x3c == 0 || middle_bits_free, Rule::EndpointMiddleBits)?;
-    match endpoint.transfer_type() {
-        ISOCHRONOUS => check_isochronous(endpoint, fault),
-        BULK => check_bulk(endpoint, fault),
-        _ => check_interrupt(endpoint, fault),
-    }
-}
-
-fn check_isochronous(endpoint: &Endpoint, fault: Fault) -> Result<(), Rule> {
-    let largest = if fault == Fault::IsochronousSizeOneMore { 1024 } else { 1023 };
-    let longest = if fault == Fault::IsochronousIntervalOneMore { 17 } else { 16 };
-    require(endpoint.packet_size <= largest, Rule::IsochronousPacketSize)?;
-    require((1..=longest).contains(&endpoint.interval), Rule::IsochronousInterval)
-}
-
-fn check_bulk(endpoint: &Endpoint, fault: Fault) -> Result<(), Rule> {
-    let size = match fault {
-        Fault::BulkSizeByLowByte => endpoint.packet_size & 0xff,
-        _ => endpoint.packet_size,
-    };
-    require([8, 16, 32, 64].contains(&size), Rule::BulkPacketSize)?;
-    require(endpoint.interval > 0 || fault != Fault::BulkIntervalZeroRefused, Rule::InterruptInterval)
-}
-
-fn check_interrupt(endpoint: &Endpoint, fault: Fault) -> Result<(), Rule> {
-    let largest = if fault == Fault::InterruptSizeOneMore { 65 } else { 64 };
-    require(endpoint.packet_size <= largest, Rule::InterruptPacketSize)?;
-    require(endpoint.interval > 0 || fault == Fault::InterruptIntervalZeroPasses, Rule::InterruptInterval)
+    kind.check_endpoint(endpoint, fault)
 }
 
 /// "An address occurs once in a setting and in no second interface of the same configuration."

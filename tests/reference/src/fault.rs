@@ -88,6 +88,15 @@ faults! {
         EndpointsOfEverySetting EndpointsOfFirstConfiguration EndpointsByAddress EndpointsFromOne EndpointOffsetInBody
         EndpointOfSevenBytes MissingEndpointDoesNotExist MissingEndpointDropsWaitingAddress EndpointNotInThisState
     }
+    SUPER {
+        SuperControlSizeAsFullSpeed SuperControlSizeDoubled SuperBulkSize512Passes SuperSizeByLowBits
+        SuperInterruptSizeZeroPasses SuperIsochronousSizeZeroRefused SuperInterruptIntervalAsFullSpeed
+        StoreMissingPasses StoreTwicePasses StoreIndexIgnored StoreLanguageIgnored StoreOfFourBytesPasses
+        StoreTotalIgnored StoreTotalByLowByte StoreTypeByteJudged StoreAfterConfigurations StoreAloneToo
+        LastCompanionMissingPasses CompanionOfFiveBytesPasses CompanionMayComeLater SecondCompanionPasses
+        StrayCompanionPasses IsochronousNeedsNoCompanion CompanionsAfterStrings SuperQualifierPasses
+        SuperRefusalKeepsImage
+    }
     LISTER {
         AttributesInsteadOfTransferType PacketSizeByLowByte IndexInsteadOfValue FirstSettingsOnly
         SettingsInsteadOfInterfaces
@@ -97,7 +106,7 @@ faults! {
 impl Fault {
     /// All that show at the C boundary.
     pub fn at_boundary() -> impl Iterator<Item = Fault> {
-        [OPENING, EVENTS, PACKETS, ENDPOINTS, WRITER, DUMPS, TRIM].into_iter().flatten().copied()
+        [OPENING, EVENTS, PACKETS, ENDPOINTS, WRITER, DUMPS, TRIM, SUPER].into_iter().flatten().copied()
     }
 
     pub fn name(self) -> String {

@@ -2,12 +2,14 @@
 
 use crate::descriptors::Configuration;
 use crate::fault::Fault;
+use crate::kind::Kind;
 use crate::octets::number;
 use crate::rule::{require, Rule};
 
 pub const DEVICE: u8 = 1;
 pub const CONFIGURATION: u8 = 2;
 pub const STRING: u8 = 3;
+pub const STORE: u8 = 15;
 
 /// One line of the set's contents.
 #[derive(Clone, Copy, Debug)]
@@ -41,7 +43,7 @@ impl Entry {
         }
     }
 
-    fn body<'a>(&self, set: &'a [u8]) -> &'a [u8] {
+    pub fn body<'a>(&self, set: &'a [u8]) -> &'a [u8] {
         &set[self.offset..self.offset + self.length]
     }
 }
@@ -49,11 +51,15 @@ impl Entry {
 impl Board {
     /// The first rule broken, in the order of the groups.
     pub fn open(set: &[u8], serial: &[u8], fault: Fault) -> Result<Board, Rule> {
+        Board::open_as(Kind::Alone, set, serial, fault)
+    }
+
+    pub fn open_as(kind: Kind, set: &[u8], serial: &[u8], fault: Fault) -> Result<Board, Rule> {
         let set = if fault == Fault::SetLengthSixteenBits { &set[..set.len() % 65_536] } else { set };
         check_frame(set, fault)?;
-        let entries = contents(set, fault)?;
-        let device = device(set, &entries, fault)?;
-        let configurations = configurations(set, &entries, fault)?;
+        let entries = contents(kind, set, fault)?;
+        let device = device(kind, set, &entries, fault)?;
+        let configurations = configurations(kind, set, &entries, fault)?;
         if fault == Fault::SerialBeforeStrings {
             check_serial(device[16], serial, fault)?;
         }
@@ -62,6 +68,12 @@ impl Board {
         check_serial(device[16], serial, fault)?;
         let serial_index = device[16];
         Ok(Board { entries, configurations, languages, serial_index, serial_length: serial.len(), fault })
+    }
+
+    /// Groups 1 and 2 alone.
+    pub fn contents_of(kind: Kind, set: &[u8], fault: Fault) -> Result<Vec<Entry>, Rule> {
+        check_frame(set, fault)?;
+        contents(kind, set, fault)
     }
 
     /// A configuration by its bConfigurationValue, never by its index.
@@ -109,9 +121,14 @@ fn contents_end(set: &[u8]) -> usize {
     4 + 8 * usize::from(set[2])
 }
 
-fn contents(set: &[u8], fault: Fault) -> Result<Vec<Entry>, Rule> {
+fn contents(kind: Kind, set: &[u8], fault: Fault) -> Result<Vec<Entry>, Rule> {
     let entries: Vec<Entry> = set[4..contents_end(set)].chunks(8).map(Entry::read).collect();
-    let known_type = |entry: &Entry| (DEVICE..=STRING).contains(&entry.descriptor_type);
+    let known_type = |entry: &Entry| match entry.descriptor_type {
+        DEVICE..=STRING => true,
+        STORE => kind == Kind::Super || fault == Fault::StoreAloneToo,
+        6 => kind == Kind::Super && fault == Fault::SuperQualifierPasses,
+        _ => false,
+    };
     require(entries.iter().all(known_type), Rule::EntryType)?;
     require(entries.windows(2).all(|pair| ascends(&pair[0], &pair[1], fault)), Rule::EntryOrder)?;
     let shortest = if fault == Fault::EntryOfTwoBytesRefused { 3 } else { 2 };
@@ -134,7 +151,7 @@ fn ascends(one: &Entry, next: &Entry, fault: Fault) -> bool {
     key(one) < key(next) || fault == Fault::EqualEntriesPass && key(one) == key(next)
 }
 
-fn device<'a>(set: &'a [u8], entries: &[Entry], fault: Fault) -> Result<&'a [u8], Rule> {
+fn device<'a>(kind: Kind, set: &'a [u8], entries: &[Entry], fault: Fault) -> Result<&'a [u8], Rule> {
     let count_of = |asked: u8| entries.iter().filter(|entry| entry.descriptor_type == asked).count();
     require(count_of(DEVICE) > 0, Rule::DeviceEntryMissing)?;
     require(count_of(DEVICE) == 1, Rule::DeviceEntryRepeated)?;
@@ -145,8 +162,7 @@ fn device<'a>(set: &'a [u8], entries: &[Entry], fault: Fault) -> Result<&'a [u8]
     require(body.len() == 18, Rule::DeviceBodyLength)?;
     require(body[0] == 18, Rule::DeviceLengthByte)?;
     require(body[1] == DEVICE, Rule::DeviceTypeByte)?;
-    let size_passes = [8, 16, 32, 64].contains(&body[7]) || fault == Fault::MaxPacketSize128Passes && body[7] == 128;
-    require(size_passes, Rule::DeviceMaxPacketSize)?;
+    require(kind.control_sizes(fault).contains(&body[7]), Rule::DeviceMaxPacketSize)?;
     require(body[4] != 0 || body[5] == 0 || fault == Fault::SubclassIgnored, Rule::DeviceSubclass)?;
     let most = if fault == Fault::NinthConfigurationPasses { 9 } else { 8 };
     require(body[17] >= 1, Rule::DeviceNoConfiguration)?;
@@ -157,12 +173,12 @@ fn device<'a>(set: &'a [u8], entries: &[Entry], fault: Fault) -> Result<&'a [u8]
     Ok(body)
 }
 
-fn configurations(set: &[u8], entries: &[Entry], fault: Fault) -> Result<Vec<Configuration>, Rule> {
+fn configurations(kind: Kind, set: &[u8], entries: &[Entry], fault: Fault) -> Result<Vec<Configuration>, Rule> {
     let mut configurations: Vec<Configuration> = Vec::new();
     for entry in entries.iter().filter(|entry| entry.descriptor_type == CONFIGURATION) {
         require(usize::from(entry.index) == configurations.len(), Rule::ConfigurationIndex)?;
         require(entry.language == 0, Rule::ConfigurationLanguage)?;
-        let configuration = Configuration::read(entry.body(set), fault)?;
+        let configuration = Configuration::read(kind, entry.body(set), fault)?;
         let zero_passes = fault == Fault::ConfigurationValueZeroPasses;
         require(configuration.value != 0 || zero_passes, Rule::ConfigurationValueZero)?;
         let compared = match fault {

@@ -13,6 +13,7 @@
 //!     k reply_length(4) asked(2) size(4) number(4)         hk_packet
 //!     n number(1) image      hk_endpoint
 //!     w pieces buffer        hk_write: length is what was written, the image is the buffer
+//!     f image                hk_super_open                 F pieces buffer   hk_super_write, as hk_write
 //!     i dump buffer          hk_import, in the same way    x buffer       hk_export
 //!     t set                  hk_trim: length is the total, the image is the set
 //!
@@ -120,6 +121,8 @@ impl Command {
             Command::Call(Call::Open { .. }) => b'o',
             Command::Call(Call::Packet { .. }) => b'k',
             Command::Call(Call::Write { .. }) => b'w',
+            Command::Call(Call::SuperOpen { .. }) => b'f',
+            Command::Call(Call::SuperWrite { .. }) => b'F',
             Command::Call(Call::Import { .. }) => b'i',
             Command::Call(Call::Export { .. }) => b'x',
             Command::Call(Call::Numbered { .. }) => b'v',
@@ -164,7 +167,7 @@ impl Command {
 
 fn write_call(call: &Call, stream: &mut impl Write) -> io::Result<()> {
     match call {
-        Call::Open { image } => write_block(stream, image),
+        Call::Open { image } | Call::SuperOpen { image } => write_block(stream, image),
         Call::Event { image, event } => match event {
             Event::Setup(setup) => {
                 write_block(stream, image)?;
@@ -187,7 +190,9 @@ fn write_call(call: &Call, stream: &mut impl Write) -> io::Result<()> {
             stream.write_all(&size.to_le_bytes())?;
             stream.write_all(&packet.to_le_bytes())
         }
-        Call::Write { pieces: given, buffer } | Call::Import { dump: given, buffer } => {
+        Call::Write { pieces: given, buffer }
+        | Call::SuperWrite { pieces: given, buffer }
+        | Call::Import { dump: given, buffer } => {
             write_block(stream, given)?;
             write_block(stream, buffer)
         }
@@ -204,6 +209,8 @@ fn read_call(operation: u8, stream: &mut impl Read) -> io::Result<Call> {
         b'o' => return Ok(Call::Open { image: read_block(stream)? }),
         b'k' => return read_packet(stream),
         b'w' => return Ok(Call::Write { pieces: read_block(stream)?, buffer: read_block(stream)? }),
+        b'f' => return Ok(Call::SuperOpen { image: read_block(stream)? }),
+        b'F' => return Ok(Call::SuperWrite { pieces: read_block(stream)?, buffer: read_block(stream)? }),
         b'i' => return Ok(Call::Import { dump: read_block(stream)?, buffer: read_block(stream)? }),
         b'x' => return Ok(Call::Export { buffer: read_block(stream)? }),
         b'v' => {
