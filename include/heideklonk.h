@@ -41,7 +41,7 @@ extern "C" {
 #define HK_DONE 0                     /* done: with 0, 1 or 2 bytes, or a part */
 #define HK_FRAME_BROKEN 1             /* opening: the set's first 4 bytes, or its length */
 #define HK_CONTENTS_BROKEN 2          /* opening: an entry of the contents */
-#define HK_DEVICE_BROKEN 3            /* opening: the device descriptor */
+#define HK_DEVICE_BROKEN 3            /* opening: the device descriptor; of a SuperSpeed set the BOS too */
 #define HK_CONFIGURATION_BROKEN 4     /* opening: a configuration body */
 #define HK_STRING_BROKEN 5            /* opening: a string, a language or a reference */
 #define HK_SERIAL_BROKEN 6            /* opening: the serial block */
@@ -284,6 +284,20 @@ uint8_t hk_packet(const uint8_t *reply, size_t reply_length, uint16_t asked, uin
  * refused, use the program `writer`. The buffer and written overlap nothing else that is passed. */
 HK_MAKERS uint8_t hk_write(const uint8_t *pieces, size_t pieces_length, const uint8_t *serial, size_t serial_length,
                  uint8_t *buffer, size_t buffer_length, uint16_t *written);
+
+/* The same for a SuperSpeed set, for another vendor's board: no call of this library but hk_super_open takes it. Its pieces
+ * have type 15 too, one BOS. HK_SET_REFUSED is then: hk_super_open would refuse the set. */
+HK_MAKERS uint8_t hk_super_write(const uint8_t *pieces, size_t pieces_length, const uint8_t *serial, size_t serial_length,
+                 uint8_t *buffer, size_t buffer_length, uint16_t *written);
+
+/* Checks a SuperSpeed set as hk_open checks one of full speed, with the same numbers and the same image afterwards. Its rules
+ * differ in this: bMaxPacketSize0 is 9; there is one BOS entry (type 15, index 0, language 0, at least 5 bytes, bytes 2 and 3
+ * its length), else HK_DEVICE_BROKEN; a companion (type 48, at least 6 bytes) stands directly after every endpoint and nowhere
+ * else, else HK_CONFIGURATION_BROKEN; a bulk size is 1,024, an interrupt size 1 to 1,024, an isochronous size 0 to 1,024, and
+ * the bInterval of these two is 1 to 16. Events refuse such a set with HK_SET_NOT_ACCEPTABLE. This call has no array in its
+ * frame. */
+HK_MAKERS uint8_t hk_super_open(const uint8_t *set, size_t set_length, const uint8_t *serial, size_t serial_length,
+                 uint8_t *image, size_t image_length);
 
 /* Makes a set of a dump: the file that Linux shows for a device that is plugged in, /sys/bus/usb/devices/.../descriptors,
  * which is its device descriptor and its configurations. The set has no strings, so every reference to one becomes 0:

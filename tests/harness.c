@@ -318,6 +318,9 @@ static void call_event(uint8_t operation, uint8_t flags) {
     case 'o':
         number = hk_open(set_lent, set.length, serial_lent, serial.length, image_lent, image.length);
         break;
+    case 'f':
+        number = hk_super_open(set_lent, set.length, serial_lent, serial.length, image_lent, image.length);
+        break;
     case 'e':
         number = hk_status_end(set_lent, set.length, serial_lent, serial.length, image_lent, image.length);
         break;
@@ -375,6 +378,9 @@ static void call_maker(uint8_t operation, uint8_t flags) {
     if (operation == 'w')
         number = hk_write(lent(&pieces, flags), pieces.length, lent(&serial, flags), serial.length, buffer, image.length,
                           length);
+    else if (operation == 'F')
+        number = hk_super_write(lent(&pieces, flags), pieces.length, lent(&serial, flags), serial.length, buffer,
+                                image.length, length);
     else if (operation == 'i')
         number = hk_import(lent(&pieces, flags), pieces.length, buffer, image.length, length);
     else
@@ -453,13 +459,13 @@ int main(void) {
         case 't':
             call_trim(flags);
             break;
-        case 'w': case 'i': case 'x':
+        case 'w': case 'F': case 'i': case 'x':
             call_maker(operation, flags);
             break;
         case 'v':
             call_record_event(flags);
             break;
-        case 'o': case 'e': case 'r': case 'R': case 'h': case 'p': case 'P': case 'z': case 'y': case 'a':
+        case 'o': case 'f': case 'e': case 'r': case 'R': case 'h': case 'p': case 'P': case 'z': case 'y': case 'a':
             call_event(operation, flags);
             break;
         default:

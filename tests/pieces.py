@@ -1,6 +1,6 @@
 """Descriptors and sets by hand, for the scripts that make some."""
 
-DEVICE, CONFIGURATION, STRING, INTERFACE, ENDPOINT = 1, 2, 3, 4, 5
+DEVICE, CONFIGURATION, STRING, INTERFACE, ENDPOINT, STORE = 1, 2, 3, 4, 5, 15
 GERMAN, ENGLISH = 0x0407, 0x0409
 # the bench set
 S = bytes.fromhex(

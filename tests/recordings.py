@@ -1,7 +1,7 @@
 """What devices said of themselves, laid out as sets: a recording is the device descriptor and each configuration, end to end."""
 import os
 
-from pieces import CONFIGURATION, DEVICE, ENGLISH, STRING, a_set, languages, string
+from pieces import CONFIGURATION, DEVICE, ENGLISH, STORE, STRING, a_set, languages, string
 
 ENUMERATIONS = os.path.join(os.path.dirname(os.path.abspath(__file__)), "enumerations")
 ZERO = (0, 0, languages(ENGLISH))
@@ -27,7 +27,7 @@ def references_in(body):
         at += body[at]
 
 
-def recorded_set(recorded):
+def recorded_set(recorded, more=()):
     """A recording has no strings: each that it refers to is made up, in one language, and so is the serial block."""
     described, bodies = recorded[:18], list(bodies_of(recorded))
     serial = described[16]
@@ -35,7 +35,27 @@ def recorded_set(recorded):
     entries = [(DEVICE, 0, 0, described), *[(CONFIGURATION, i, 0, body) for i, body in enumerate(bodies)]]
     if references or serial:
         entries += [(STRING, *ZERO), *[(STRING, r, ENGLISH, string(f"String {r}")) for r in sorted(references)]]
-    return a_set(*entries), BLOCK if serial else b""
+    return a_set(*entries, *more), BLOCK if serial else b""
+
+
+def is_super(recorded):
+    """A SuperSpeed device: its bMaxPacketSize0 is 9."""
+    return recorded[7] == 9
+
+
+def with_store(recorded):
+    """The set of a recording with a BOS made for it: USB 2.0 extension and SuperSpeed capabilities."""
+    store = bytes.fromhex("05 0F 16 00 02  07 10 02 06 00 00 00  0A 10 03 00 0E 00 01 0A 00 00")
+    return recorded_set(recorded, [(STORE, 0, 0, store)])
+
+
+def super_enumerations():
+    for name in sorted(os.listdir(ENUMERATIONS)):
+        if name.endswith(".bin"):
+            with open(os.path.join(ENUMERATIONS, name), "rb") as file:
+                recorded = file.read()
+            if is_super(recorded):
+                yield f"{name}, with a BOS", *with_store(recorded)
 
 
 def enumerations():

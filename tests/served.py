@@ -89,6 +89,14 @@ class Served:
         number, _, part, buffer = self.ask(b"w", block(pieces) + block(bytes(size)))
         return number, buffer[: part[2]]
 
+    def super_open(self, image):
+        return self.ask(b"f", block(image))
+
+    def super_write(self, pieces, size=16384):
+        """hk_super_write, in the same way."""
+        number, _, part, buffer = self.ask(b"F", block(pieces) + block(bytes(size)))
+        return number, buffer[: part[2]]
+
     def packets(self, length, asked, size):
         """The lengths of the packets."""
         for k in range(65536):

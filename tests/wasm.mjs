@@ -174,7 +174,7 @@ function callTwoOpen(flags) {
 }
 
 const EVENTS = {
-    o: "hk_open", e: "hk_status_end", r: "hk_bus_reset", h: "hk_halt", p: "hk_packet_passed",
+    o: "hk_open", f: "hk_super_open", e: "hk_status_end", r: "hk_bus_reset", h: "hk_halt", p: "hk_packet_passed",
     P: "hk_power", z: "hk_suspend", y: "hk_resume", a: "hk_wake", R: "hk_bus_reset_to",
 };
 const VALUED = "hpPR";
@@ -209,6 +209,7 @@ function callPacket(flags) {
 // What a maker's call reads, before its buffer; the buffer is lent as the image is: it is given back whole.
 const MAKERS = {
     w: ["hk_write", () => [takeBlock(), serial]],
+    F: ["hk_super_write", () => [takeBlock(), serial]],
     i: ["hk_import", () => [takeBlock()]],
     x: ["hk_export", () => [set, serial]],
 };

@@ -1,9 +1,17 @@
 // Lists every set of a stream. A record of it is three sizes (one byte, and two of two bytes), and then as many bytes: a heading, which
-// is written as it stands, a set and a serial block. tests/lay_out makes the stream.
+// is written as it stands, a set and a serial block. A heading that begins with a plus is that of a SuperSpeed set. tests/lay_out makes the stream.
+use descriptors::Limits;
 use libc::STDIN_FILENO;
 use libc::STDOUT_FILENO;
 ghost use Prim.Native.Nat.{_<_, _≤_};
 ghost use lib.ListN.{length};
+
+fn kind(mark: u8) -> Limits {
+    if mark == b'+' {
+        return descriptors::super_speed();
+    }
+    descriptors::full_speed()
+}
 
 // Lists the first record of what is left of the stream, and gives its size; all that is left, where the record is cut short.
 fn list_first(rest: &[u8]) -> usize
@@ -18,7 +26,13 @@ fn list_first(rest: &[u8]) -> usize
     }
     io::write_all(STDOUT_FILENO, &rest[5..set_at]);
     let mut out = [0u8; listing::ROOM];
-    let size = listing::list(&rest[set_at..serial_at], &rest[serial_at..end], &mut out);
+    let limits = kind(octets::peek(rest, 5));
+    let size = listing::list(
+        &rest[set_at..serial_at],
+        &rest[serial_at..end],
+        limits,
+        &mut out,
+    );
     io::write_all(STDOUT_FILENO, &out[..size]);
     end
 }

@@ -15,7 +15,12 @@ pub extern "C" fn hk_write(pieces: &[u8], serial: &[u8], buffer: &mut [u8], writ
 
 // The same for a SuperSpeed set.
 #[no_mangle]
-pub extern "C" fn hk_super_write(pieces: &[u8], serial: &[u8], buffer: &mut [u8], written: &mut u16) -> u8
+pub extern "C" fn hk_super_write(
+    pieces: &[u8],
+    serial: &[u8],
+    buffer: &mut [u8],
+    written: &mut u16,
+) -> u8
     ensures { λ r. ⌜ Writes superSpeed (now (pieces .entry)) (now (serial .entry)) (now (buffer .entry)) r (now (buffer .exit)) (now (written .exit)) ⌝ }
 {
     let report = set_writer::write(pieces, serial, descriptors::super_speed(), buffer);

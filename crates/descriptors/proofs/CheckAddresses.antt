@@ -24,7 +24,7 @@ use Rattle.descriptors.specs.Descriptor.{bDescriptorType, isInterface, i
 use Rattle.descriptors.specs.Interfaces.{Group, Groups, grouped, begunBy, settingOf, endpointOf, endpointsOf, follows, apart}
 use Rattle.descriptors.specs.Configuration.{bitOf}
 use Rattle.descriptors.specs.Walk.{before}
-use Rattle.descriptors.specs.Check.{atOther, placed, fresh, unshared, onward, beginning}
+use Rattle.descriptors.specs.Check.{placed, fresh, unshared, onward, beginning}
 use Rattle.descriptors.proofs.Walk.{holding}
 use Rattle.descriptors.proofs.CheckOrder.{at, passed, chain, kinds}
 
@@ -248,8 +248,8 @@ module _ (limits : Limits) (n : ℕ) where
         rw (i, j, own-clear s w d) (one-more (fresh w a) (every (clear s w) es) (every (apart f) es) (pairs apart es) (λ p. rw (i, j) at (u ∙ ap (λ (b : Bool). b && pairs apart es) (v p))))
 
     other-same : isInterface d ≡ false → isEndpoint d ≡ false → unsharedAll w (at s) (d ∷ ds) ≡ Apart s w (endpointsIn s (grouped (d ∷ ds)))
-    unfolding Same holding grouped endpointsOf clear Apart
-    other-same i j = rw (i, j) (same s (atOther w) (good-rest .1) (rw (i, j) at c))
+    unfolding Same holding grouped endpointsOf
+    other-same i j = rw (i, j) (same s w (good-rest .1) (rw (i, j) at c))
 
   same : (ds : List (List ℕ)) → Same ds
   unfolding Same holding grouped endpointsOf Apart every pairs

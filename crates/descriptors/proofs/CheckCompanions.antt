@@ -1,4 +1,4 @@
--- The check of a body, as to companions: a walk that keeps whether one is due says what the sentence about all descriptors says. No axiom.
+-- The check of a body, as to companions: what a walk asks that keeps whether one is due is what the sentence about all descriptors says. No axiom.
 use Prim.Native.Nat.{ℕ}
 use native.Mathlib.Omega.{arith}
 use mathlib.Core.Path.{_≡_, refl, sym, _∙_}
@@ -8,38 +8,21 @@ use lib.ListN.{length}
 use lib.Dec.{leb}
 use borrow.Author.Tests.{ne-eqb}
 use Rattle.octets.specs.Sentences.{pick, _⇒_, every, neighbours}
-use Rattle.descriptors.specs.declared.Limits.{Limits}
-use Rattle.descriptors.specs.declared.Stand.{Stand}
-use Rattle.descriptors.specs.declared.check.Progress.{Progress}
 use Rattle.descriptors.specs.Descriptor.{bDescriptorType, isEndpoint}
 use Rattle.descriptors.specs.Companion.{isCompanion, longCompanion, accompanies, endsWithEndpoint, goodCompanions}
-use Rattle.descriptors.specs.Walk.{standOf}
-use Rattle.descriptors.specs.Check.{accompanied, onward, noneDue}
-use Rattle.descriptors.proofs.Walk.{holding}
-use Rattle.descriptors.proofs.CheckOrder.{kinds, passed}
+use Rattle.descriptors.specs.Check.{accompanied}
 
--- the descriptors come with their companions from the state w on
-abbrev pub accompaniedAll : Limits → Progress → Stand → List (List ℕ) → Bool
-accompaniedAll limits = holding (λ w last stand d. accompanied limits w d) onward (λ w last. noneDue limits w)
-
--- the same of the descriptors alone, after one for which a companion is due or not
+-- the descriptors after one for which a companion is due or not
 unfoldable pub after : Bool → List (List ℕ) → Bool
 after due [] = not due
-after due (d ∷ ds) = pick due (isCompanion d && leb 6 (length d)) (not (isCompanion d)) && after (isEndpoint d) ds
+after due (d ∷ ds) = accompanied due d && after (isEndpoint d) ds
 
-due-after : (w : Progress) (last : Stand) (d : List ℕ) → passed w last d .due ≡ isEndpoint d
-due-after w last d = kinds d (λ i e. rw (i, e)) (λ i e. rw (i, e)) (λ i e. rw (i, e))
-
-asked : (companions a b : Bool) → ((companions ⇒ a) && (companions ⇒ b)) ≡ (companions ⇒ (a && b))
-asked true a b = refl
-asked false a b = refl
-
-pub walk-after : (limits : Limits) (w : Progress) (last : Stand) (ds : List (List ℕ)) → accompaniedAll limits w last ds ≡ (limits .companions ⇒ after (w .due) ds)
-unfolding holding after
-walk-after limits w last [] = refl
-walk-after limits w last (d ∷ ds) =
-    rw (walk-after limits (passed w last d) (standOf last d) ds, due-after w last d)
-    (asked (limits .companions) (pick (w .due) (isCompanion d && leb 6 (length d)) (not (isCompanion d))) (after (isEndpoint d) ds))
+-- a descriptor, and those after it
+pub after-one : (companions due : Bool) (d : List ℕ) (ds : List (List ℕ))
+    → (companions ⇒ after due (d ∷ ds)) ≡ ((companions ⇒ accompanied due d) && (companions ⇒ after (pick companions (isEndpoint d) due) ds))
+unfolding after
+after-one true due d ds = refl
+after-one false due d ds = refl
 
 -- ---- as the sentence
 one-more : (due companion long every next last : Bool)

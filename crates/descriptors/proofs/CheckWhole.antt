@@ -17,15 +17,15 @@ use Rattle.descriptors.specs.declared.Stand.{Stand}
 use Rattle.descriptors.specs.declared.Step.{Step}
 use Rattle.descriptors.specs.declared.check.Progress.{Progress}
 use Rattle.descriptors.specs.Cut.{Cutting, whole, broken, descriptor, cut, descriptorsOf, wellCut}
-use Rattle.descriptors.specs.Descriptor.{bDescriptorType, goodDescriptor}
+use Rattle.descriptors.specs.Descriptor.{bDescriptorType, isEndpoint, goodDescriptor}
 use Rattle.descriptors.specs.Interfaces.{grouped, settingOf, endpointsOf, goodSettings, counted, apart, goodInterfaces}
 use Rattle.descriptors.specs.Companion.{goodCompanions}
 use Rattle.descriptors.specs.Configuration.{bNumInterfaces, wTotalLength, configurationAttributes, bMaxPower, goodHead, goodDescriptors, goodConfiguration}
 use Rattle.descriptors.specs.Walk.{before, standOf, stepOf, orElse, walked}
-use Rattle.descriptors.specs.Check.{inOrder, unshared, accompanied, ended, beginning, checking}
+use Rattle.descriptors.specs.Check.{inOrder, unshared, allowed, onward, accompanied, ended, beginning, Course, starting, passing, checking}
 use Rattle.descriptors.proofs.CheckOrder.{ordered, passed, order-same, from-beginning}
 use Rattle.descriptors.proofs.CheckAddresses.{unsharedAll, addresses-same}
-use Rattle.descriptors.proofs.CheckCompanions.{accompaniedAll, after, walk-after, companions-same}
+use Rattle.descriptors.proofs.CheckCompanions.{after, after-one, companions-same}
 use Rattle.descriptors.proofs.Walk.{Walking, holding, moved, stuck, cut-end}
 
 -- ---- the walk, rule by rule
@@ -37,16 +37,19 @@ apart-by x true true false e g o u v = rw (and-false (g && o)) (sym (and-false x
 apart-by x true false c e g o u v = rw (and-false g) (sym (and-false x))
 apart-by x false b c e g o u v = sym (and-false x)
 
-rules : (limits : Limits) (n : ℕ) (w : Progress) (last : Stand) (cs : Cutting)
-    → walked (checking limits n) w last cs ≡ (wellCut cs && (every (goodDescriptor limits) (descriptorsOf cs) && ordered n w last (descriptorsOf cs) && unsharedAll w last (descriptorsOf cs) && accompaniedAll limits w last (descriptorsOf cs)))
-unfolding walked wellCut descriptorsOf every holding
-rules limits n w last whole = rw (and-true (ended n w last))
-rules limits n w last broken = refl
-rules limits n w last (descriptor d ds) =
+rules : (limits : Limits) (n : ℕ) (c : Course) (last : Stand) (cs : Cutting)
+    → walked (checking limits n) c last cs
+    ≡ (wellCut cs && (every (goodDescriptor limits) (descriptorsOf cs) && ordered n (c .progress) last (descriptorsOf cs) && unsharedAll (c .progress) last (descriptorsOf cs) && (limits .companions ⇒ after (c .due) (descriptorsOf cs))))
+unfolding walked wellCut descriptorsOf every holding after
+rules limits n c last whole = rw (and-true (ended n (c .progress) last))
+rules limits n c last broken = refl
+rules limits n c last (descriptor d ds) =
     let stand = standOf last d in
-    rw (rules limits n (passed w last d) stand ds)
-    (apart-by (wellCut ds) (goodDescriptor limits d) (inOrder w last stand d) (unshared w last stand d) (accompanied limits w d)
-    (every (goodDescriptor limits) (descriptorsOf ds)) (ordered n (passed w last d) stand (descriptorsOf ds)) (unsharedAll (passed w last d) stand (descriptorsOf ds)) (accompaniedAll limits (passed w last d) stand (descriptorsOf ds)))
+    let w = c .progress in
+    let w' = passed w last d in
+    rw (rules limits n (passing limits c last stand d) stand ds, after-one (limits .companions) (c .due) d (descriptorsOf ds))
+    (apart-by (wellCut ds) (goodDescriptor limits d) (inOrder w last stand d) (unshared w last stand d) (limits .companions ⇒ accompanied (c .due) d)
+    (every (goodDescriptor limits) (descriptorsOf ds)) (ordered n w' stand (descriptorsOf ds)) (unsharedAll w' stand (descriptorsOf ds)) (limits .companions ⇒ after (pick (limits .companions) (isEndpoint d) (c .due)) (descriptorsOf ds)))
 
 -- ---- the rules, as sentences
 regrouped : {unshared : Bool} (good set empty count apart : Bool) → (good ≡ true → set ≡ true → empty ≡ true → unshared ≡ apart)
@@ -57,18 +60,41 @@ regrouped true false empty count a h = rw (and-false empty)
 regrouped false set empty count a h = refl
 
 rest-same : (limits : Limits) (n : ℕ) (cs : Cutting)
-    → walked (checking limits n) beginning before cs ≡ (wellCut cs && ((every (goodDescriptor limits) (descriptorsOf cs) && goodInterfaces n (grouped (descriptorsOf cs))) && (limits .companions ⇒ after false (descriptorsOf cs))))
+    → walked (checking limits n) starting before cs ≡ (wellCut cs && ((every (goodDescriptor limits) (descriptorsOf cs) && goodInterfaces n (grouped (descriptorsOf cs))) && (limits .companions ⇒ after false (descriptorsOf cs))))
 rest-same limits n cs =
     let ds = descriptorsOf cs in
     let gs = grouped ds in
-    rules limits n beginning before cs
-    ∙ ap (λ (b : Bool). wellCut cs && (every (goodDescriptor limits) ds && ordered n beginning before ds && unsharedAll beginning before ds && b)) (walk-after limits beginning before ds)
+    rules limits n starting before cs
     ∙ ap (λ (b : Bool). wellCut cs && (every (goodDescriptor limits) ds && b && unsharedAll beginning before ds && (limits .companions ⇒ after false ds))) (order-same n ds)
     ∙ ap (λ (b : Bool). wellCut cs && (b && (limits .companions ⇒ after false ds))) (regrouped (every (goodDescriptor limits) ds) (goodSettings n (map settingOf (gs .groups))) (isEmpty (gs .loose)) (every counted (gs .groups)) (pairs apart (endpointsOf (gs .groups)))
     (λ g s e. addresses-same limits n ds g e (from-beginning n (map settingOf (gs .groups)) ∙ s)))
 
+-- ---- a turn of the loop: what is asked of one descriptor, and what is known after it
+pub unasked : {a : Bool} (b : Bool) → a ≡ false → (a ⇒ b) ≡ true
+unasked b p = rw p
+
+pub asked-of : {a b c : Bool} → a ≡ true → b ≡ c → (a ⇒ b) ≡ c
+asked-of p q = rw (p, q)
+
+module _ (limits : Limits) (n : ℕ) (c : Course) (last stand : Stand) (d : List ℕ) where
+  pub pass-on : allowed limits (c .progress) last stand d ≡ true → (limits .companions ⇒ accompanied (c .due) d) ≡ true → checking limits n .stop c last stand d ≡ none
+  pass-on p q = rw (p, q)
+
+  pub pass-not : allowed limits (c .progress) last stand d ≡ true → (limits .companions ⇒ accompanied (c .due) d) ≡ false → checking limits n .stop c last stand d ≡ some false
+  pass-not p q = rw (p, q)
+
+  pub pass-none : allowed limits (c .progress) last stand d ≡ false → checking limits n .stop c last stand d ≡ some false
+  pass-none p = rw p
+
+  pub passed-with : (progress : Progress) (due : Bool) → progress ≡ onward (c .progress) last stand d → limits .companions ≡ true → due ≡ isEndpoint d
+      → record { progress = progress; due = due } ≡ passing limits c last stand d
+  passed-with progress due p q r = rw (p, q, r)
+
+  pub passed-without : (progress : Progress) → progress ≡ onward (c .progress) last stand d → limits .companions ≡ false → record { progress = progress; due = c .due } ≡ passing limits c last stand d
+  passed-without progress p q = rw (p, q)
+
 -- ---- the loop: a body that is broken further on is no good one
-pub check-stuck : (limits : Limits) (n : ℕ) {body : List ℕ} {total : Bool} {w : Progress} {last : Stand} {at : ℕ} → Walking (checking limits n) body total w last at
+pub check-stuck : (limits : Limits) (n : ℕ) {body : List ℕ} {total : Bool} {w : Course} {last : Stand} {at : ℕ} → Walking (checking limits n) body total w last at
     → {step : Step} → step ≡ stepOf body at last → at < length body → step .end ≤ at → false ≡ total
 check-stuck limits n {body} {total} {w} {last} {at} walking e h m =
     sym (walking .rest ∙ rules limits n w last (cut (drop at body)) ∙ rw (stuck body at last h (rw e at m)))
@@ -109,7 +135,7 @@ module _ (limits : Limits) (body : List ℕ) (step : Step) (e : step ≡ stepOf 
 
   module _ (m : 0 < step .end) where
     pub check-head : goodConfiguration limits body
-        ≡ (goodHead (length body) (take (step .end) body) && walked (checking limits (bNumInterfaces (take (step .end) body))) beginning before (cut (drop (step .end) body)))
+        ≡ (goodHead (length body) (take (step .end) body) && walked (checking limits (bNumInterfaces (take (step .end) body))) starting before (cut (drop (step .end) body)))
     unfolding goodConfiguration goodDescriptors wellCut descriptorsOf
     check-head =
         let d = take (step .end) body in

@@ -1,7 +1,7 @@
 -- Working definitions for the check of a configuration body, a descriptor at a time; no promise cites them.
 use Prim.Native.Nat.{ℕ, _+_, _-_}
 use mathlib.Core.List.{List, [], _∷_}
-use mathlib.Core.Bool.{Bool, true, false, _&&_, _||_, not}
+use mathlib.Core.Bool.{Bool, false, _&&_, _||_, not}
 use lib.ListN.{length}
 use lib.Dec.{eqb, leb}
 use Rattle.octets.specs.Bit.{bit, setBit}
@@ -12,9 +12,9 @@ use Rattle.descriptors.specs.declared.Stand.{Stand}
 use Rattle.descriptors.specs.declared.check.Progress.{Progress}
 use Rattle.descriptors.specs.declared.check.Verdict.{Verdict}
 use Rattle.descriptors.specs.Limits.{named}
+use Rattle.descriptors.specs.Companion.{isCompanion}
 use Rattle.descriptors.specs.Descriptor.{isInterface, isEndpoint, bNumEndpoints, iInterface, bEndpointAddress, goodEndpoint, goodDescriptor}
 use Rattle.descriptors.specs.Interfaces.{follows}
-use Rattle.descriptors.specs.Companion.{isCompanion}
 use Rattle.descriptors.specs.Configuration.{bitOf, configurationReferences}
 use Rattle.descriptors.specs.Walk.{settingAt, Walk, testing}
 use Rattle.octets.specs.Table.{has}
@@ -42,10 +42,6 @@ unshared w last stand d = isEndpoint d ⇒ fresh w (bEndpointAddress d)
 abbrev pub allowed : Limits → Progress → Stand → Stand → List ℕ → Bool
 allowed limits w last stand d = goodDescriptor limits d && inOrder w last stand d && unshared w last stand d
 
--- and by the descriptor just before it, of a kind with companions
-abbrev pub accompanied : Limits → Progress → List ℕ → Bool
-accompanied limits w d = limits .companions ⇒ pick (w .due) (isCompanion d && leb 6 (length d)) (not (isCompanion d))
-
 -- the same of an interface descriptor, and of an endpoint descriptor
 abbrev pub mayBegin : Limits → Progress → Stand → Stand → List ℕ → Bool
 mayBegin limits w last stand d = leb 9 (length d) && (not (named (limits .refused) 4) && eqb (w .coming) 0 && placed last (settingAt stand))
@@ -53,14 +49,13 @@ mayBegin limits w last stand d = leb 9 (length d) && (not (named (limits .refuse
 abbrev pub mayList : Limits → Progress → List ℕ → Bool
 mayList limits w d = not (named (limits .refused) 5) && goodEndpoint limits d && leb 1 (w .coming) && fresh w (bEndpointAddress d)
 
--- what is known after it: after an interface descriptor, after an endpoint descriptor, after another, and after any
+-- what is known after it: after an interface descriptor, after an endpoint descriptor, and after either, or another
 abbrev pub atInterface : Progress → Stand → Stand → List ℕ → Progress
 atInterface w last stand d = record {
   coming = bNumEndpoints d;
   setting = 0;
   interface = pick (eqb (stand .interface) (last .interface)) (w .interface) 0;
   seen = w .seen;
-  due = false;
 }
 
 abbrev pub atEndpoint : Progress → List ℕ → Progress
@@ -69,29 +64,39 @@ atEndpoint w d = record {
   setting = setBit (w .setting) (bitOf (bEndpointAddress d));
   interface = setBit (w .interface) (bitOf (bEndpointAddress d));
   seen = setBit (w .seen) (bitOf (bEndpointAddress d));
-  due = true;
 }
 
-abbrev pub atOther : Progress → Progress
-atOther w = record { coming = w .coming; setting = w .setting; interface = w .interface; seen = w .seen; due = false }
-
 abbrev pub onward : Progress → Stand → Stand → List ℕ → Progress
-onward w last stand d = pick (isInterface d) (atInterface w last stand d) (pick (isEndpoint d) (atEndpoint w d) (atOther w))
+onward w last stand d = pick (isInterface d) (atInterface w last stand d) (pick (isEndpoint d) (atEndpoint w d) w)
 
 -- the body may end where the last descriptor stands at `last`, for n interfaces
 abbrev pub ended : ℕ → Progress → Stand → Bool
 ended n w last = last .inside && eqb (last .interface + 1) n && eqb (w .coming) 0
 
--- and no companion is due
-abbrev pub noneDue : Limits → Progress → Bool
-noneDue limits w = limits .companions ⇒ not (w .due)
-
 abbrev pub beginning : Progress
-beginning = record { coming = 0; setting = 0; interface = 0; seen = 0; due = false }
+beginning = record { coming = 0; setting = 0; interface = 0; seen = 0 }
+
+-- a descriptor may come as to companions, just behind an endpoint (one is due) or not
+abbrev pub accompanied : Bool → List ℕ → Bool
+accompanied due d = pick due (isCompanion d && leb 6 (length d)) (not (isCompanion d))
+
+-- how far the check is, and whether a companion is due; of a kind without them that is never asked
+pub record Course : Type 0 where
+  pub progress : Progress
+  pub due : Bool
+
+abbrev pub starting : Course
+starting = record { progress = beginning; due = false }
+
+abbrev pub passing : Limits → Course → Stand → Stand → List ℕ → Course
+passing limits c last stand d = record { progress = onward (c .progress) last stand d; due = pick (limits .companions) (isEndpoint d) (c .due) }
 
 -- the walk over the descriptors after the first, for n interfaces
-abbrev pub checking : Limits → ℕ → Walk Progress Bool
-checking limits n = testing (λ w last stand d. allowed limits w last stand d && accompanied limits w d) onward (λ w last. ended n w last && noneDue limits w)
+abbrev pub checking : Limits → ℕ → Walk Course Bool
+checking limits n = testing
+    (λ c last stand d. allowed limits (c .progress) last stand d && (limits .companions ⇒ accompanied (c .due) d))
+    (passing limits)
+    (λ c last. ended n (c .progress) last && (limits .companions ⇒ not (c .due)))
 
 -- the string reference of a descriptor, if it has one; the walk that collects those behind the first
 abbrev pub referenceOf : List ℕ → List ℕ

@@ -12,21 +12,19 @@ ghost use Rattle.descriptors.specs.Descriptor.{goodAddress, goodAttribut
 ghost use Rattle.descriptors.specs.Configuration.{goodHead, goodConfiguration};
 ghost use Rattle.descriptors.specs.Cut.{cut};
 ghost use Rattle.descriptors.specs.Walk.{before, walked, collected};
-ghost use Rattle.descriptors.specs.Check.{placed, fresh, mayBegin, mayList, allowed, accompanied, atInterface, atEndpoint, atOther, onward, ended, noneDue, beginning, checking, referenceOf, referring, configurationRefers, verdict};
+ghost use Rattle.descriptors.specs.Check.{placed, fresh, mayBegin, mayList, allowed, accompanied, atInterface, atEndpoint, onward, ended, beginning, starting, checking, referenceOf, referring, configurationRefers, verdict};
 ghost use lib.ListN.{drop};
 ghost use Prim.Native.Nat.{_-_};
 ghost use Rattle.octets.specs.Sentences.{pick, every};
 ghost use Rattle.octets.specs.Table.{has};
 
 // How far the check of a body is: how many endpoints of this setting are still to come; and, a bit for each address, the addresses of
-// this setting, of this interface's settings, and of all that was seen; and whether an endpoint stands just before, so that its companion
-// is due. Where it stands is the step's to say.
+// this setting, of this interface's settings, and of all that was seen. Where it stands is the step's to say.
 struct Progress {
     coming: u8,
     setting: u32,
     interface: u32,
     seen: u32,
-    due: bool,
 }
 
 // Whether a body, or bodies, are good; and whether they are and every string reference in them is in a table.
@@ -148,7 +146,6 @@ fn start() -> Progress
         setting: 0,
         interface: 0,
         seen: 0,
-        due: false,
     }
 }
 
@@ -209,25 +206,15 @@ fn is_allowed(d: &[u8], progress: Progress, last: Stand, stand: Stand, limits: L
     !is_named(limits.refused, t)
 }
 
-// In a kind with companions one comes where it is due, and nowhere else.
-fn is_accompanied(d: &[u8], progress: Progress, limits: Limits) -> bool
-    ensures { λ r. ⌜ r ≡ accompanied limits progress (now (d .entry)) ⌝ }
+// Of a kind with companions: one comes where it is due, just behind an endpoint, and nowhere else.
+fn is_accompanied(d: &[u8], due: bool) -> bool
+    ensures { λ r. ⌜ r ≡ accompanied due (now (d .entry)) ⌝ }
 {
-    if !limits.companions {
-        return true;
-    }
     let companion = octets::peek(d, 1) == 48;
-    if progress.due {
+    if due {
         return companion & (6 <= d.len());
     }
     !companion
-}
-
-// A descriptor may come, by itself and by the one just before it.
-fn may_come(d: &[u8], progress: Progress, last: Stand, stand: Stand, limits: Limits) -> bool
-    ensures { λ r. ⌜ r ≡ (allowed limits progress last stand (now (d .entry)) && accompanied limits progress (now (d .entry))) ⌝ }
-{
-    is_allowed(d, progress, last, stand, limits) & is_accompanied(d, progress, limits)
 }
 
 fn less_one(x: u8) -> u8
@@ -258,7 +245,6 @@ fn at_interface(d: &[u8], progress: Progress, last: Stand, stand: Stand) -> Prog
         setting: 0,
         interface: kept(stand.interface == last.interface, progress.interface),
         seen: progress.seen,
-        due: false,
     }
 }
 
@@ -272,20 +258,6 @@ fn at_endpoint(d: &[u8], progress: Progress) -> Progress
         setting: octets::set_bit(progress.setting, e),
         interface: octets::set_bit(progress.interface, e),
         seen: octets::set_bit(progress.seen, e),
-        due: true,
-    }
-}
-
-// After any other.
-fn at_other(progress: Progress) -> Progress
-    ensures { λ r. ⌜ r ≡ atOther progress ⌝ }
-{
-    Progress {
-        coming: progress.coming,
-        setting: progress.setting,
-        interface: progress.interface,
-        seen: progress.seen,
-        due: false,
     }
 }
 
@@ -300,16 +272,13 @@ fn move_on(d: &[u8], progress: Progress, last: Stand, stand: Stand) -> Progress
     if t == 5 {
         return at_endpoint(d, progress);
     }
-    at_other(progress)
+    progress
 }
 
-fn may_end(progress: Progress, last: Stand, interfaces: u8, limits: Limits) -> bool
-    ensures { λ r. ⌜ r ≡ (ended interfaces progress last && noneDue limits progress) ⌝ }
+fn may_end(progress: Progress, last: Stand, interfaces: u8) -> bool
+    ensures { λ r. ⌜ r ≡ ended interfaces progress last ⌝ }
 {
-    last.inside
-        & (last.interface as u16 + 1 == interfaces as u16)
-        & (progress.coming == 0)
-        & (!limits.companions | !progress.due)
+    last.inside & (last.interface as u16 + 1 == interfaces as u16) & (progress.coming == 0)
 }
 
 // Not good.
@@ -334,11 +303,12 @@ fn still_refers(d: &[u8], refers: bool, names: &[u32; 8]) -> bool
 
 // The descriptors from `from` on, for so many interfaces.
 fn good_rest(body: &[u8], from: usize, interfaces: u8, limits: Limits, names: &[u32; 8]) -> Verdict
-    ensures { λ r. ⌜ r ≡ verdict (walked (checking limits interfaces) beginning before (cut (drop from (now (body .entry))))) (every (has (now (names .entry))) (collected referring (now (body .entry)) before from)) ⌝ }
+    ensures { λ r. ⌜ r ≡ verdict (walked (checking limits interfaces) starting before (cut (drop from (now (body .entry))))) (every (has (now (names .entry))) (collected referring (now (body .entry)) before from)) ⌝ }
 {
     let mut progress = start();
     let mut refers = true;
     let mut last = crate::outside();
+    let mut due = false;
     let mut at = from;
     while at < body.len() {
         let step = crate::advance(body, at, last);
@@ -346,16 +316,24 @@ fn good_rest(body: &[u8], from: usize, interfaces: u8, limits: Limits, names: &[
         if end <= at {
             return refuse();
         }
-        if may_come(&body[at..end], progress, last, step.stand, limits) {
+        if is_allowed(&body[at..end], progress, last, step.stand, limits) {
             progress = move_on(&body[at..end], progress, last, step.stand);
             refers = still_refers(&body[at..end], refers, names);
             last = step.stand;
+            let start = at;
             at = end;
+            // Last, so that a kind without companions pays one test a descriptor.
+            if limits.companions {
+                if !is_accompanied(&body[start..end], due) {
+                    return refuse();
+                }
+                due = octets::peek(&body[start..end], 1) == 5;
+            }
         } else {
             return refuse();
         }
     }
-    let good = may_end(progress, last, interfaces, limits);
+    let good = may_end(progress, last, interfaces) & (!limits.companions | !due);
     Verdict {
         good,
         refers: good & refers,

@@ -1,4 +1,4 @@
-// Files and lines for the programs that makers and service staff run.
+// Files, lines and arguments for the programs that makers and service staff run.
 use libc::STDOUT_FILENO;
 ghost use Rattle.io.specs.Counts.{Counts};
 
@@ -13,6 +13,18 @@ pub fn read(path: &[u8], buffer: &mut [u8]) -> usize
     let size = io::read_full(file, buffer);
     libc::close(file);
     size
+}
+
+// Whether the first argument is the word `super`, which names the kind of set.
+pub fn asks_super() -> bool {
+    let mut word = [0u8; 5];
+    let size = os::arg(1, &mut word);
+    (size == 5)
+        & (word[0] == b's')
+        & (word[1] == b'u')
+        & (word[2] == b'p')
+        & (word[3] == b'e')
+        & (word[4] == b'r')
 }
 
 pub fn say(text: &[u8]) {

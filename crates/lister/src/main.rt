@@ -1,5 +1,14 @@
-// The lister: reads set.bin and unit.bin where it is run, and writes the set's lines or its refusal.
+// The lister: reads set.bin and unit.bin where it is run, and writes the set's lines or its refusal. The argument `super` names a SuperSpeed set.
+use descriptors::Limits;
 use libc::STDOUT_FILENO;
+
+// The kind of set that was asked for.
+fn kind() -> Limits {
+    if files::asks_super() {
+        return descriptors::super_speed();
+    }
+    descriptors::full_speed()
+}
 
 fn main() {
     // One byte more than any set or serial block may have: a longer file is refused too.
@@ -8,6 +17,6 @@ fn main() {
     let mut out = [0u8; listing::ROOM];
     let set_size = files::read(b"set.bin", &mut set);
     let serial_size = files::read(b"unit.bin", &mut serial);
-    let size = listing::list(&set[..set_size], &serial[..serial_size], &mut out);
+    let size = listing::list(&set[..set_size], &serial[..serial_size], kind(), &mut out);
     io::write_all(STDOUT_FILENO, &out[..size]);
 }

@@ -1,14 +1,25 @@
-// The writer: reads pieces.bin and unit.bin where it is run and writes set.bin, or says which piece stands in the way.
+// The writer: reads pieces.bin and unit.bin where it is run and writes set.bin, or says which piece stands in the way. The argument `super` names
+// a SuperSpeed set.
 mod told;
 
-fn write(stream: &[u8], serial: &[u8]) {
+use descriptors::Limits;
+
+// The kind of set that was asked for.
+fn kind() -> Limits {
+    if files::asks_super() {
+        return descriptors::super_speed();
+    }
+    descriptors::full_speed()
+}
+
+fn write(stream: &[u8], serial: &[u8], limits: Limits) {
     let mut set = [0u8; 16384];
-    let report = set_writer::write(stream, serial, descriptors::full_speed(), &mut set);
+    let report = set_writer::write(stream, serial, limits, &mut set);
     if report.number == 0 {
         let size = set_writer::length_written(report.number, &set) as usize;
         return files::write(b"set.bin", pieces::head(&set, size));
     }
-    told::refused(stream, report.number, report.opening);
+    told::refused(stream, report.number, report.opening, limits);
 }
 
 fn main() {
@@ -20,5 +31,5 @@ fn main() {
     if size == 65535 {
         return files::say(b"pieces.bin is too long: a set has at most 16,384 bytes\n");
     }
-    write(&stream[..size], &serial[..serial_size]);
+    write(&stream[..size], &serial[..serial_size], kind());
 }

@@ -1,4 +1,5 @@
 // What a maker is told of a refusal: its number, why, and each piece that stands in the way, counted from 1, with its place in pieces.bin.
+use descriptors::Limits;
 use files::say;
 use files::say_number;
 ghost use Prim.Native.Nat.{_<_, _≤_};
@@ -73,11 +74,24 @@ fn tell_large(n: usize, at: usize, end: usize) {
     }
 }
 
+fn has_store(limits: Limits) -> bool {
+    descriptors::check::is_named(limits.entries, 15)
+}
+
+// The last of the types that a kind of set has.
+fn say_last(store: bool) {
+    if store {
+        return say(b", 3 and 15\n");
+    }
+    say(b" and 3\n");
+}
+
 // 21, and the opener would say 2: offsets and order are the writer's, so it is the type, the length, or a piece that was there before.
-fn tell_entry(stream: &[u8], n: usize, at: usize) {
+fn tell_entry(stream: &[u8], n: usize, at: usize, limits: Limits) {
     let kind = octets::peek(pieces::tail(stream, at), 0);
-    if (kind == 0) | (3 < kind) {
-        say_piece(n, at, b" has a type other than 1, 2 and 3\n");
+    if !descriptors::check::is_named(limits.entries, kind) {
+        say_piece(n, at, b" has a type other than 1, 2");
+        say_last(has_store(limits));
     }
     if pieces::body_at(stream, at).len() < 2 {
         say_piece(n, at, b" has a body of less than 2 bytes\n");
@@ -95,21 +109,20 @@ fn tell_entry(stream: &[u8], n: usize, at: usize) {
 }
 
 // 21, and the opener would say 3, 4 or 5: the pieces of that type; of the configurations those that break a rule by themselves.
-fn tell_body(stream: &[u8], n: usize, at: usize, opening: u8) {
+fn tell_body(stream: &[u8], n: usize, at: usize, opening: u8, limits: Limits) {
     let kind = octets::peek(pieces::tail(stream, at), 0);
     if (opening == 3) & (kind == 1) {
         say_piece(n, at, b" is a device\n");
+    }
+    if (opening == 3) & (kind == 15) {
+        say_piece(n, at, b" is a BOS\n");
     }
     if (opening == 5) & (kind == 3) {
         say_piece(n, at, b" is a string\n");
     }
     if (opening == 4) & (kind == 2) {
         let body = pieces::body_at(stream, at);
-        let verdict = descriptors::check::good_configuration(
-            body,
-            descriptors::full_speed(),
-            &[0; 8],
-        );
+        let verdict = descriptors::check::good_configuration(body, limits, &[0; 8]);
         if verdict.good {
             return say_piece(n, at, b" is a configuration, good by itself\n");
         }
@@ -117,7 +130,7 @@ fn tell_body(stream: &[u8], n: usize, at: usize, opening: u8) {
     }
 }
 
-fn tell_piece(stream: &[u8], n: usize, at: usize, number: u8, opening: u8)
+fn tell_piece(stream: &[u8], n: usize, at: usize, number: u8, opening: u8, limits: Limits)
     requires { ⌜ at < length (now stream) ⌝ }
 {
     if number == 20 {
@@ -127,22 +140,22 @@ fn tell_piece(stream: &[u8], n: usize, at: usize, number: u8, opening: u8)
         return tell_large(n, at, next(stream, at));
     }
     if opening == 2 {
-        return tell_entry(stream, n, at);
+        return tell_entry(stream, n, at, limits);
     }
-    tell_body(stream, n, at, opening);
+    tell_body(stream, n, at, opening, limits);
 }
 
-fn tell_pieces(stream: &[u8], number: u8, opening: u8) {
+fn tell_pieces(stream: &[u8], number: u8, opening: u8, limits: Limits) {
     let mut n = 1;
     let mut at = 0;
     while at < stream.len() {
-        tell_piece(stream, n, at, number, opening);
+        tell_piece(stream, n, at, number, opening, limits);
         at = next(stream, at);
         n += 1;
     }
 }
 
-pub fn refused(stream: &[u8], number: u8, opening: u8) {
+pub fn refused(stream: &[u8], number: u8, opening: u8, limits: Limits) {
     say(b"refused ");
     say_number(number as usize);
     if opening != 0 {
@@ -153,8 +166,13 @@ pub fn refused(stream: &[u8], number: u8, opening: u8) {
     if stream.len() == 0 {
         say(b"    there are no pieces\n");
     }
+    if (opening == 3) & has_store(limits) {
+        say(
+            b"    a SuperSpeed set has one device, and one BOS of at least 5 bytes with its length in bytes 2 and 3\n",
+        );
+    }
     if opening == 6 {
         say(b"    unit.bin is not the serial block that the device asks for\n");
     }
-    tell_pieces(stream, number, opening);
+    tell_pieces(stream, number, opening, limits);
 }

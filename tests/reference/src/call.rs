@@ -4,9 +4,11 @@ use crate::dumps;
 use crate::endpoints;
 use crate::events::{Block, Event, Lent, Outcome, Part};
 use crate::fault::Fault;
+use crate::kind::Kind;
 use crate::octets::hex;
 use crate::packets;
 use crate::record::{FULL_SPEED, IMAGE_LENGTH};
+use crate::superspeed;
 use crate::trim;
 use crate::writer;
 
@@ -19,6 +21,8 @@ pub enum Call {
     Numbered { record: Vec<u8>, number: u8, value: u8, setup: Vec<u8> },
     Packet { reply_length: usize, asked: u16, size: u32, packet: u32 },
     Write { pieces: Vec<u8>, buffer: Vec<u8> },
+    SuperOpen { image: Vec<u8> },
+    SuperWrite { pieces: Vec<u8>, buffer: Vec<u8> },
     Import { dump: Vec<u8>, buffer: Vec<u8> },
     Export { buffer: Vec<u8> },
     /// The set that is lent, in a buffer of its own.
@@ -65,7 +69,11 @@ impl Call {
             Call::Packet { reply_length, asked, size, packet } => {
                 cut(packets::packet(*reply_length, *asked, *size, *packet, lent.fault))
             }
-            Call::Write { pieces, buffer } => writer::write(pieces, &lent.serial, buffer, lent.fault),
+            Call::Write { pieces, buffer } => writer::write(Kind::Alone, pieces, &lent.serial, buffer, lent.fault),
+            Call::SuperOpen { image } => superspeed::open_image(lent, image),
+            Call::SuperWrite { pieces, buffer } => {
+                writer::write(Kind::Super, pieces, &lent.serial, buffer, lent.fault)
+            }
             Call::Import { dump, buffer } => dumps::import(dump, buffer, lent.fault),
             Call::Export { buffer } => dumps::export(&lent.set, lent.alone(), buffer, lent.fault),
             Call::Trim { set } => trim::trim(set, lent.alone(), lent.fault),
@@ -88,6 +96,8 @@ impl Call {
                 format!("packet {reply_length} {asked} {size} {packet}")
             }
             Call::Write { pieces, buffer } => format!("write {} {}", hex(pieces), hex(buffer)),
+            Call::SuperOpen { .. } => "opensuper".to_string(),
+            Call::SuperWrite { pieces, buffer } => format!("writesuper {} {}", hex(pieces), hex(buffer)),
             Call::Import { dump, buffer } => format!("import {} {}", hex(dump), hex(buffer)),
             Call::Export { buffer } => format!("export {}", hex(buffer)),
             Call::Trim { .. } => "trim".to_string(),
@@ -98,7 +108,7 @@ impl Call {
     /// The image that is lent; packets and the makers' calls need none.
     pub fn image(&self) -> &[u8] {
         match self {
-            Call::Open { image } | Call::Event { image, .. } | Call::ResetTo { image, .. } => image,
+            Call::Open { image } | Call::SuperOpen { image } | Call::Event { image, .. } | Call::ResetTo { image, .. } => image,
             Call::Numbered { record: image, .. } | Call::Endpoint { image, .. } => image,
             Call::TwoOpen { image } | Call::TwoEvent { image, .. } | Call::TwoEndpoint { image, .. } => image,
             _ => &[],
@@ -109,7 +119,7 @@ impl Call {
     pub fn answer_words(&self, outcome: &Outcome) -> String {
         let Outcome { number, bytes, part, image } = outcome;
         match self {
-            Call::Open { .. } | Call::TwoOpen { .. } => format!("{number} {}", hex(image)),
+            Call::Open { .. } | Call::SuperOpen { .. } | Call::TwoOpen { .. } => format!("{number} {}", hex(image)),
             Call::Event { .. } | Call::ResetTo { .. } | Call::Numbered { .. } | Call::TwoEvent { .. } => {
                 format!("{number} {} {} {}", hex(bytes), part_words(*part), hex(image))
             }
@@ -117,7 +127,7 @@ impl Call {
                 let (offset, length) = part.map_or((0, 0), |part| (part.offset, part.length));
                 format!("{number} {offset} {length}")
             }
-            Call::Write { .. } | Call::Import { .. } | Call::Export { .. } | Call::Trim { .. } => {
+            Call::Write { .. } | Call::SuperWrite { .. } | Call::Import { .. } | Call::Export { .. } | Call::Trim { .. } => {
                 format!("{number} {} {}", part.map_or(0, |part| part.length), hex(image))
             }
             Call::Endpoint { .. } | Call::TwoEndpoint { .. } => format!("{number} {}", part_words(*part)),

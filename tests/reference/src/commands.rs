@@ -13,6 +13,7 @@ use crate::makers;
 use crate::octets::kebab;
 use crate::runs;
 use crate::serve::serve;
+use crate::super_draft;
 use crate::vectors;
 
 const DEFAULT_SETS: usize = 100_000;
@@ -22,6 +23,7 @@ const DEFAULT_DUMPS: usize = 50_000;
 const DEFAULT_TRIMS: usize = 50_000;
 const DEFAULT_PAIRS: usize = 100_000;
 const DEFAULT_PAIR_CALLS: usize = 200_000;
+const DEFAULT_SUPERS: usize = 100_000;
 
 /// The numbers that opening gives back, and all of them.
 const OPENING_NUMBERS: [u8; 7] = [0, 1, 2, 3, 4, 5, 6];
@@ -39,13 +41,15 @@ reference vectors [--least N] FILE..            answers every question of the fi
 reference run-vectors --program CMD [--least N] FILE..
                                                 the same, and through a harness
 reference compare --program CMD [--sets N] [--calls N] [--pairs N] [--pair-calls N] [--writes N] [--dumps N] [--trims N]
-                  [--seed S] [--fault NAME]     sets through opening, calls over the whole boundary, or both; the same with two sets lent;
-                                                streams of pieces; dumps; sets to trim;
+                  [--supers N] [--seed S] [--fault NAME]
+                                                sets through opening, calls over the whole boundary, or both; the same with two sets lent;
+                                                streams of pieces; dumps; sets to trim; SuperSpeed sets, opened and written;
                                                 from 100,000 sets and 200,000 calls on each rule and number must be reached
 reference faults --program CMD [--seed S]       every planted fault must be noticed
 reference serve [--fault NAME]                  the reference in a harness's place
 reference list SET SERIAL [--fault NAME]        the lister's text for two files
 reference open-pair FULL HIGH SERIAL            the number that opening two sets gives, for three files
+reference list-super SET SERIAL                 the same of a SuperSpeed set
 reference generate DIR N [--seed S]             N sets as files set-XXXX.bin and unit-XXXX.bin
 reference samples DIR [--seed S]                the bench set and sets of 16,384 bytes as files, for the stack test
 reference lister --program CMD --directory DIR [--sets N] [--seed S]
@@ -108,6 +112,10 @@ pub fn run(arguments: &Arguments) -> ExitCode {
         ["serve"] => arguments.fault().and_then(answer_commands),
         ["list", set, serial] => list(arguments, set, serial),
         ["open-pair", full, high, serial] => open_pair([full, high, serial]),
+        ["list-super", set, serial] => {
+            print!("{}", files::list_super_files(set, serial));
+            Ok(true)
+        }
         ["generate", directory, count] => generate(arguments, directory, count),
         ["samples", directory] => samples(arguments, directory),
         ["lister"] => lister(arguments),
@@ -175,8 +183,9 @@ fn compare(arguments: &Arguments) -> Verdict {
     let writes = arguments.number("writes")?;
     let dumps = arguments.number("dumps")?;
     let trims = arguments.number("trims")?;
+    let supers = arguments.number("supers")?;
     let (pairs, pair_calls) = (arguments.number("pairs")?, arguments.number("pair-calls")?);
-    let both = [sets, calls, writes, dumps, trims, pairs, pair_calls].iter().all(Option::is_none);
+    let both = [sets, calls, writes, dumps, trims, supers, pairs, pair_calls].iter().all(Option::is_none);
     let mut right = true;
     if let Some(pairs) = pairs {
         right &= compare_pairs(arguments, pairs)?;
@@ -192,6 +201,9 @@ fn compare(arguments: &Arguments) -> Verdict {
     }
     if let Some(trims) = trims {
         right &= compare_trims(arguments, trims)?;
+    }
+    if let Some(supers) = supers {
+        right &= compare_supers(arguments, supers)?;
     }
     if sets.is_some() || both {
         right &= compare_opening(arguments, sets.unwrap_or(DEFAULT_SETS))?;
@@ -277,6 +289,23 @@ fn compare_trims(arguments: &Arguments, calls: usize) -> Verdict {
     Ok(same & reached(&numbered(&numbers, &OPENING_NUMBERS), demanded) & reached(&kinds, demanded))
 }
 
+fn compare_supers(arguments: &Arguments, sets: usize) -> Verdict {
+    let (seed, fault) = (arguments.seed()?, arguments.fault()?);
+    let mut comparison = Comparison::start(arguments.program()?, PATIENCE).map_err(told)?;
+    let rules = super_draft::opening(&mut comparison, sets, seed, fault);
+    let numbers = comparison.numbers;
+    let same = ended(comparison, "SuperSpeed opening", "calls")?;
+    let demanded = sets >= DEFAULT_SUPERS;
+    let by_name = rules.iter().map(|(rule, count)| (format!("{} {}", rule.group(), kebab(&format!("{rule:?}"))), *count));
+    let met = reached(&numbered(&numbers, &OPENING_NUMBERS), demanded) & reached(&by_name.collect::<Vec<_>>(), demanded);
+    let mut comparison = Comparison::start(arguments.program()?, PATIENCE).map_err(told)?;
+    super_draft::writing(&mut comparison, sets / 4, seed, fault);
+    let numbers = comparison.numbers;
+    let written = ended(comparison, "SuperSpeed writer", "streams")?;
+    let met = met & reached(&[0, 20, 21, 22].map(|number| (format!("number {number}"), numbers[number])), demanded);
+    Ok(same & written & met)
+}
+
 /// Tells how a comparison went and how long it took.
 fn ended(comparison: Comparison, part: &str, unit: &str) -> Verdict {
     let (start, calls) = (comparison.start, comparison.calls);
@@ -315,6 +344,8 @@ fn faults(arguments: &Arguments) -> Verdict {
             runs::opening_two(&mut comparison, DEFAULT_PAIRS, seed, fault);
         } else if fault::SPEEDS.contains(&fault) {
             runs::whole_two(&mut comparison, DEFAULT_PAIR_CALLS, seed, fault);
+        } else if fault::SUPER.contains(&fault) {
+            super_draft::opening(&mut comparison, DEFAULT_SUPERS, seed, fault);
         } else {
             runs::whole(&mut comparison, DEFAULT_CALLS, seed, fault);
         }

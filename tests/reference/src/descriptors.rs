@@ -103,7 +103,7 @@ impl Configuration {
 }
 
 /// "Cut by bLength, every bLength at least 2 and inside the body, the last ending exactly at the body's end."
-fn cut(body: &[u8], fault: Fault) -> Result<Vec<&[u8]>, Rule> {
+pub fn cut(body: &[u8], fault: Fault) -> Result<Vec<&[u8]>, Rule> {
     let shortest = if fault == Fault::DescriptorOfTwoBytesRefused { 3 } else { 2 };
     let mut descriptors = Vec::new();
     let mut rest = body;

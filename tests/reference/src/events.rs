@@ -114,7 +114,7 @@ pub struct Lent {
 }
 
 impl Outcome {
-    fn new(number: u8, image: Vec<u8>) -> Outcome {
+    pub fn new(number: u8, image: Vec<u8>) -> Outcome {
         Outcome { number, bytes: Vec::new(), part: None, image }
     }
 }

@@ -118,6 +118,15 @@ faults! {
         WaitingInTestModeFits TestModeWaitsAtFullSpeedFits SixthTestModeFits TestModeInConfiguredDoesNotFit
         AnySpeedFits
     }
+    SUPER {
+        SuperControlSizeAsFullSpeed SuperControlSizeDoubled SuperBulkSize512Passes SuperSizeByLowBits
+        SuperInterruptSizeZeroPasses SuperIsochronousSizeZeroRefused SuperInterruptIntervalAsFullSpeed
+        StoreMissingPasses StoreTwicePasses StoreIndexIgnored StoreLanguageIgnored StoreOfFourBytesPasses
+        StoreTotalIgnored StoreTotalByLowByte StoreTypeByteJudged StoreAfterConfigurations StoreAloneToo
+        LastCompanionMissingPasses CompanionOfFiveBytesPasses CompanionMayComeLater SecondCompanionPasses
+        StrayCompanionPasses IsochronousNeedsNoCompanion CompanionsAfterStrings SuperQualifierPasses
+        SuperRefusalKeepsImage
+    }
     LISTER {
         AttributesInsteadOfTransferType PacketSizeByLowByte IndexInsteadOfValue FirstSettingsOnly
         SettingsInsteadOfInterfaces
@@ -127,7 +136,7 @@ faults! {
 impl Fault {
     /// All that show at the C boundary.
     pub fn at_boundary() -> impl Iterator<Item = Fault> {
-        [OPENING, EVENTS, PACKETS, ENDPOINTS, WRITER, DUMPS, TRIM, PAIRS, SPEEDS].into_iter().flatten().copied()
+        [OPENING, EVENTS, PACKETS, ENDPOINTS, WRITER, DUMPS, TRIM, PAIRS, SPEEDS, SUPER].into_iter().flatten().copied()
     }
 
     pub fn name(self) -> String {

@@ -7,7 +7,7 @@ use std::process::Command;
 
 use crate::draft::Draft;
 use crate::fault::Fault;
-use crate::lister::list;
+use crate::lister::{list, list_super};
 use crate::random::Random;
 use crate::runs::any_set;
 
@@ -22,6 +22,12 @@ const BENCH_SET: [u8; 63] = [
 pub fn list_files(set: &str, serial: &str, fault: Fault) -> String {
     let read = |path: &str| fs::read(path).unwrap_or_default();
     list(&read(set), &read(serial), fault)
+}
+
+/// The same of a SuperSpeed set.
+pub fn list_super_files(set: &str, serial: &str) -> String {
+    let read = |path: &str| fs::read(path).unwrap_or_default();
+    list_super(&read(set), &read(serial), Fault::None)
 }
 
 pub fn generate(directory: &Path, count: usize, seed: u64) -> io::Result<()> {

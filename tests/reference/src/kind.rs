@@ -1,4 +1,4 @@
-//! The kinds of set: one lent alone, or the full-speed or the high-speed one of a pair.
+//! The kinds of set: one lent alone, the full-speed or the high-speed one of a pair, or a SuperSpeed one.
 
 use crate::descriptors::{Endpoint, BULK, ISOCHRONOUS};
 use crate::fault::Fault;
@@ -9,12 +9,13 @@ pub enum Kind {
     Alone,
     PairedFull,
     PairedHigh,
+    Super,
 }
 
 impl Kind {
     /// Types 6 and 7 as entries: "allowed in a set of a pair alone".
     pub fn is_paired(self) -> bool {
-        self != Kind::Alone
+        matches!(self, Kind::PairedFull | Kind::PairedHigh)
     }
 
     pub fn control_sizes(self, fault: Fault) -> &'static [u8] {
@@ -22,6 +23,9 @@ impl Kind {
             Kind::PairedHigh if fault == Fault::HighControlSizeEightPasses => &[8, 64],
             Kind::PairedHigh if fault == Fault::HighControlSizeAsFullSpeed => &[8, 16, 32, 64],
             Kind::PairedHigh => &[64],
+            Kind::Super if fault == Fault::SuperControlSizeAsFullSpeed => &[8, 9, 16, 32, 64],
+            Kind::Super if fault == Fault::SuperControlSizeDoubled => &[9, 18, 36, 72],
+            Kind::Super => &[9],
             _ if fault == Fault::MaxPacketSize128Passes => &[8, 16, 32, 64, 128],
             _ => &[8, 16, 32, 64],
         }
@@ -47,6 +51,21 @@ impl Kind {
                 let longest = if fault == Fault::HighInterruptIntervalAsFullSpeed { 255 } else { 16 };
                 require((1..=longest).contains(&endpoint.interval), Rule::InterruptInterval)
             }
+            (Kind::Super, BULK) => {
+                let as_high = fault == Fault::SuperBulkSize512Passes && endpoint.packet_size == 512;
+                require(super_size(endpoint, fault) == 1024 || as_high, Rule::BulkPacketSize)
+            }
+            (Kind::Super, ISOCHRONOUS) => {
+                let least = u16::from(fault == Fault::SuperIsochronousSizeZeroRefused);
+                require((least..=1024).contains(&super_size(endpoint, fault)), Rule::IsochronousPacketSize)?;
+                require((1..=16).contains(&endpoint.interval), Rule::IsochronousInterval)
+            }
+            (Kind::Super, _) => {
+                let least = u16::from(fault != Fault::SuperInterruptSizeZeroPasses);
+                require((least..=1024).contains(&super_size(endpoint, fault)), Rule::InterruptPacketSize)?;
+                let longest = if fault == Fault::SuperInterruptIntervalAsFullSpeed { 255 } else { 16 };
+                require((1..=longest).contains(&endpoint.interval), Rule::InterruptInterval)
+            }
             (_, ISOCHRONOUS) => check_isochronous(endpoint, fault),
             (_, BULK) => check_bulk(endpoint, fault),
             _ => check_interrupt(endpoint, fault),
@@ -61,6 +80,14 @@ fn high_speed_size(endpoint: &Endpoint, fault: Fault) -> bool {
     let most = if fault == Fault::HighBurstsThreePass { 3 } else { 2 };
     let high_bits_zero = endpoint.packet_size >> 13 == 0 || fault == Fault::HighSizeTopBitsIgnored;
     size <= largest && bursts <= most && high_bits_zero && (bursts == 0 || fault != Fault::HighBurstsRefused)
+}
+
+/// All 16 bits count.
+fn super_size(endpoint: &Endpoint, fault: Fault) -> u16 {
+    match fault {
+        Fault::SuperSizeByLowBits => endpoint.packet_size & 0x07ff,
+        _ => endpoint.packet_size,
+    }
 }
 
 fn check_isochronous(endpoint: &Endpoint, fault: Fault) -> Result<(), Rule> {

@@ -3,15 +3,25 @@
 use crate::descriptors::Configuration;
 use crate::fault::Fault;
 use crate::opening::Board;
+use crate::superspeed;
 
 pub fn list(set: &[u8], serial: &[u8], fault: Fault) -> String {
-    match Board::open(set, serial, fault) {
-        Err(rule) => format!("REFUSED {}\n", rule.group()),
-        Ok(board) => {
-            let configurations = board.configurations.iter().enumerate();
-            let lines: String =
-                configurations.map(|(index, configuration)| lines(index, configuration, fault)).collect();
-            format!("ACCEPTED {}\n{lines}", board.configurations.len())
+    let opened = Board::open(set, serial, fault);
+    text(opened.map(|board| board.configurations).map_err(|rule| rule.group()), fault)
+}
+
+/// Of a SuperSpeed set.
+pub fn list_super(set: &[u8], serial: &[u8], fault: Fault) -> String {
+    text(superspeed::configurations(set, serial, fault), fault)
+}
+
+fn text(opened: Result<Vec<Configuration>, u8>, fault: Fault) -> String {
+    match opened {
+        Err(number) => format!("REFUSED {number}\n"),
+        Ok(configurations) => {
+            let each = configurations.iter().enumerate();
+            let lines: String = each.map(|(index, configuration)| lines(index, configuration, fault)).collect();
+            format!("ACCEPTED {}\n{lines}", configurations.len())
         }
     }
 }

@@ -28,6 +28,8 @@ mod requests;
 mod rule;
 mod runs;
 mod serve;
+mod super_draft;
+mod superspeed;
 mod trim;
 mod vectors;
 mod writer;

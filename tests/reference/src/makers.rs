@@ -12,7 +12,7 @@ use crate::opening::{CONFIGURATION, DEVICE, STRING};
 use crate::random::Random;
 use crate::runs::any_set;
 
-fn piece(entry: &DraftEntry) -> Vec<u8> {
+pub fn piece(entry: &DraftEntry) -> Vec<u8> {
     let mut piece = vec![entry.descriptor_type, entry.index];
     piece.extend(entry.language.to_le_bytes());
     piece.extend((entry.body.len() as u16).to_le_bytes());
@@ -35,7 +35,7 @@ fn pieces(random: &mut Random) -> (Vec<Vec<u8>>, Vec<u8>) {
 }
 
 /// A change to some of the pieces.
-fn change_pieces(pieces: &mut Vec<Vec<u8>>, random: &mut Random) {
+pub fn change_pieces(pieces: &mut Vec<Vec<u8>>, random: &mut Random) {
     let length = pieces.iter().map(|piece| piece.len() + 2).sum::<usize>() + 4;
     let chosen = random.below(pieces.len());
     match random.below(8) {
@@ -69,7 +69,7 @@ fn change_pieces(pieces: &mut Vec<Vec<u8>>, random: &mut Random) {
 }
 
 /// A change to the stream: a byte too many, one missing, a length that is off, noise.
-fn change_stream(stream: &mut Vec<u8>, random: &mut Random) {
+pub fn change_stream(stream: &mut Vec<u8>, random: &mut Random) {
     let at = if stream.is_empty() { 0 } else { random.below(stream.len()) };
     match random.below(5) {
         0 => stream.extend(vec![0; random.between(1, 7)]),
@@ -82,7 +82,7 @@ fn change_stream(stream: &mut Vec<u8>, random: &mut Random) {
 }
 
 /// A buffer that holds the set exactly, nearly, or with some room.
-fn buffer(set: usize, random: &mut Random) -> Vec<u8> {
+pub fn buffer(set: usize, random: &mut Random) -> Vec<u8> {
     let length = match random.below(8) {
         0 => 0,
         1 => set.saturating_sub(1),

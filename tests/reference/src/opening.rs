@@ -12,6 +12,7 @@ pub const CONFIGURATION: u8 = 2;
 pub const STRING: u8 = 3;
 pub const QUALIFIER: u8 = 6;
 pub const OTHER_SPEED: u8 = 7;
+pub const STORE: u8 = 15;
 
 /// One line of the set's contents.
 #[derive(Clone, Copy, Debug)]
@@ -74,7 +75,7 @@ impl Board {
         Ok(Board { entries, configurations, languages, serial_index, serial_length, kind, fault })
     }
 
-    /// Groups 1 and 2 alone: no rule asks this, a fault does.
+    /// Groups 1 and 2 alone.
     pub fn contents_of(kind: Kind, set: &[u8], fault: Fault) -> Result<Vec<Entry>, Rule> {
         check_frame(set, fault)?;
         contents(kind, set, fault)
@@ -144,7 +145,9 @@ fn contents(kind: Kind, set: &[u8], fault: Fault) -> Result<Vec<Entry>, Rule> {
     let paired = kind.is_paired() || fault == Fault::TypesOfPairAloneToo;
     let known_type = |entry: &Entry| match entry.descriptor_type {
         DEVICE..=STRING => true,
+        QUALIFIER if kind == Kind::Super => fault == Fault::SuperQualifierPasses,
         QUALIFIER | OTHER_SPEED => paired,
+        STORE => kind == Kind::Super || fault == Fault::StoreAloneToo,
         _ => false,
     };
     require(entries.iter().all(known_type), Rule::EntryType)?;

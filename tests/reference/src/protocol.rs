@@ -16,6 +16,7 @@
 //!     O image                hk_two_open                   V event(1) value(1) image setup    hk_two_event
 //!     N number(1) image      hk_two_endpoint
 //!     w pieces buffer        hk_write: length is what was written, the image is the buffer
+//!     f image                hk_super_open                 F pieces buffer   hk_super_write, as hk_write
 //!     i dump buffer          hk_import, in the same way    x buffer       hk_export
 //!     t set                  hk_trim: length is the total, the image is the set
 //!
@@ -126,6 +127,8 @@ impl Command {
             Command::Call(Call::Open { .. }) => b'o',
             Command::Call(Call::Packet { .. }) => b'k',
             Command::Call(Call::Write { .. }) => b'w',
+            Command::Call(Call::SuperOpen { .. }) => b'f',
+            Command::Call(Call::SuperWrite { .. }) => b'F',
             Command::Call(Call::Import { .. }) => b'i',
             Command::Call(Call::Export { .. }) => b'x',
             Command::Call(Call::Numbered { .. }) => b'v',
@@ -175,7 +178,7 @@ impl Command {
 
 fn write_call(call: &Call, stream: &mut impl Write) -> io::Result<()> {
     match call {
-        Call::Open { image } | Call::TwoOpen { image } => write_block(stream, image),
+        Call::Open { image } | Call::SuperOpen { image } | Call::TwoOpen { image } => write_block(stream, image),
         Call::Event { image, event } => match event {
             Event::Setup(setup) => {
                 write_block(stream, image)?;
@@ -198,7 +201,9 @@ fn write_call(call: &Call, stream: &mut impl Write) -> io::Result<()> {
             stream.write_all(&size.to_le_bytes())?;
             stream.write_all(&packet.to_le_bytes())
         }
-        Call::Write { pieces: given, buffer } | Call::Import { dump: given, buffer } => {
+        Call::Write { pieces: given, buffer }
+        | Call::SuperWrite { pieces: given, buffer }
+        | Call::Import { dump: given, buffer } => {
             write_block(stream, given)?;
             write_block(stream, buffer)
         }
@@ -218,6 +223,8 @@ fn read_call(operation: u8, stream: &mut impl Read) -> io::Result<Call> {
         b'O' => return Ok(Call::TwoOpen { image: read_block(stream)? }),
         b'k' => return read_packet(stream),
         b'w' => return Ok(Call::Write { pieces: read_block(stream)?, buffer: read_block(stream)? }),
+        b'f' => return Ok(Call::SuperOpen { image: read_block(stream)? }),
+        b'F' => return Ok(Call::SuperWrite { pieces: read_block(stream)?, buffer: read_block(stream)? }),
         b'i' => return Ok(Call::Import { dump: read_block(stream)?, buffer: read_block(stream)? }),
         b'x' => return Ok(Call::Export { buffer: read_block(stream)? }),
         b'v' => {

@@ -4,7 +4,7 @@ use crate::call::Call;
 use crate::concerns::concerned;
 use crate::events::{Event, Lent};
 use crate::fault::Fault;
-use crate::lister::list;
+use crate::lister::{list, list_super};
 use crate::octets::{from_hex, hex};
 use crate::packets;
 use crate::record::{Record, FULL_SPEED};
@@ -107,7 +107,9 @@ impl Script {
         match words[0] {
             "open" if self.lends_two() => Some(self.tell_call(Call::TwoOpen { image: self.record.clone() })),
             "open" => Some(self.tell_call(Call::Open { image: self.record.clone() })),
-            "event" if self.landed => Some(self.tell_event(&event(&words[1..])?)),
+            "opensuper" => Some(self.tell_call(Call::SuperOpen { image: self.record.clone() })),
+            // a refused set gives 7 and a record that does not fit 8, by any rules
+            "event" if self.landed || !self.fits() => Some(self.tell_event(&event(&words[1..])?)),
             "packet" => {
                 let numbers = numbers(&words[1..])?;
                 Some(self.tell_call(packet_call(numbers.get(..3)?, *numbers.get(3)?)?))
@@ -115,6 +117,10 @@ impl Script {
             "write" => {
                 let (pieces, buffer) = (from_hex(words.get(1)?)?, from_hex(words.get(2)?)?);
                 Some(self.tell_call(Call::Write { pieces, buffer }))
+            }
+            "writesuper" => {
+                let (pieces, buffer) = (from_hex(words.get(1)?)?, from_hex(words.get(2)?)?);
+                Some(self.tell_call(Call::SuperWrite { pieces, buffer }))
             }
             "import" => {
                 let (dump, buffer) = (from_hex(words.get(1)?)?, from_hex(words.get(2)?)?);
@@ -133,6 +139,7 @@ impl Script {
             }
             "count" => tell_count(&numbers(&words[1..])?),
             "list" => told(hex(list(&self.lent.set, &self.lent.serial, Fault::None).as_bytes())),
+            "listsuper" => told(hex(list_super(&self.lent.set, &self.lent.serial, Fault::None).as_bytes())),
             "fits" if self.landed => told(u8::from(self.fits()).to_string()),
             "concerns" if self.landed => told(self.concerned(&event(&words[1..])?)),
             _ => None,

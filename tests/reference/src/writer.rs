@@ -4,8 +4,10 @@ use std::collections::BTreeMap;
 
 use crate::events::{Block, Outcome, Part};
 use crate::fault::Fault;
+use crate::kind::Kind;
 use crate::octets::number;
 use crate::opening::Board;
+use crate::superspeed;
 
 const LONGEST_SET: usize = 16_384;
 const MOST_PIECES: usize = 64;
@@ -74,7 +76,7 @@ fn assembled(pieces: &[Piece], fault: Fault) -> Option<Vec<u8>> {
 }
 
 /// The set that is to be written, or the number of the refusal.
-fn written(stream: &[u8], serial: &[u8], room: usize, fault: Fault) -> Result<Vec<u8>, u8> {
+fn written(kind: Kind, stream: &[u8], serial: &[u8], room: usize, fault: Fault) -> Result<Vec<u8>, u8> {
     let most = MOST_PIECES - usize::from(fault == Fault::SixtyFourthPieceRefused);
     let longest = LONGEST_SET - usize::from(fault == Fault::LongestWrittenOneLess);
     if fault == Fault::SizeBeforeWholeStream && stream.len() > LONGEST_SET {
@@ -90,7 +92,13 @@ fn written(stream: &[u8], serial: &[u8], room: usize, fault: Fault) -> Result<Ve
     }
     let set = assembled(&pieces, fault).ok_or(21)?;
     let serial = if fault == Fault::WrittenWithoutSerial { &[] } else { serial };
-    Board::open(&set, serial, Fault::None).map_err(|_| 21)?;
+    let opens = match kind {
+        Kind::Super => superspeed::open(&set, serial, fault).is_ok(),
+        _ => Board::open(&set, serial, Fault::None).is_ok(),
+    };
+    if !opens {
+        return Err(21);
+    }
     let least = if fault == Fault::RoomForOneMore { set.len() + 1 } else { set.len() };
     if room < least {
         return Err(22);
@@ -98,10 +106,10 @@ fn written(stream: &[u8], serial: &[u8], room: usize, fault: Fault) -> Result<Ve
     Ok(set)
 }
 
-/// hk_write: the number, the buffer after it, and the set's length as the length of a part.
-pub fn write(stream: &[u8], serial: &[u8], buffer: &[u8], fault: Fault) -> Outcome {
+/// hk_write, or hk_super_write: the number, the buffer after it, and the set's length as the length of a part.
+pub fn write(kind: Kind, stream: &[u8], serial: &[u8], buffer: &[u8], fault: Fault) -> Outcome {
     let mut after = buffer.to_vec();
-    let (number, length) = match written(stream, serial, buffer.len(), fault) {
+    let (number, length) = match written(kind, stream, serial, buffer.len(), fault) {
         Err(number) => {
             if fault == Fault::RefusalTouchesBuffer && number != 20 {
                 after.iter_mut().take(1).for_each(|byte| *byte ^= 1);

@@ -9,7 +9,7 @@ use Rattle.octets.specs.Sentences.{every}
 use Rattle.octets.specs.Table.{has}
 use Rattle.descriptors.specs.Cut.{cut}
 use Rattle.descriptors.specs.Walk.{before, stepOf, walked, collected}
-use Rattle.descriptors.specs.Check.{beginning, checking, referring}
+use Rattle.descriptors.specs.Check.{starting, checking, referring}
 use Rattle.descriptors.specs.Configuration.{bNumInterfaces, iConfiguration, goodConfiguration}
 use Rattle.descriptors.proofs.CheckWhole.{check-none, head-inside, check-head}
 use Rattle.descriptors.proofs.CheckReferences.{references-behind, refused, with-more}
@@ -29,7 +29,7 @@ checked : (c : tie.After-good-head) {b : Bool} → c .good-head .result ≡ b
     → let a = c .before .before .before .before .before .before .args in
     let end = c .before .before .before .advance .result .end in
     goodConfiguration (a .limits) (a .body .now)
-    ≡ (b && walked (checking (a .limits) (bNumInterfaces (take end (a .body .now)))) beginning before (cut (drop end (a .body .now))))
+    ≡ (b && walked (checking (a .limits) (bNumInterfaces (take end (a .body .now)))) starting before (cut (drop end (a .body .now))))
 checked c p =
     let a = c .before .before .before .before .before .before .args in
     check-head (a .limits) (a .body .now) _ (stepped (c .before .before .before)) (went (c .before .before)) ∙ rw (sym (c .good-head .ensures) ∙ p)
@@ -76,7 +76,7 @@ returns-2 c =
       checked (c .before .before .before .before .before .before) (c .before .before .before .before .before .if2 .taken),
       references-behind (has (a .names .now)) body _ (stepped (w .before)) (went w),
     )
-    (with-more (c .before .before .before .good-rest .result) (walked (checking (a .limits) (bNumInterfaces (take end body))) beginning before (cut (drop end body)))
+    (with-more (c .before .before .before .good-rest .result) (walked (checking (a .limits) (bNumInterfaces (take end body))) starting before (cut (drop end body)))
     (every (has (a .names .now)) (collected referring body before end)) (has (a .names .now) (iConfiguration body)) (rw (c .before .before .before .before .peek .ensures) at (c .before .before .before .good-rest .ensures)))
 
 refuse-requires-2 : tie.Need-refuse-requires-2

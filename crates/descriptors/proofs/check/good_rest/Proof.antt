@@ -1,33 +1,51 @@
 -- `descriptors::check::good_rest` meets its contract: what is asked of all is asked of the descriptors ahead, by the check and of the references. No axiom.
-use Prim.Native.Nat.{_-_, _≤_}
+use Prim.Native.Nat.{ℕ, _-_, _≤_}
 use native.Mathlib.Omega.{arith}
-use mathlib.Core.Path.{_≡_, refl, sym, _∙_}
-use mathlib.Core.Bool.{_&&_}
+use mathlib.Core.Path.{_≡_, refl, sym, ap, _∙_}
+use mathlib.Core.List.{List}
+use mathlib.Core.Bool.{true, _&&_}
 use lib.ListN.{length, drop}
+use lib.Dec.{eqb}
+use borrow.Author.Tests.{not-true, not-false}
 use borrow.Author.Needs.{needs}
 use Rattle.octets.specs.Sentences.{every}
 use Rattle.octets.specs.Table.{has}
 use Rattle.descriptors.specs.Cut.{cut}
 use Rattle.descriptors.specs.Walk.{before, walked, collected}
-use Rattle.descriptors.specs.Check.{beginning, checking, referring}
-use Rattle.descriptors.proofs.Walk.{Walking, walk-inside, walk-stop, walk-on, walk-end}
-use Rattle.descriptors.proofs.CheckWhole.{check-stuck}
+use Rattle.descriptors.specs.Check.{allowed, Course, starting, checking, referring}
+use Rattle.descriptors.proofs.Walk.{Walking, spanned, walk-inside, walk-stop, walk-on, walk-end}
+use Rattle.descriptors.proofs.CheckWhole.{unasked, asked-of, pass-on, pass-not, pass-none, passed-with, passed-without, check-stuck}
 use Rattle.descriptors.proofs.CheckReferences.{asked-all, asked-on, refused}
 use Rattle.descriptors.proofs.check.good_rest.Statement.{statement}
 use Rattle.descriptors.proofs.check.good_rest.Tie as tie
 
 abbrev Inv-loop : tie.InvT-loop
-Inv-loop body from interfaces limits names progress₀ refers₀ last₀ at₀ progress refers last at =
-    Walking (checking limits interfaces) body (walked (checking limits interfaces) beginning before (cut (drop from body))) progress last at
+Inv-loop body from interfaces limits names progress₀ refers₀ last₀ due₀ at₀ progress refers last due at =
+    Walking (checking limits interfaces) body (walked (checking limits interfaces) starting before (cut (drop from body))) (record { progress = progress; due = due }) last at
     × (every (has names) (collected referring body before from) ≡ (refers && every (has names) (collected referring body last at)))
 
 abbrev μ-loop : tie.MeasureT-loop
-μ-loop body from interfaces limits names progress₀ refers₀ last₀ at₀ progress refers last at = length body - at
+μ-loop body from interfaces limits names progress₀ refers₀ last₀ due₀ at₀ progress refers last due at = length body - at
 
 -- the descriptor at hand ends inside the body
 inside : (c : tie.Else1 Inv-loop μ-loop) → c .before .advance .result .end ≤ length (c .before .before .before .before .before .before .before .args .body .now)
 inside c =
     walk-inside (c .before .before .before .loop .inv .0) (c .before .advance .ensures) (c .before .before .loop-test .taken) (c .if1 .left)
+
+-- after a descriptor that may come, by itself: where it was found, and that it may
+abbrev found : tie.After-last Inv-loop μ-loop → tie.Else1 Inv-loop μ-loop
+found l = l .before .before .before .before .before .before .before .before
+
+abbrev course : tie.Else1 Inv-loop μ-loop → Course
+course e = let p = e .before .before .before .loop in record { progress = p .progress; due = p .due }
+
+abbrev here : tie.Else1 Inv-loop μ-loop → List ℕ
+here e = spanned (e .before .before .before .before .before .before .before .args .body .now) (e .before .before .before .loop .at) (e .before .advance .result .end)
+
+may : (l : tie.After-last Inv-loop μ-loop)
+    → let e = l .before .before .before .before .before .before .before .before in
+    allowed (e .before .before .before .before .before .before .before .args .limits) (course e .progress) (e .before .before .before .loop .last) (e .before .advance .result .stand) (here e) ≡ true
+may l = sym (l .before .before .before .before .before .before .is-allowed .ensures) ∙ l .before .before .before .before .before .if2 .taken
 
 start-requires : tie.Need-start-requires Inv-loop μ-loop
 start-requires c κs = search needs
@@ -36,7 +54,7 @@ outside-requires : tie.Need-outside-requires Inv-loop μ-loop
 outside-requires c κs = search needs
 
 loop-holds : tie.Need-loop-holds Inv-loop μ-loop
-loop-holds c = (record { rest = rw (c .before .start .ensures, c .outside .ensures) }, rw (c .outside .ensures))
+loop-holds c = (record { rest = rw (c .before .start .ensures, c .outside .ensures) }, refl)
 
 advance-requires : tie.Need-advance-requires Inv-loop μ-loop
 advance-requires c κs = search needs
@@ -52,17 +70,17 @@ returns c =
     ∙ refused _
     (check-stuck (a .limits) (a .interfaces) (w .before .before .before .loop .inv .0) (w .before .advance .ensures) (w .before .before .loop-test .taken) (w .if1 .taken))
 
-sub-may-come : tie.Need-sub-may-come Inv-loop μ-loop
-sub-may-come c = search needs
+sub-is-allowed : tie.Need-sub-is-allowed Inv-loop μ-loop
+sub-is-allowed c = search needs
 
-part-may-come-start : tie.Need-part-may-come-start Inv-loop μ-loop
-part-may-come-start c = search needs
+part-is-allowed-start : tie.Need-part-is-allowed-start Inv-loop μ-loop
+part-is-allowed-start c = search needs
 
-part-may-come-end : tie.Need-part-may-come-end Inv-loop μ-loop
-part-may-come-end c = inside c
+part-is-allowed-end : tie.Need-part-is-allowed-end Inv-loop μ-loop
+part-is-allowed-end c = inside c
 
-may-come-requires : tie.Need-may-come-requires Inv-loop μ-loop
-may-come-requires c κs = search needs
+is-allowed-requires : tie.Need-is-allowed-requires Inv-loop μ-loop
+is-allowed-requires c κs = search needs
 
 sub-move-on : tie.Need-sub-move-on Inv-loop μ-loop
 sub-move-on c = search needs
@@ -88,46 +106,111 @@ part-still-refers-end c = inside (c .before .before .before .before .before)
 still-refers-requires : tie.Need-still-refers-requires Inv-loop μ-loop
 still-refers-requires c κs = search needs
 
-loop-less : tie.Need-loop-less Inv-loop μ-loop
-loop-less c =
-    let w = c .before .before .before .before .before .before .before .before in
-    let i = inside w in
-    omega (arith, i, w .if1 .left, w .before .before .loop-test .taken)
+sub-is-accompanied : tie.Need-sub-is-accompanied Inv-loop μ-loop
+sub-is-accompanied c = search needs
 
-loop-again : tie.Need-loop-again Inv-loop μ-loop
-loop-again c =
-    let w = c .before .before .before .before .before .before .before .before in
-    let a = w .before .before .before .before .before .before .before .args in
-    let l = w .before .before .before .loop in
-    let s = w .before .advance in (
-      walk-on (l .inv .0) (s .ensures) (w .before .before .loop-test .taken) (w .if1 .left)
-          (rw (sym (c .before .before .before .before .before .before .may-come .ensures) ∙ c .before .before .before .before .before .if2 .taken)) (c .before .before .before .move-on .ensures),
-      rw (c .before .still-refers .ensures)
-          (asked-on (has (a .names .now)) (a .body .now) (l .last) (l .at) (l .refers) _ (l .inv .1) (s .result) (s .ensures) (w .before .before .loop-test .taken) (w .if1 .left)),
-    )
+part-is-accompanied-start : tie.Need-part-is-accompanied-start Inv-loop μ-loop
+part-is-accompanied-start c = search needs
+
+part-is-accompanied-end : tie.Need-part-is-accompanied-end Inv-loop μ-loop
+part-is-accompanied-end c = inside (found (c .before))
+
+is-accompanied-requires : tie.Need-is-accompanied-requires Inv-loop μ-loop
+is-accompanied-requires c κs = search needs
 
 refuse-requires-2 : tie.Need-refuse-requires-2 Inv-loop μ-loop
 refuse-requires-2 c κs = search needs
 
 returns-2 : tie.Need-returns-2 Inv-loop μ-loop
 returns-2 c =
-    let w = c .before .before .before .before in
+    let t = c .before .before .before .before in
+    let l = t .before in
+    let w = l .before .before .before .before .before .before .before .before in
+    let a = w .before .before .before .before .before .before .before .args in
     c .refuse2 .ensures
     ∙ refused _
     (walk-stop (w .before .before .before .loop .inv .0) (w .before .advance .ensures) (w .before .before .loop-test .taken) (w .if1 .left) _
-    (rw (sym (c .before .before .may-come .ensures) ∙ c .before .if2 .left)))
+    (pass-not (a .limits) (a .interfaces) (course w) (w .before .before .before .loop .last) (w .before .advance .result .stand) (here w) (may l)
+    (asked-of (t .if3 .taken) (sym (c .before .before .is-accompanied .ensures) ∙ not-true (c .before .before .is-accompanied .result) (c .before .if4 .taken)))))
+
+sub-peek : tie.Need-sub-peek Inv-loop μ-loop
+sub-peek c = search needs
+
+part-peek-start : tie.Need-part-peek-start Inv-loop μ-loop
+part-peek-start c = search needs
+
+part-peek-end : tie.Need-part-peek-end Inv-loop μ-loop
+part-peek-end c = inside (found (c .before .before .before .before))
+
+peek-requires : tie.Need-peek-requires Inv-loop μ-loop
+peek-requires c κs = search needs
+
+loop-less : tie.Need-loop-less Inv-loop μ-loop
+loop-less c =
+    let w = found (c .before .before .before .before .before .before) in
+    let i = inside w in
+    omega (arith, i, w .if1 .left, w .before .before .loop-test .taken)
+
+loop-again : tie.Need-loop-again Inv-loop μ-loop
+loop-again c =
+    let t = c .before .before .before .before .before in
+    let l = t .before in
+    let w = l .before .before .before .before .before .before .before .before in
+    let a = w .before .before .before .before .before .before .before .args in
+    let p = w .before .before .before .loop in
+    let s = w .before .advance in (
+      walk-on (p .inv .0) (s .ensures) (w .before .before .loop-test .taken) (w .if1 .left)
+          (pass-on (a .limits) (a .interfaces) (course w) (p .last) (s .result .stand) (here w) (may l)
+          (asked-of (t .if3 .taken) (sym (c .before .before .before .is-accompanied .ensures) ∙ not-false (c .before .before .before .is-accompanied .result) (c .before .before .if4 .left))))
+          (passed-with (a .limits) (a .interfaces) (course w) (p .last) (s .result .stand) (here w) _ _ (l .before .before .before .move-on .ensures) (t .if3 .taken) (ap (λ (x : ℕ). eqb x 5) (c .peek .ensures))),
+      rw (l .before .still-refers .ensures)
+          (asked-on (has (a .names .now)) (a .body .now) (p .last) (p .at) (p .refers) _ (p .inv .1) (s .result) (s .ensures) (w .before .before .loop-test .taken) (w .if1 .left)),
+    )
+
+loop-less-2 : tie.Need-loop-less-2 Inv-loop μ-loop
+loop-less-2 c =
+    let w = found (c .before) in
+    let i = inside w in
+    omega (arith, i, w .if1 .left, w .before .before .loop-test .taken)
+
+loop-again-2 : tie.Need-loop-again-2 Inv-loop μ-loop
+loop-again-2 c =
+    let l = c .before in
+    let w = l .before .before .before .before .before .before .before .before in
+    let a = w .before .before .before .before .before .before .before .args in
+    let p = w .before .before .before .loop in
+    let s = w .before .advance in (
+      walk-on (p .inv .0) (s .ensures) (w .before .before .loop-test .taken) (w .if1 .left)
+          (pass-on (a .limits) (a .interfaces) (course w) (p .last) (s .result .stand) (here w) (may l) (unasked _ (c .if3 .left)))
+          (passed-without (a .limits) (a .interfaces) (course w) (p .last) (s .result .stand) (here w) _ (l .before .before .before .move-on .ensures) (c .if3 .left)),
+      rw (l .before .still-refers .ensures)
+          (asked-on (has (a .names .now)) (a .body .now) (p .last) (p .at) (p .refers) _ (p .inv .1) (s .result) (s .ensures) (w .before .before .loop-test .taken) (w .if1 .left)),
+    )
+
+refuse-requires-3 : tie.Need-refuse-requires-3 Inv-loop μ-loop
+refuse-requires-3 c κs = search needs
+
+returns-3 : tie.Need-returns-3 Inv-loop μ-loop
+returns-3 c =
+    let w = c .before .before .before .before in
+    let a = w .before .before .before .before .before .before .before .args in
+    c .refuse3 .ensures
+    ∙ refused _
+    (walk-stop (w .before .before .before .loop .inv .0) (w .before .advance .ensures) (w .before .before .loop-test .taken) (w .if1 .left) _
+    (pass-none (a .limits) (a .interfaces) (course w) (w .before .before .before .loop .last) (w .before .advance .result .stand) (here w) (sym (c .before .before .is-allowed .ensures) ∙ c .before .if2 .left)))
 
 may-end-requires : tie.Need-may-end-requires Inv-loop μ-loop
 may-end-requires c κs = search needs
 
-returns-3 : tie.Need-returns-3 Inv-loop μ-loop
-returns-3 c =
-    let a = c .before .before .before .before .before .before .args in
-    let l = c .before .before .loop in
+returns-4 : tie.Need-returns-4 Inv-loop μ-loop
+returns-4 c =
+    let m = c .before in
+    let a = m .before .before .before .before .before .before .args in
+    let l = m .before .before .loop in
     rw (
-      asked-all (has (a .names .now)) (a .body .now) (l .last) (l .at) (l .refers) _ (l .inv .1) (c .before .loop-test .left),
-      ← walk-end (l .inv .0) (c .before .loop-test .left),
-      ← c .may-end .ensures,
+      asked-all (has (a .names .now)) (a .body .now) (l .last) (l .at) (l .refers) _ (l .inv .1) (m .before .loop-test .left),
+      ← walk-end (l .inv .0) (m .before .loop-test .left),
+      ← m .may-end .ensures,
     )
 
 pub good-rest-spec : {M : Type 1} → statement M
@@ -142,10 +225,10 @@ good-rest-spec =
     advance-requires
     refuse-requires
     returns
-    sub-may-come
-    part-may-come-start
-    part-may-come-end
-    may-come-requires
+    sub-is-allowed
+    part-is-allowed-start
+    part-is-allowed-end
+    is-allowed-requires
     sub-move-on
     part-move-on-start
     part-move-on-end
@@ -154,9 +237,21 @@ good-rest-spec =
     part-still-refers-start
     part-still-refers-end
     still-refers-requires
-    loop-less
-    loop-again
+    sub-is-accompanied
+    part-is-accompanied-start
+    part-is-accompanied-end
+    is-accompanied-requires
     refuse-requires-2
     returns-2
+    sub-peek
+    part-peek-start
+    part-peek-end
+    peek-requires
+    loop-less
+    loop-again
+    loop-less-2
+    loop-again-2
+    refuse-requires-3
+    returns-3
     may-end-requires
-    returns-3)
+    returns-4)

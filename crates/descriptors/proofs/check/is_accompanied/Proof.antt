@@ -3,17 +3,14 @@ use borrow.Author.Needs.{needs}
 use Rattle.descriptors.proofs.check.is_accompanied.Statement.{statement}
 use Rattle.descriptors.proofs.check.is_accompanied.Tie as tie
 
-returns : tie.Need-returns
-returns c = rw (c .if1 .taken)
-
 peek-requires : tie.Need-peek-requires
 peek-requires c κs = search needs
 
-returns-2 : tie.Need-returns-2
-returns-2 c = rw (c .before .before .if1 .left, c .if2 .taken, c .before .peek .ensures)
+returns : tie.Need-returns
+returns c = rw (c .if1 .taken, c .before .peek .ensures)
 
-returns-3 : tie.Need-returns-3
-returns-3 c = rw (c .before .before .if1 .left, c .if2 .left, c .before .peek .ensures)
+returns-2 : tie.Need-returns-2
+returns-2 c = rw (c .if1 .left, c .before .peek .ensures)
 
 pub is-accompanied-spec : {M : Type 1} → statement M
-is-accompanied-spec = tie.close (tie.spec returns peek-requires returns-2 returns-3)
+is-accompanied-spec = tie.close (tie.spec peek-requires returns returns-2)

@@ -20,13 +20,10 @@ at-endpoint-requires c κs = search needs
 returns-2 : tie.Need-returns-2
 returns-2 c = simp (ne-eqb _ _ (λ e. c .before .before .if1 .left (c .before .before .before .peek .ensures ∙ e)), eq-eqb _ _ (sym (c .before .before .before .peek .ensures) ∙ c .before .if2 .taken)) (c .at-endpoint .ensures)
 
-at-other-requires : tie.Need-at-other-requires
-at-other-requires c κs = search needs
-
 returns-3 : tie.Need-returns-3
-returns-3 c = simp (ne-eqb _ _ (λ e. c .before .before .if1 .left (c .before .before .before .peek .ensures ∙ e)), ne-eqb _ _ (λ e. c .before .if2 .left (c .before .before .before .peek .ensures ∙ e))) (c .at-other .ensures)
+returns-3 c = simp (ne-eqb _ _ (λ e. c .before .if1 .left (c .before .before .peek .ensures ∙ e)), ne-eqb _ _ (λ e. c .if2 .left (c .before .before .peek .ensures ∙ e)))
 
 pub move-on-spec : {M : Type 1} → statement M
 move-on-spec =
     tie.close
-    (tie.spec peek-requires at-interface-requires returns at-endpoint-requires returns-2 at-other-requires returns-3)
+    (tie.spec peek-requires at-interface-requires returns at-endpoint-requires returns-2 returns-3)
