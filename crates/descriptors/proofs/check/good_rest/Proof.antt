@@ -54,7 +54,7 @@ outside-requires : tie.Need-outside-requires Inv-loop μ-loop
 outside-requires c κs = search needs
 
 loop-holds : tie.Need-loop-holds Inv-loop μ-loop
-loop-holds c = (record { rest = rw (c .before .start .ensures, c .outside .ensures) }, refl)
+loop-holds c = (record { rest = rw (c .before .start .ensures, c .outside .ensures) }, rw (c .outside .ensures))
 
 advance-requires : tie.Need-advance-requires Inv-loop μ-loop
 advance-requires c κs = search needs
