@@ -1,3 +1,4 @@
 pub mod Image
 pub mod Fitting
 pub mod Putting
+pub mod Same

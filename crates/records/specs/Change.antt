@@ -1,14 +1,14 @@
 -- Working definitions: a record after an event, by what the event changes of it; no promise cites them.
 use Prim.Native.Nat.{ℕ}
-use mathlib.Core.Bool.{Bool, true, false}
-use mathlib.Core.List.{List}
+use mathlib.Core.Bool.{Bool, true, false, _&&_}
+use mathlib.Core.List.{List, [], _∷_}
 use lib.ListN.{length, set}
 use lib.Dec.{eqb, ltb}
 use Rattle.octets.specs.Sentences.{pick}
 use Rattle.records.specs.declared.Device.{Device}
 use Rattle.records.specs.declared.Change.{Change}
 use Rattle.records.specs.declared.Change.the-variants.{Kept, Waiting, Wakeup, Power, Suspended, Address, Configuration, Setting, Endpoints, Passed, Fresh}
-use Rattle.records.specs.Device.{fresh, withWaiting, withWakeup, withPower, withSuspended, awake, settled, withAddress, withConfiguration, withEndpoints}
+use Rattle.records.specs.Device.{nothing, fresh, withWaiting, withWakeup, withPower, withSuspended, awake, settled, withAddress, withConfiguration, withEndpoints}
 use Rattle.records.specs.Image.{deviceOf, imageOf}
 
 -- the alternate settings with another one of interface j, if there is room for it
@@ -35,6 +35,31 @@ settledIf false d = d
 
 abbrev pub after : Bool → Change → Device → Device
 after settles c d = changed c (settledIf settles d)
+
+-- the waiting address that is left, where a change follows what a setup settles
+abbrev pub waitsAfter : Change → ℕ
+waitsAfter Kept = nothing
+waitsAfter (Waiting address) = address
+waitsAfter (Wakeup on) = nothing
+waitsAfter (Power source) = nothing
+waitsAfter (Suspended on) = nothing
+waitsAfter (Address state address) = nothing
+waitsAfter (Configuration state value) = nothing
+waitsAfter (Setting j alternate halts toggles) = nothing
+waitsAfter (Endpoints halts toggles) = nothing
+waitsAfter (Passed toggles) = nothing
+waitsAfter (Fresh power) = nothing
+
+abbrev pub settledWith : Bool → ℕ → Device → Device
+settledWith true waits d = awake (withWaiting waits d)
+settledWith false waits d = d
+
+-- whether two lists have the same numbers
+abbrev pub sameBytes : List ℕ → List ℕ → Bool
+sameBytes [] [] = true
+sameBytes [] (y ∷ ys) = false
+sameBytes (x ∷ xs) [] = false
+sameBytes (x ∷ xs) (y ∷ ys) = eqb x y && sameBytes xs ys
 
 -- ---- on images of any length
 -- a record that fits no set stands for an image of another length
