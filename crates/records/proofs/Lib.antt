@@ -1,4 +1,4 @@
 pub mod Image
 pub mod Fitting
 pub mod Putting
-pub mod Same
+pub mod Sameness

@@ -61,6 +61,12 @@ sameBytes [] (y ∷ ys) = false
 sameBytes (x ∷ xs) [] = false
 sameBytes (x ∷ xs) (y ∷ ys) = eqb x y && sameBytes xs ys
 
+abbrev pub sameDevice : Device → Device → Bool
+sameDevice d e =
+    eqb (d .state) (e .state) && eqb (d .address) (e .address) && eqb (d .waiting) (e .waiting) && eqb (d .configuration) (e .configuration) &&
+    eqb (d .wakeup) (e .wakeup) && eqb (d .power) (e .power) && eqb (d .suspended) (e .suspended) && eqb (d .speed) (e .speed) &&
+    sameBytes (d .alternates) (e .alternates) && eqb (d .halts) (e .halts) && eqb (d .toggles) (e .toggles)
+
 -- ---- on images of any length
 -- a record that fits no set stands for an image of another length
 abbrev pub misfit : Device

@@ -6,8 +6,8 @@ use events::reaction;
 use events::reaction::Reaction;
 use records::Device;
 ghost use mathlib.Core.Path.{_≡_};
-ghost use mathlib.Core.Bool.{false};
 ghost use Rattle.sets.specs.Opening.{lent};
+ghost use Rattle.records.specs.Change.{sameDevice};
 ghost use Rattle.sets.specs.View.{openingOf};
 ghost use Rattle.events.specs.Answer.{gives};
 ghost use Rattle.events.specs.Facts.{outcomeOf};
@@ -61,68 +61,36 @@ pub fn step(set: &[u8], serial: &[u8], device: Device, event: Event) -> Outcome
     step_opened(number, set, serial, device, event)
 }
 
-// What an event leaves of a record that is lent: its answer, the record, and whether its alternate settings are others.
+// What an event leaves of a record that is lent: its answer, the record, and whether that is the one before.
 pub struct Left {
     pub answer: Answer,
     pub device: Device,
-    pub moved: bool,
+    pub same: bool,
 }
 
 fn step_left(number: u8, set: &[u8], serial: &[u8], device: Device, event: Event) -> Left
     requires { ⌜ number ≡ openingOf (lent (now set) (now serial)) ⌝ }
-    ensures { λ r. ⌜ (gives (r .answer) (r .device) ≡ step (lent (now (set .entry)) (now (serial .entry))) device event) × (r .moved ≡ false → device .alternates ≡ r .device .alternates) ⌝ }
+    ensures { λ r. ⌜ (gives (r .answer) (r .device) ≡ step (lent (now (set .entry)) (now (serial .entry))) device event) × (r .same ≡ sameDevice device (r .device)) ⌝ }
 {
     let next = step_opened(number, set, serial, device, event);
     let answer = next.answer;
     let then = next.device;
-    let was = device.alternates;
-    let alternates = then.alternates;
     Left {
         answer,
         device: then,
-        moved: !records::same_settings(was, alternates),
+        same: records::same(device, then),
     }
 }
 
-// The step on a record that is lent: where it stands, each field that differs is written.
+// The step on a record that is lent: the next record is stored where it stands, if it is another one.
 pub fn step_lent(number: u8, device: &mut Device, set: &[u8], serial: &[u8], event: Event) -> Answer
     requires { ⌜ number ≡ openingOf (lent (now set) (now serial)) ⌝ }
     ensures { λ r. ⌜ gives r (now (device .exit)) ≡ step (lent (now (set .entry)) (now (serial .entry))) (now (device .entry)) event ⌝ }
 {
     let was = *device;
     let next = step_left(number, set, serial, was, event);
-    if device.state != next.device.state {
-        device.state = next.device.state;
-    }
-    if device.address != next.device.address {
-        device.address = next.device.address;
-    }
-    if device.waiting != next.device.waiting {
-        device.waiting = next.device.waiting;
-    }
-    if device.configuration != next.device.configuration {
-        device.configuration = next.device.configuration;
-    }
-    if device.wakeup != next.device.wakeup {
-        device.wakeup = next.device.wakeup;
-    }
-    if device.power != next.device.power {
-        device.power = next.device.power;
-    }
-    if device.suspended != next.device.suspended {
-        device.suspended = next.device.suspended;
-    }
-    if device.speed != next.device.speed {
-        device.speed = next.device.speed;
-    }
-    if next.moved {
-        device.alternates = next.device.alternates;
-    }
-    if device.halts != next.device.halts {
-        device.halts = next.device.halts;
-    }
-    if device.toggles != next.device.toggles {
-        device.toggles = next.device.toggles;
+    if !next.same {
+        *device = next.device;
     }
     next.answer
 }

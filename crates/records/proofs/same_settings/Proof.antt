@@ -6,7 +6,7 @@ use lib.ListN.{length, drop}
 use borrow.Author.Count.{falls}
 use borrow.Author.Needs.{needs}
 use Rattle.records.specs.Change.{sameBytes}
-use Rattle.records.proofs.Same.{same-on, same-off, same-end}
+use Rattle.records.proofs.Sameness.{same-on, same-off, same-end}
 use Rattle.records.proofs.same_settings.Statement.{statement}
 use Rattle.records.proofs.same_settings.Tie as tie
 
