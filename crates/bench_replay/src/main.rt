@@ -21,7 +21,7 @@ fn replay<'a>(
 ) -> Device {
     let outcome = steps::step(set, serial, device, events::setup_event(setup));
     let answer = outcome.answer;
-    let part = events::reply::part(set, serial, answer);
+    let part = events::reply::part(set, set, serial, answer);
     report::transfer(setup, answer, part, how, recorded);
     if events::reply::number(answer) != 0 {
         return outcome.device;

@@ -2,25 +2,29 @@
 -- success, or makes up the packet count does not meet the exports' statements, whatever it keeps to itself. No axiom.
 use Prim.Native.Nat.{ℕ, _+_, _<_}
 use native.Mathlib.Omega.{arith}
-use mathlib.Core.Path.{_≡_, refl, sym, ap, _∙_}
+use mathlib.Core.Path.{_≡_, refl, sym, ap, subst, _∙_}
 use mathlib.Core.List.{List, [], _∷_}
 use mathlib.Core.Bool.{true}
-use lib.ListN.{length}
+use lib.ListN.{length, replicate}
 use lib.Dec.{eqb, ltb}
 use borrow.Author.Tests.{ltb-true, ltb-false}
 use Rattle.octets.specs.Octets.{byte, part}
+use Rattle.octets.specs.Sentences.{isSome}
 use Rattle.octets.proofs.Sentences.{cases}
-use Rattle.sets.specs.Opening.{Board}
+use Rattle.sets.specs.Opening.{Board, BytesOf}
 use Rattle.sets.specs.View.{accepted}
 use Rattle.records.specs.declared.Device.{Device}
 use Rattle.records.specs.Device.{fresh, inTestMode}
-use Rattle.records.specs.Image.{deviceOf}
+use Rattle.records.specs.Image.{bytesOfFour, deviceOf, imageOf}
 use Rattle.records.specs.Fits.{fitsOn}
 use Rattle.events.specs.Answer.{numberOf}
-use Rattle.events.specs.Step.{event, setupEvent}
+use Rattle.events.specs.declared.Event.the-variants.{StatusEnd}
+use Rattle.events.specs.Step.{step, event, setupEvent}
 use Rattle.packets.specs.Packets.{count, canCut, packet}
 use Rattle.promises.specs.Examples.{bytes, computed, S}
-use Rattle.promises.specs.Inhabited.{acceptedS}
+use Rattle.promises.specs.Inhabited.{acceptedS, bytesS}
+use Rattle.promises.specs.Pairs.{pair, acceptedPair, bytesPair}
+use Rattle.promises.specs.Keeps.{FitImage, freshFit, imageFits, eventFits}
 use Rattle.promises.specs.Refusal.{freshImage}
 use Rattle.board.specs.Exports
 use Rattle.board.specs.Exports.{Opens, Spot, Spots, CutsPacket, AnswersRecordEvent}
@@ -57,47 +61,11 @@ setAddressFive = bytes 8 0x0005050000000000
 abbrev pub unknown : List ℕ
 unknown = bytes 8 0xFFFF000000000000
 
--- ---- on the bench set S, whatever has been called before
-module _ (lie : Spots) (build : Build) (ok : MeetsAll S lie build) (before : List Call) where
-  module _ (call : List ℕ → Call) (tells : TellsSetups call) where
-    abbrev numbered : List ℕ → ℕ
-    numbered bytes = numberGiven (build before freshImage (call bytes) .0)
+-- the image after SET_ADDRESS 5: it waits
+abbrev pub fiveWaits : List ℕ
+fiveWaits = 0 ∷ 0 ∷ 5 ∷ replicate 29 0
 
-    said : (bytes : List ℕ) → numbered bytes ≡ numberOf (event S freshImage (setupEvent bytes) .answer)
-    said bytes = ap numberGiven (met S lie (ok before freshImage refl (call bytes)) .0)
-        ∙ number-of S lie freshImage (call bytes) ∙ ap (λ e. numberOf (event S freshImage e .answer)) (tells bytes)
-
-    -- not every setup is refused: SET_ADDRESS 5 is done
-    pub notRefusing : ((bytes : List ℕ) → numbered bytes ≡ 0 → ⊥) → ⊥
-    unfolding computed
-    notRefusing refuses = refuses setAddressFive (said setAddressFive)
-
-    -- not every setup is given one number: SET_ADDRESS 5 gets 0, FF FF gets 10
-    pub notRepeating : (n : ℕ) → ((bytes : List ℕ) → numbered bytes ≡ n) → ⊥
-    unfolding computed
-    notRepeating n repeats =
-        let p : _≡_ {A = ℕ} 0 n = sym (said setAddressFive) ∙ repeats setAddressFive in
-        let q : _≡_ {A = ℕ} 10 n = sym (said unknown) ∙ repeats unknown in
-        omega arith
-
-    -- not every setup leaves the image as it was: SET_ADDRESS 5 puts 5 into byte 2
-    pub notStill : ((bytes : List ℕ) → build before freshImage (call bytes) .1 ≡ freshImage) → ⊥
-    unfolding computed
-    notStill still =
-        let left = met S lie (ok before freshImage refl (call setAddressFive)) .1 ∙ ap (λ e. event S freshImage e .image) (tells setAddressFive) in
-        let p : _≡_ {A = ℕ} 5 255 = ap (λ l. byte l 2) (sym left ∙ still setAddressFive) in
-        omega arith
-
--- opening S is not refused; and a record that is lent is changed where it stands
-pub notRefusingToOpen : {n : ℕ} {left : List ℕ} → Opens S freshImage n left → n ≡ 0
-notRefusingToOpen o = opening refl o .1 acceptedS
-
-pub notStillWhereItStands : (lie : Spots) {n : ℕ} {left : Device} {handed : List ℕ} {count : ℕ} {shown : List ℕ} {spot : Spot}
-    → AnswersRecordEvent S lie fresh (Exports.numbered 0 0 setAddressFive) n left handed count shown spot → left ≡ fresh → ⊥
-unfolding computed
-notStillWhereItStands lie a still = let p : _≡_ {A = ℕ} 5 255 = ap (λ (d : Device). d .waiting) (sym (a .leaves) ∙ still) in omega arith
-
--- ---- the first event by the rules, and then only the echo of success
+-- FF FF is refused on every board and every image
 unknown-refused : (b : Board) (image : List ℕ) → numberOf (event b image (setupEvent unknown) .answer) ≡ 0 → ⊥
 unfolding computed
 unknown-refused b image = cases (eqb (length image) 32)
@@ -108,6 +76,68 @@ unknown-refused b image = cases (eqb (length image) 32)
     (λ q. rw (p, q) (λ z. omega arith)))
     (λ p. cases (accepted b) (λ q. rw (p, q) (λ z. omega arith)) (λ q. rw (p, q) (λ z. omega arith)))
 
+-- ---- on every accepted board, of one set or of two, whatever has been called before
+module _ (b : Board) (octets : BytesOf b) (opens : accepted b ≡ true) where
+  -- SET_ADDRESS 5 is done on the fresh record, and the status end after it takes the address
+  five-done : (numberOf (event b freshImage (setupEvent setAddressFive) .answer) ≡ 0) × (event b freshImage (setupEvent setAddressFive) .image ≡ fiveWaits)
+  unfolding computed
+  five-done = let fit = freshFit b octets opens .0 in cases (isSome (b .high)) (λ p. rw (opens, fit, p) (refl, refl)) (λ p. rw (opens, fit, p) (refl, refl))
+
+  five-fits : FitImage b fiveWaits
+  unfolding imageOf bytesOfFour
+  five-fits = subst (FitImage b) (five-done .1) (eventFits b octets opens freshImage (setupEvent setAddressFive) (imageFits b octets opens fresh (freshFit b octets opens)))
+
+  five-taken : byte (event b fiveWaits StatusEnd .image) 1 ≡ 5
+  unfolding computed
+  five-taken = rw (opens, five-fits .fit) refl
+
+  module _ (lie : Spots) (build : Build) (ok : MeetsAll b lie build) (before : List Call) (call : List ℕ → Call) (tells : TellsSetups call) where
+    abbrev numbered : List ℕ → ℕ
+    numbered bytes = numberGiven (build before freshImage (call bytes) .0)
+
+    said : (bytes : List ℕ) → numbered bytes ≡ numberOf (event b freshImage (setupEvent bytes) .answer)
+    said bytes = ap numberGiven (met b lie (ok before freshImage refl (call bytes)) .0)
+        ∙ number-of b lie freshImage (call bytes) ∙ ap (λ e. numberOf (event b freshImage e .answer)) (tells bytes)
+
+    -- not every setup is refused: SET_ADDRESS 5 is done
+    pub notRefusing : ((bytes : List ℕ) → numbered bytes ≡ 0 → ⊥) → ⊥
+    notRefusing refuses = refuses setAddressFive (said setAddressFive ∙ five-done .0)
+
+    -- not every setup is given one number: SET_ADDRESS 5 gets 0, FF FF does not
+    pub notRepeating : (n : ℕ) → ((bytes : List ℕ) → numbered bytes ≡ n) → ⊥
+    notRepeating n repeats =
+        unknown-refused b freshImage (sym (said unknown) ∙ repeats unknown ∙ sym (repeats setAddressFive) ∙ said setAddressFive ∙ five-done .0)
+
+    -- not every setup leaves the image as it was: SET_ADDRESS 5 puts 5 into byte 2
+    pub notStill : ((bytes : List ℕ) → build before freshImage (call bytes) .1 ≡ freshImage) → ⊥
+    notStill still =
+        let left = met b lie (ok before freshImage refl (call setAddressFive)) .1 ∙ ap (λ e. event b freshImage e .image) (tells setAddressFive) ∙ five-done .1 in
+        let p : _≡_ {A = ℕ} 5 255 = ap (λ l. byte l 2) (sym left ∙ still setAddressFive) in
+        omega arith
+
+  -- opening is not refused; and a record that is lent is changed where it stands
+  pub notRefusingToOpen : {n : ℕ} {left : List ℕ} → Opens b freshImage n left → n ≡ 0
+  notRefusingToOpen o = opening refl o .1 opens
+
+  pub notStillWhereItStands : (lie : Spots) {n : ℕ} {left : Device} {handed : List ℕ} {count : ℕ} {shown : List ℕ} {spot : Spot}
+      → AnswersRecordEvent b lie fresh (Exports.numbered 0 0 setAddressFive) n left handed count shown spot → left ≡ fresh → ⊥
+  unfolding computed
+  notStillWhereItStands lie a still =
+      let fit = freshFit b octets opens .0 in
+      let five : step b fresh (setupEvent setAddressFive) .device .waiting ≡ 5 = cases (isSome (b .high)) (λ p. rw (opens, fit, p) refl) (λ p. rw (opens, fit, p) refl) in
+      let p : _≡_ {A = ℕ} 5 255 = sym five ∙ ap (λ (d : Device). d .waiting) (sym (a .leaves) ∙ still) in
+      omega arith
+
+  -- the two calls of row 4 of table P suffice: after SET_ADDRESS 5 the status end leaves another image than it was lent
+  pub secondCounts : (lie : Spots) {g h : Given} {left last : List ℕ}
+      → Meets b lie freshImage (setup setAddressFive) g left → Meets b lie left (tell statusEnd) h last → last ≡ left → ⊥
+  secondCounts lie one two still =
+      let first = met b lie one .1 ∙ five-done .1 in
+      let second = met b lie two .1 ∙ ap (λ i. event b i StatusEnd .image) first in
+      let p : _≡_ {A = ℕ} 5 0 = sym five-taken ∙ ap (λ l. byte l 1) (sym second ∙ still ∙ first) in
+      omega arith
+
+-- ---- the first event by the rules, and then only the echo of success
 module _ (b : Board) (lie : Spots) (call : List ℕ → Call) (tells : TellsSetups call) where
   -- on every board and every image, whatever came before, FF FF is no success
   pub noEcho : {image : List ℕ} {g : Given} {left : List ℕ} → Meets b lie image (call unknown) g left → numberGiven g ≡ 0 → ⊥
@@ -119,15 +149,12 @@ module _ (b : Board) (lie : Spots) (call : List ℕ → Call) (tells : TellsSetu
       → ((first : Call) (bytes : List ℕ) → numberGiven (build (first ∷ []) freshImage (call bytes) .0) ≡ 0) → ⊥
   notEchoing build ok echoes = noEcho (ok (tell busReset ∷ []) freshImage refl (call unknown)) (echoes (tell busReset) unknown)
 
--- and on S the two calls of row 4 of table P suffice: after SET_ADDRESS 5 the status end leaves another image than it was lent
-pub secondCounts : (lie : Spots) {g h : Given} {left last : List ℕ}
-    → Meets S lie freshImage (setup setAddressFive) g left → Meets S lie left (tell statusEnd) h last → last ≡ left → ⊥
-unfolding computed
-secondCounts lie {left = left} one two still =
-    let first = met S lie one .1 in
-    let p : _≡_ {A = ℕ} 5 (byte left 1) = sym (ap (λ l. byte (leaves S lie l (tell statusEnd)) 1) first) ∙ ap (λ l. byte l 1) (sym (met S lie two .1) ∙ still) in
-    let q : byte left 1 ≡ 0 = ap (λ l. byte l 1) first in
-    omega arith
+-- ---- inhabited: S and the pair
+pub benchSet : (lie : Spots) (build : Build) → MeetsAll S lie build → ((bytes : List ℕ) → numberGiven (build [] freshImage (setup bytes) .0) ≡ 0 → ⊥) → ⊥
+benchSet lie build ok = notRefusing S bytesS acceptedS lie build ok [] setup setupTells
+
+pub benchPair : (lie : Spots) (build : Build) → MeetsAll pair lie build → ((bytes : List ℕ) → numberGiven (build [] freshImage (recordEvent 0 0 bytes) .0) ≡ 0 → ⊥) → ⊥
+benchPair lie build ok = notRefusing pair bytesPair acceptedPair lie build ok [] (recordEvent 0 0) recordEventTells
 
 -- ---- a cutter: from a reply, where it lies, what was asked, a size and a packet's number, to the number given, the packet and where it lies
 abbrev pub Cutter : Type 0

@@ -130,7 +130,7 @@ module _ (b : Board) (lie : Spots) where
       let (end, heard) = orderImages b bytes ok image f (map eventOf xs) (map eventOf ys) (rearranged image xs ys r) in (
         ran b lie one .1 ∙ run-events image xs ∙ end ∙ sym (ran b lie two .1 ∙ run-events image ys),
         λ k. own-given image k xs bytes ok f (r .one) one ∙ ap (map (λ p. (p .0, givenAs b lie (p .0) (deviceOf image .speed) (p .1)))) (same-own k (heard k))
-        ∙ sym (own-given image k ys bytes ok f (r .other) two),
+            ∙ sym (own-given image k ys bytes ok f (r .other) two),
       )
     where
       seconds : (k : ℕ) (cs : List Call) → map (λ p. p .1) (imageHeard b image k (map eventOf cs)) ≡ map (λ p. p .1) (own image k cs)

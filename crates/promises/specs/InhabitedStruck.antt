@@ -34,10 +34,43 @@ kept = refl
 
 page : PageRun T 1 (λ (d : Device). d) (λ (e : Event). e) (nextOf T) false fresh whole
 unfolding computed
-page =
-    (λ p. (refl, λ q. refl), (λ p. (refl, λ q. refl), (λ p. (refl, λ q. refl), (λ p. (refl, λ q. refl), (λ p. (refl, λ q. refl), (λ p. (refl, λ q. refl),
-    (λ p. (refl, λ q. refl), (λ p. (refl, λ q. refl), (λ p. (refl, λ q. refl), (λ p. (refl, λ q. refl), (λ p. (refl, λ q. refl), (λ p. (refl, λ q. refl),
-    (λ p. (refl, λ q. refl), (λ p. (refl, λ q. refl), (λ p. absurd (false≢true p), (λ p. absurd (false≢true p), (λ p. (refl, λ q. refl), tt)))))))))))))))))
+page = (
+  λ p. (refl, λ q. refl),
+  (
+    λ p. (refl, λ q. refl),
+    (
+      λ p. (refl, λ q. refl),
+      (
+        λ p. (refl, λ q. refl),
+        (
+          λ p. (refl, λ q. refl),
+          (
+            λ p. (refl, λ q. refl),
+            (
+              λ p. (refl, λ q. refl),
+              (
+                λ p. (refl, λ q. refl),
+                (
+                  λ p. (refl, λ q. refl),
+                  (
+                    λ p. (refl, λ q. refl),
+                    (
+                      λ p. (refl, λ q. refl),
+                      (
+                        λ p. (refl, λ q. refl),
+                        (λ p. (refl, λ q. refl), (λ p. (refl, λ q. refl), (λ p. absurd (false≢true p), (λ p. absurd (false≢true p), (λ p. (refl, λ q. refl), tt))))),
+                      ),
+                    ),
+                  ),
+                ),
+              ),
+            ),
+          ),
+        ),
+      ),
+    ),
+  ),
+)
 
 pub titrator : Unnoticed T 1 fresh whole
 titrator = struckByPage T bytesT acceptedT 1 whole page

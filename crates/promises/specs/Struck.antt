@@ -163,8 +163,7 @@ unfolding every
 ofRow paired d s p =
     let (r, m, k, c, i, h) = let-through (stateFor paired d s) (setupFor paired s) p in
     let device = every-member (λ r. (eqb (r .code) 3 && eqb (r .kind % 32) 0) ⇒ eqb (r .kind) 0) refl m in
-    let address = every-member (λ r. eqb (r .code) 5 ⇒ leb (r .value) 127) refl m in
-    (
+    let address = every-member (λ r. eqb (r .code) 5 ⇒ leb (r .value) 127) refl m in (
       λ three zero. rw k at (if-then _ _ device (joined (ap (λ x. eqb x 3) c ∙ three) (ap (λ x. eqb (x % 32) 0) k ∙ zero))),
       λ five.
           let l = leb-true (r .value) 127 (if-then _ _ address (ap (λ x. eqb x 5) c ∙ five)) in

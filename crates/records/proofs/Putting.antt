@@ -12,9 +12,11 @@ use Rattle.octets.specs.Sentences.{pick}
 use borrow.Author.Tests.{lt-ltb, le-ltb}
 use borrow.Rule.Slice.PartMut.{putMid}
 use Rattle.records.specs.declared.Device.{Device}
+use Rattle.records.specs.declared.Change.{Change}
+use Rattle.records.specs.declared.Change.the-variants.{Kept, Waiting, Wakeup, Power, Suspended, Address, Configuration, Setting, Endpoints, Passed, Fresh, TestMode}
 use Rattle.records.specs.Device.{awake, withConfiguration, withEndpoints}
 use Rattle.records.specs.Image.{bytesOfFour, imageOf}
-use Rattle.records.specs.Change.{withSetting, settledIf}
+use Rattle.records.specs.Change.{withSetting, changed, after, waitsAfter, settledWith}
 use Rattle.records.proofs.Image.{front}
 
 -- a byte that has the value already
@@ -36,9 +38,25 @@ pub put-after : (p q m : List ℕ) (n k : ℕ) → length p ≡ n → putMid n k
 put-after p q m n k e = rw (take-at p q n e, drop-at p q n e) (sym (append-assoc p m (drop k q)))
 
 -- settling keeps the alternate settings
-pub settled-sixteen : (settles : Bool) (d : Device) → length (d .alternates) ≡ 16 → length (settledIf settles d .alternates) ≡ 16
-settled-sixteen true d e = e
-settled-sixteen false d e = e
+pub settled-sixteen : (settles : Bool) (waits : ℕ) (d : Device) → length (d .alternates) ≡ 16 → length (settledWith settles waits d .alternates) ≡ 16
+settled-sixteen true waits d e = e
+settled-sixteen false waits d e = e
+
+-- the address that is to wait is written at once
+pub settles-once : (settles : Bool) (c : Change) (d : Device) → changed c (settledWith settles (waitsAfter c) d) ≡ after settles c d
+settles-once false c d = refl
+settles-once true Kept d = refl
+settles-once true (Waiting address) d = refl
+settles-once true (Wakeup on) d = refl
+settles-once true (Power source) d = refl
+settles-once true (Suspended on) d = refl
+settles-once true (Address state address) d = refl
+settles-once true (Configuration state value) d = refl
+settles-once true (Setting j alternate halts toggles) d = refl
+settles-once true (Endpoints halts toggles) d = refl
+settles-once true (Passed toggles) d = refl
+settles-once true (Fresh power speed) d = refl
+settles-once true (TestMode speed) d = refl
 
 pub setting-sixteen : (j alternate : ℕ) (l : List ℕ) → length l ≡ 16 → length (withSetting j alternate l) ≡ 16
 setting-sixteen j alternate l e = go (ltb j 16)

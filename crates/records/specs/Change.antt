@@ -1,7 +1,7 @@
 -- Working definitions: a record after an event, by what the event changes of it; no promise cites them.
 use Prim.Native.Nat.{ℕ}
-use mathlib.Core.Bool.{Bool, true, false}
-use mathlib.Core.List.{List}
+use mathlib.Core.Bool.{Bool, true, false, _&&_}
+use mathlib.Core.List.{List, [], _∷_}
 use lib.ListN.{length, set}
 use lib.Dec.{eqb, ltb}
 use Rattle.octets.specs.Sentences.{pick}
@@ -36,6 +36,38 @@ settledIf false d = d
 
 abbrev pub after : Bool → Change → Device → Device
 after settles c d = changed c (settledIf settles d)
+
+-- the waiting address that is left, where a change follows what a setup settles
+abbrev pub waitsAfter : Change → ℕ
+waitsAfter Kept = nothing
+waitsAfter (Waiting address) = address
+waitsAfter (Wakeup on) = nothing
+waitsAfter (Power source) = nothing
+waitsAfter (Suspended on) = nothing
+waitsAfter (Address state address) = nothing
+waitsAfter (Configuration state value) = nothing
+waitsAfter (Setting j alternate halts toggles) = nothing
+waitsAfter (Endpoints halts toggles) = nothing
+waitsAfter (Passed toggles) = nothing
+waitsAfter (Fresh power speed) = nothing
+waitsAfter (TestMode speed) = nothing
+
+abbrev pub settledWith : Bool → ℕ → Device → Device
+settledWith true waits d = awake (withWaiting waits d)
+settledWith false waits d = d
+
+-- whether two lists have the same numbers
+abbrev pub sameBytes : List ℕ → List ℕ → Bool
+sameBytes [] [] = true
+sameBytes [] (y ∷ ys) = false
+sameBytes (x ∷ xs) [] = false
+sameBytes (x ∷ xs) (y ∷ ys) = eqb x y && sameBytes xs ys
+
+abbrev pub sameDevice : Device → Device → Bool
+sameDevice d e =
+    eqb (d .state) (e .state) && eqb (d .address) (e .address) && eqb (d .waiting) (e .waiting) && eqb (d .configuration) (e .configuration) &&
+    eqb (d .wakeup) (e .wakeup) && eqb (d .power) (e .power) && eqb (d .suspended) (e .suspended) && eqb (d .speed) (e .speed) &&
+    sameBytes (d .alternates) (e .alternates) && eqb (d .halts) (e .halts) && eqb (d .toggles) (e .toggles)
 
 -- ---- on images of any length
 -- a record that fits no set stands for an image of another length

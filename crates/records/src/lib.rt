@@ -8,7 +8,7 @@ ghost use Rattle.descriptors.specs.Survey.{Surveys};
 ghost use Rattle.sets.specs.View.{View, hasValue, wakes};
 ghost use Rattle.records.specs.Device.{fresh, settled, testWaits};
 ghost use Rattle.records.specs.Image.{fourBytes, bytesOfFour, deviceOf, imageOf};
-ghost use Rattle.records.specs.Change.{withSetting, changed, after, misfit, recordIn};
+ghost use Rattle.records.specs.Change.{withSetting, changed, after, sameBytes, sameDevice, misfit, recordIn};
 ghost use Rattle.records.specs.Current.{selected};
 ghost use Rattle.records.specs.Fits.{inRange, goodWaiting, goodState, fits};
 
@@ -172,6 +172,39 @@ pub fn after(settles: bool, change: Change, device: Device) -> Device
         return changed(change, settled(device));
     }
     changed(change, device)
+}
+
+// Whether the alternate settings are the same.
+fn same_settings(was: [u8; 16], next: [u8; 16]) -> bool
+    ensures { λ r. ⌜ r ≡ sameBytes was next ⌝ }
+{
+    let mut k = 0;
+    while k < 16 {
+        if was[k] != next[k] {
+            return false;
+        }
+        k += 1;
+    }
+    true
+}
+
+// Whether two records are the same.
+pub fn same(was: Device, next: Device) -> bool
+    ensures { λ r. ⌜ r ≡ sameDevice was next ⌝ }
+{
+    let old = was.alternates;
+    let new = next.alternates;
+    (was.state == next.state)
+        & (was.address == next.address)
+        & (was.waiting == next.waiting)
+        & (was.configuration == next.configuration)
+        & (was.wakeup == next.wakeup)
+        & (was.power == next.power)
+        & (was.suspended == next.suspended)
+        & (was.speed == next.speed)
+        & same_settings(old, new)
+        & (was.halts == next.halts)
+        & (was.toggles == next.toggles)
 }
 
 // The number of four bytes at k.

@@ -6,7 +6,7 @@ ghost use lib.ListN.{length, set, replicate};
 ghost use Rattle.records.specs.declared.Device.{Device};
 ghost use Rattle.records.specs.Device.{withAddress, withConfiguration, withEndpoints, withPower, withSpeed, fresh};
 ghost use Rattle.records.specs.Image.{bytesOfFour, imageOf};
-ghost use Rattle.records.specs.Change.{withSetting, settledIf, changed, renewed};
+ghost use Rattle.records.specs.Change.{withSetting, waitsAfter, settledWith, changed, renewed};
 
 // A byte gets a value: it is written if it has another.
 fn put(bytes: &mut [u8], k: usize, value: u8)
@@ -40,13 +40,44 @@ fn clear(bytes: &mut [u8])
     }
 }
 
+// What waits once a setup has settled the record and changed it: asked before anything is written, so that no byte is written twice.
+fn waits_after(change: Change) -> u8
+    ensures { λ r. ⌜ r ≡ waitsAfter change ⌝ }
+{
+    match change {
+        Change::Kept => 255,
+        Change::Waiting(address) => address,
+        Change::Wakeup(_) => 255,
+        Change::Power(_) => 255,
+        Change::Suspended(_) => 255,
+        Change::Address {
+            state: _,
+            address: _,
+        } => 255,
+        Change::Configuration { state: _, value: _ } => 255,
+        Change::Setting {
+            interface: _,
+            alternate: _,
+            halts: _,
+            toggles: _,
+        } => 255,
+        Change::Endpoints {
+            halts: _,
+            toggles: _,
+        } => 255,
+        Change::Passed { toggles: _ } => 255,
+        Change::Fresh { power: _, speed: _ } => 255,
+        Change::TestMode(_) => 255,
+    }
+}
+
 // What a setup settles, if it is one.
-fn settle(image: &mut [u8], settles: bool)
+fn settle(image: &mut [u8], settles: bool, waits: u8)
     requires { ⌜ length (now image) ≡ 32 ⌝ }
-    ensures { λ _. ⌜ ((d : Device) → now (image .entry) ≡ imageOf d → now (image .exit) ≡ imageOf (settledIf settles d)) ⌝ }
+    ensures { λ _. ⌜ ((d : Device) → now (image .entry) ≡ imageOf d → now (image .exit) ≡ imageOf (settledWith settles waits d)) ⌝ }
 {
     if settles {
-        put(image, 2, 255);
+        put(image, 2, waits);
         put(image, 6, 0);
     }
 }
@@ -144,7 +175,7 @@ pub fn renew(image: &mut [u8], settles: bool, change: Change)
     ensures { λ _. ⌜ now (image .exit) ≡ renewed settles change (now (image .entry)) ⌝ }
 {
     if image.len() == 32 {
-        settle(image, settles);
+        settle(image, settles, waits_after(change));
         apply(image, change);
     }
 }

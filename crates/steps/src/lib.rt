@@ -9,6 +9,7 @@ ghost use mathlib.Core.Path.{_≡_};
 ghost use lib.Dec.{eqb};
 ghost use Rattle.octets.specs.Sentences.{pick};
 ghost use Rattle.sets.specs.Opening.{lent};
+ghost use Rattle.records.specs.Change.{sameDevice};
 ghost use Rattle.sets.specs.View.{openingOf};
 ghost use Rattle.events.specs.Answer.{gives};
 ghost use Rattle.events.specs.Facts.{outcomeOf};
@@ -83,13 +84,36 @@ pub fn step(set: &[u8], serial: &[u8], device: Device, event: Event) -> Outcome
     step_opened(number, set, serial, device, event)
 }
 
-// The step on a record that is lent: the next record is stored where it stands.
+// What an event leaves of a record that is lent: its answer, the record, and whether that is the one before.
+pub struct Left {
+    pub answer: Answer,
+    pub device: Device,
+    pub same: bool,
+}
+
+fn step_left(number: u8, set: &[u8], serial: &[u8], device: Device, event: Event) -> Left
+    requires { ⌜ number ≡ openingOf (lent (now set) (now serial)) ⌝ }
+    ensures { λ r. ⌜ (gives (r .answer) (r .device) ≡ step (lent (now (set .entry)) (now (serial .entry))) device event) × (r .same ≡ sameDevice device (r .device)) ⌝ }
+{
+    let next = step_opened(number, set, serial, device, event);
+    let answer = next.answer;
+    let then = next.device;
+    Left {
+        answer,
+        device: then,
+        same: records::same(device, then),
+    }
+}
+
+// The step on a record that is lent: the next record is stored where it stands, if it is another one.
 pub fn step_lent(number: u8, device: &mut Device, set: &[u8], serial: &[u8], event: Event) -> Answer
     requires { ⌜ number ≡ openingOf (lent (now set) (now serial)) ⌝ }
     ensures { λ r. ⌜ gives r (now (device .exit)) ≡ step (lent (now (set .entry)) (now (serial .entry))) (now (device .entry)) event ⌝ }
 {
     let was = *device;
-    let next = step_opened(number, set, serial, was, event);
-    *device = next.device;
+    let next = step_left(number, set, serial, was, event);
+    if !next.same {
+        *device = next.device;
+    }
     next.answer
 }

@@ -1,15 +1,18 @@
 -- `records::renewal::renew` meets its contract: by the length; settled first, then changed. No axiom.
 use Prim.Native.Nat.{ℕ, _<_}
-use mathlib.Core.Path.{sym}
+use mathlib.Core.Path.{sym, ap, _∙_}
 use borrow.Author.Tests.{eq-eqb, ne-eqb}
 use Rattle.octets.specs.Octets.{byte}
-use Rattle.records.specs.Image.{deviceOf}
-use Rattle.records.specs.Change.{settledIf, renewed}
+use Rattle.records.specs.Image.{deviceOf, imageOf}
+use Rattle.records.specs.Change.{waitsAfter, settledWith, renewed}
 use Rattle.records.proofs.Image.{device-sized, image-device}
-use Rattle.records.proofs.Putting.{settled-sixteen}
+use Rattle.records.proofs.Putting.{settled-sixteen, settles-once}
 use borrow.Author.Needs.{needs}
 use Rattle.records.proofs.renewal.renew.Statement.{statement}
 use Rattle.records.proofs.renewal.renew.Tie as tie
+
+waits-after-requires : tie.Need-waits-after-requires
+waits-after-requires c κs = search needs
 
 settle-requires : tie.Need-settle-requires
 settle-requires c κs = search needs
@@ -24,17 +27,21 @@ returns : tie.Need-returns
 unfolding renewed
 returns c =
     let first = c .before .before .before .before in
-    let start = first .before .before .before .before .before in
+    let start = first .before .before .before .before .before .before in
     let a = start .before .args in
     let image = a .image .now in
-    let long = first .before .before .before .before .if1 .taken in
+    let long = first .before .before .before .before .before .if1 .taken in
     let bytes : (i : ℕ) → byte image i < 256 = λ i. start .slice-known .given i .fits in
-    rw (eq-eqb _ _ long) (c .before .before .apply .ensures (settledIf (a .settles) (deviceOf image)) (settled-sixteen (a .settles) (deviceOf image) (device-sized image long bytes .sixteen))
-    (first .before .before .settle .ensures (deviceOf image) (sym (image-device image long bytes))))
+    let d = deviceOf image in
+    let w = waitsAfter (a .change) in
+    let settled = rw (first .before .before .before .waits-after .ensures) at (first .before .before .settle .ensures d (sym (image-device image long bytes))) in
+    rw (eq-eqb _ _ long)
+    (c .before .before .apply .ensures (settledWith (a .settles) w d) (settled-sixteen (a .settles) w d (device-sized image long bytes .sixteen)) settled ∙ ap imageOf (settles-once (a .settles) (a .change) d))
 
 returns-2 : tie.Need-returns-2
 unfolding renewed
 returns-2 c = rw (ne-eqb _ _ (c .if1 .left))
 
 pub renew-spec : {M : Type 1} → statement M
-renew-spec = tie.close (tie.spec settle-requires apply-requires same-length returns returns-2)
+renew-spec =
+    tie.close (tie.spec waits-after-requires settle-requires apply-requires same-length returns returns-2)

@@ -18,7 +18,7 @@ returns : tie.Need-returns
 unfolding imageOf
 returns c = λ d e.
     let first = c .before .before .before .before in
-    rw (first .before .before .before .before .if1 .taken) (put-on 6 0 (c .before .before .put2 .ensures) (put-on 2 255 (first .before .before .put .ensures) e))
+    rw (first .before .before .before .before .if1 .taken) (put-on 6 0 (c .before .before .put2 .ensures) (put-on 2 _ (first .before .before .put .ensures) e))
 
 returns-2 : tie.Need-returns-2
 returns-2 c = λ d e. rw (c .if1 .left) e
