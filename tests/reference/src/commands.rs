@@ -22,6 +22,7 @@ const DEFAULT_DUMPS: usize = 50_000;
 const DEFAULT_TRIMS: usize = 50_000;
 const DEFAULT_PAIRS: usize = 100_000;
 const DEFAULT_PAIR_CALLS: usize = 200_000;
+const DEFAULT_PORT_CALLS: usize = 100_000;
 
 /// The numbers that opening gives back, and all of them.
 const OPENING_NUMBERS: [u8; 7] = [0, 1, 2, 3, 4, 5, 6];
@@ -31,6 +32,9 @@ const NUMBERS: [u8; 18] = [0, 1, 2, 3, 4, 5, 6, 7, 8, 9, 10, 11, 12, 13, 14, 15,
 const PAIR_OPENING_NUMBERS: [u8; 8] = [0, 1, 2, 3, 4, 5, 6, 24];
 const PAIR_NUMBERS: [u8; 19] = [0, 1, 2, 3, 4, 5, 6, 7, 8, 9, 10, 11, 12, 13, 14, 16, 17, 19, 24];
 
+/// Those of an event at a port.
+const PORT_NUMBERS: [u8; 13] = [0, 7, 8, 9, 10, 11, 12, 13, 14, 16, 17, 18, 19];
+
 /// So many differences are enough to choose the smallest from.
 const PATIENCE: usize = 1_000;
 
@@ -38,8 +42,8 @@ pub const USAGE: &str = "\
 reference vectors [--least N] FILE..            answers every question of the files, at least N (1) in each, and compares
 reference run-vectors --program CMD [--least N] FILE..
                                                 the same, and through a harness
-reference compare --program CMD [--sets N] [--calls N] [--pairs N] [--pair-calls N] [--writes N] [--dumps N] [--trims N]
-                  [--seed S] [--fault NAME]     sets through opening, calls over the whole boundary, or both; the same with two sets lent;
+reference compare --program CMD [--sets N] [--calls N] [--pairs N] [--pair-calls N] [--port-calls N] [--writes N] [--dumps N] [--trims N]
+                  [--seed S] [--fault NAME]     sets through opening, calls over the whole boundary, or both; the same with two sets lent; events at ports;
                                                 streams of pieces; dumps; sets to trim;
                                                 from 100,000 sets and 200,000 calls on each rule and number must be reached
 reference faults --program CMD [--seed S]       every planted fault must be noticed
@@ -176,13 +180,17 @@ fn compare(arguments: &Arguments) -> Verdict {
     let dumps = arguments.number("dumps")?;
     let trims = arguments.number("trims")?;
     let (pairs, pair_calls) = (arguments.number("pairs")?, arguments.number("pair-calls")?);
-    let both = [sets, calls, writes, dumps, trims, pairs, pair_calls].iter().all(Option::is_none);
+    let port_calls = arguments.number("port-calls")?;
+    let both = [sets, calls, writes, dumps, trims, pairs, pair_calls, port_calls].iter().all(Option::is_none);
     let mut right = true;
     if let Some(pairs) = pairs {
         right &= compare_pairs(arguments, pairs)?;
     }
     if let Some(calls) = pair_calls {
         right &= compare_whole_of_two(arguments, calls)?;
+    }
+    if let Some(calls) = port_calls {
+        right &= compare_ports(arguments, calls)?;
     }
     if let Some(writes) = writes {
         right &= compare_writer(arguments, writes)?;
@@ -247,6 +255,17 @@ fn compare_whole_of_two(arguments: &Arguments, calls: usize) -> Verdict {
         println!("{unlike}");
     }
     Ok(same & unlike.is_none() & reached(&numbered(&numbers, &PAIR_NUMBERS), calls >= DEFAULT_PAIR_CALLS))
+}
+
+fn compare_ports(arguments: &Arguments, calls: usize) -> Verdict {
+    let mut comparison = Comparison::start(arguments.program()?, PATIENCE).map_err(told)?;
+    let unlike = runs::ports(&mut comparison, calls, arguments.seed()?, arguments.fault()?);
+    let numbers = comparison.numbers;
+    let same = ended(comparison, "ports", "calls")?;
+    if let Some(unlike) = &unlike {
+        println!("{unlike}");
+    }
+    Ok(same & unlike.is_none() & reached(&numbered(&numbers, &PORT_NUMBERS), calls >= DEFAULT_PORT_CALLS))
 }
 
 fn compare_writer(arguments: &Arguments, calls: usize) -> Verdict {
@@ -315,6 +334,8 @@ fn faults(arguments: &Arguments) -> Verdict {
             runs::opening_two(&mut comparison, DEFAULT_PAIRS, seed, fault);
         } else if fault::SPEEDS.contains(&fault) {
             runs::whole_two(&mut comparison, DEFAULT_PAIR_CALLS, seed, fault);
+        } else if fault::PORTS.contains(&fault) {
+            runs::ports(&mut comparison, DEFAULT_PORT_CALLS, seed, fault);
         } else {
             runs::whole(&mut comparison, DEFAULT_CALLS, seed, fault);
         }

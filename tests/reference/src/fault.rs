@@ -118,6 +118,10 @@ faults! {
         WaitingInTestModeFits TestModeWaitsAtFullSpeedFits SixthTestModeFits TestModeInConfiguredDoesNotFit
         AnySpeedFits
     }
+    PORTS {
+        NeighbourWritten PortTakenAsLength PortsFromOne PortByLowByte PortByLowFourBytes PortAfterSet RowOfNineRefused
+        EmptyRowDoesNotFit RefusedPortDropsWaiting EveryRecordMustFit ResetOfEveryPort
+    }
     LISTER {
         AttributesInsteadOfTransferType PacketSizeByLowByte IndexInsteadOfValue FirstSettingsOnly
         SettingsInsteadOfInterfaces
@@ -127,7 +131,7 @@ faults! {
 impl Fault {
     /// All that show at the C boundary.
     pub fn at_boundary() -> impl Iterator<Item = Fault> {
-        [OPENING, EVENTS, PACKETS, ENDPOINTS, WRITER, DUMPS, TRIM, PAIRS, SPEEDS].into_iter().flatten().copied()
+        [OPENING, EVENTS, PACKETS, ENDPOINTS, WRITER, DUMPS, TRIM, PAIRS, SPEEDS, PORTS].into_iter().flatten().copied()
     }
 
     pub fn name(self) -> String {

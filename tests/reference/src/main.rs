@@ -20,6 +20,7 @@ mod opening;
 mod packets;
 mod pair;
 mod pair_draft;
+mod ports;
 mod protocol;
 mod questions;
 mod random;

@@ -108,6 +108,10 @@ impl Script {
             "open" if self.lends_two() => Some(self.tell_call(Call::TwoOpen { image: self.record.clone() })),
             "open" => Some(self.tell_call(Call::Open { image: self.record.clone() })),
             "event" if self.landed => Some(self.tell_event(&event(&words[1..])?)),
+            "port" if self.landed => {
+                let (port, row) = (words.get(1)?.parse().ok()?, from_hex(words.get(2)?)?);
+                Some(self.tell_call(Call::port(&self.lent, &row, port, &event(&words[3..])?)))
+            }
             "packet" => {
                 let numbers = numbers(&words[1..])?;
                 Some(self.tell_call(packet_call(numbers.get(..3)?, *numbers.get(3)?)?))
