@@ -122,6 +122,10 @@ faults! {
         NeighbourWritten PortTakenAsLength PortsFromOne PortByLowByte PortByLowFourBytes PortAfterSet RowOfNineRefused
         EmptyRowDoesNotFit RefusedPortDropsWaiting EveryRecordMustFit ResetOfEveryPort
     }
+    STRIKES {
+        HaltStopsEveryEndpoint StatusOfAnyHalt InterfaceClearsWakeup AlternateOfHighestInterface PacketPassedDropsTestMode
+        HaltFeatureSuspends SettingTakenByNeighbour
+    }
     LISTER {
         AttributesInsteadOfTransferType PacketSizeByLowByte IndexInsteadOfValue FirstSettingsOnly
         SettingsInsteadOfInterfaces
@@ -131,7 +135,10 @@ faults! {
 impl Fault {
     /// All that show at the C boundary.
     pub fn at_boundary() -> impl Iterator<Item = Fault> {
-        [OPENING, EVENTS, PACKETS, ENDPOINTS, WRITER, DUMPS, TRIM, PAIRS, SPEEDS, PORTS].into_iter().flatten().copied()
+        [OPENING, EVENTS, PACKETS, ENDPOINTS, WRITER, DUMPS, TRIM, PAIRS, SPEEDS, PORTS, STRIKES]
+            .into_iter()
+            .flatten()
+            .copied()
     }
 
     pub fn name(self) -> String {

@@ -29,6 +29,7 @@ mod requests;
 mod rule;
 mod runs;
 mod serve;
+mod strikes;
 mod trim;
 mod vectors;
 mod writer;

@@ -16,6 +16,7 @@ use crate::questions::{self, enumeration, event_for, fitting};
 use crate::random::Random;
 use crate::record::{Record, IMAGE_LENGTH};
 use crate::rule::Rule;
+use crate::strikes::{any_board, strike, Tally, RUNS_ON_A_BOARD};
 
 /// The number for types 6 and 7 that are not as said.
 const AGREEMENT: u8 = 24;
@@ -110,6 +111,16 @@ pub fn ports(comparison: &mut Comparison, calls: usize, seed: u64, fault: Fault)
         asker.visit_row();
     }
     asker.unlike
+}
+
+/// Runs from power-on and their struck runs, of one set and of two.
+pub fn strikes(comparison: &mut Comparison, calls: usize, seed: u64, fault: Fault) -> Tally {
+    let mut asker = Asker { comparison, random: Random::new(seed), fault, unlike: None };
+    let mut tally = Tally::default();
+    while asker.comparison.calls < calls && !asker.comparison.stopped() && tally.noticed.is_none() {
+        asker.strike(&mut tally);
+    }
+    tally
 }
 
 struct Asker<'a> {
@@ -251,6 +262,17 @@ impl Asker<'_> {
         for _ in 0..self.random.between(0, 8) {
             let call = questions::packet(&mut self.random);
             self.comparison.ask(&lent, call);
+        }
+    }
+
+    /// Some runs on one board.
+    fn strike(&mut self, tally: &mut Tally) {
+        let lent = Arc::new(any_board(&mut self.random, self.fault));
+        let Ok(boards) = &lent.opened else { return };
+        // the calls draw too
+        let mut drawing = Random::new(self.random.below(1 << 30) as u64);
+        for _ in 0..RUNS_ON_A_BOARD {
+            strike(boards, &mut drawing, tally, &mut |image, event| self.send(&lent, image, event));
         }
     }
 
