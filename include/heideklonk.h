@@ -1,10 +1,13 @@
-/* Heideklonk: a USB 2.0 chapter 9 device library ("control pipe") for full speed, called from C or C++.
+/* Heideklonk: a USB 2.0 chapter 9 device library ("control pipe") for full and high speed, called from C or C++.
  *
  * The firmware keeps three blocks of bytes and lends them to each call:
  *
  *   set     the descriptor set, at most 16,384 bytes: contents first, then bodies. Only read.
  *   serial  the serial block: this unit's serial number as a string descriptor, or empty. Only read.
  *   image   the device record, HK_IMAGE_LENGTH bytes. Changed where it stands, by these calls alone.
+ *
+ * A board for high speed lends two sets in place of one, full and high, one for each speed, to the calls hk_two_..; byte 7
+ * of its image says which is in use. An image is that of one kind of board for good: hk_open and hk_two_open make it so.
  *
  * The library keeps nothing between calls and allocates nothing. Every call checks the set, the serial block and the
  * image anew, whatever their lengths, and answers with a number: HK_DONE, or why it refused. The set and the serial block
@@ -18,7 +21,7 @@
  *   - A pointer whose length is 0 may be NULL. A set (or reply) of NULL and 0 leaves a part whose start is NULL and whose
  *     length is 0, and that is a valid part. This is tested and not proved.
  *   - A hk_part holds a valid value at the call: HK_NO_PART, or what an earlier call left there.
- *   - A part points into the set, the serial block or the reply that was lent. It is no copy: it lasts as long as they do.
+ *   - A part points into a set, the serial block or the reply that was lent. It is no copy: it lasts as long as they do.
  *   - One image is lent to one call at a time.
  */
 #ifndef HEIDEKLONK_H
@@ -51,16 +54,22 @@ extern "C" {
 #define HK_DOES_NOT_EXIST 13          /* STALL: no such descriptor, configuration, interface, setting or endpoint */
 #define HK_NO_SUCH_FEATURE 14         /* STALL: feature not there for this recipient */
 #define HK_NO_SUCH_PACKET 15          /* packet: size, lengths or packet number */
-#define HK_ENDPOINT_UNFIT 16          /* function event on an unfit endpoint; power value above 1; no such endpoint */
+#define HK_ENDPOINT_UNFIT 16          /* function event on an unfit endpoint; power value above 1; no such endpoint; no such speed */
+#define HK_TEST_MODE_ENTERED 17       /* a setup of 8 bytes, once a test mode is entered */
 #define HK_WAKE_NOT_ALLOWED 19        /* wake event: not suspended, or the host has not allowed it */
 #define HK_PIECES_BROKEN 20           /* makers: the pieces do not end where their lengths say */
 #define HK_SET_REFUSED 21             /* makers: over 64 pieces or 16,384 bytes, or hk_open would refuse the set */
 #define HK_BUFFER_TOO_SHORT 22        /* makers: what is to be written is longer than the buffer */
 #define HK_DUMP_BROKEN 23             /* makers: the dump does not split into a device and configurations */
+#define HK_PAIR_BROKEN 24             /* opening two sets: a device_qualifier or an other_speed_configuration */
 
 /* The power sources. */
 #define HK_POWER_BUS 0
 #define HK_POWER_OWN 1
+
+/* The speeds. */
+#define HK_SPEED_FULL 0
+#define HK_SPEED_HIGH 1
 
 /* Bytes in memory that the caller lent. Test length, not start: the start of an empty part is NULL only where NULL was
  * lent. */
@@ -122,6 +131,11 @@ uint8_t hk_status_end(const uint8_t *set, size_t set_length, const uint8_t *seri
 uint8_t hk_bus_reset(const uint8_t *set, size_t set_length, const uint8_t *serial, size_t serial_length,
                      uint8_t *image, size_t image_length);
 
+/* The bus was reset, to a speed: as hk_bus_reset, which is a reset to HK_SPEED_FULL. A board that lends one set has no
+ * other speed: HK_ENDPOINT_UNFIT for any, and nothing changes. */
+uint8_t hk_bus_reset_to(const uint8_t *set, size_t set_length, const uint8_t *serial, size_t serial_length,
+                        uint8_t *image, size_t image_length, uint8_t speed);
+
 /* The function halts an endpoint: a bulk or interrupt endpoint of a current setting, by its address (bit 7 is the
  * direction). Its data toggle stays.
  *
@@ -181,21 +195,21 @@ uint8_t hk_endpoint(const uint8_t *set, size_t set_length, const uint8_t *serial
 typedef struct hk_record {
     uint8_t state;          /* 0 Default, 1 Address, 2 Configured */
     uint8_t address;        /* the address to answer to */
-    uint8_t waiting;        /* the address that hk_status_end takes, 255 for none */
+    uint8_t waiting;        /* the address that the status end takes, or 128 plus the test mode that it enters; 255 for none */
     uint8_t configuration;  /* the selected bConfigurationValue, 0 for none */
     uint8_t wakeup;         /* 1: the host has allowed remote wakeup */
     uint8_t power;          /* HK_POWER_BUS or HK_POWER_OWN */
     uint8_t suspended;      /* 1: suspended */
-    uint8_t speed;          /* 0 */
+    uint8_t speed;          /* HK_SPEED_FULL; with two sets also HK_SPEED_HIGH, and in a test mode 1 plus 16 times it */
     uint8_t alternates[16]; /* the current setting of each interface */
     uint32_t halts;         /* bit e: OUT endpoint e is halted; bit 16 + e: IN endpoint e */
     uint32_t toggles;       /* the data toggles, in the same order */
 } hk_record;
 
-/* The events of hk_record_event. */
+/* The events of hk_record_event and hk_two_event. */
 #define HK_EVENT_SETUP 0         /* as hk_setup: reads setup */
 #define HK_EVENT_STATUS_END 1    /* as hk_status_end */
-#define HK_EVENT_BUS_RESET 2     /* as hk_bus_reset */
+#define HK_EVENT_BUS_RESET 2     /* as hk_bus_reset_to: value is the speed */
 #define HK_EVENT_HALT 3          /* as hk_halt: value is the endpoint */
 #define HK_EVENT_PACKET_PASSED 4 /* as hk_packet_passed: value is the endpoint */
 #define HK_EVENT_POWER 5         /* as hk_power: value is the source */
@@ -206,14 +220,46 @@ typedef struct hk_record {
 /* Any event, on a record that stands aligned in memory: what the call for that event does to an image, done to the
  * record where it stands, without a copy to an image and back. Its numbers are that call's too.
  *
- * value is read by HK_EVENT_HALT, HK_EVENT_PACKET_PASSED and HK_EVENT_POWER alone (else 0), setup by HK_EVENT_SETUP alone
- * (else NULL and 0). bytes, *count and *part are always written, as hk_setup writes them: only a setup hands something
+ * value is read by HK_EVENT_BUS_RESET, HK_EVENT_HALT, HK_EVENT_PACKET_PASSED and HK_EVENT_POWER alone (else 0), setup by
+ * HK_EVENT_SETUP alone (else NULL and 0). bytes, *count and *part are always written, as hk_setup writes them: only a setup hands something
  * back. Any other event number is answered as a setup that is not 8 bytes, HK_SETUP_LENGTH_WRONG, and changes nothing.
  *
  * The record is aligned as a uint32_t is, and overlaps nothing else that is passed. */
 uint8_t hk_record_event(const uint8_t *set, size_t set_length, const uint8_t *serial, size_t serial_length,
                         hk_record *record, uint8_t event, uint8_t value, const uint8_t *setup, size_t setup_length,
                         uint8_t bytes[2], uint8_t *count, hk_part *part);
+
+/* ---- A board for high speed: two sets, one for each speed, and one serial block.
+ *
+ * Each set has the descriptors of its speed, and two types that say what the device is at the other: one device_qualifier
+ * (type 6) and an other_speed_configuration (type 7) for each configuration of the other set. */
+
+/* Power-on of a board that lends two sets: as hk_open, of both. HK_FRAME_BROKEN to HK_SERIAL_BROKEN: of the full-speed set,
+ * or, where that is acceptable, of the high-speed set. HK_PAIR_BROKEN: each set is acceptable, but types 6 and 7 of one do
+ * not say what the other is. */
+uint8_t hk_two_open(const uint8_t *full, size_t full_length, const uint8_t *high, size_t high_length,
+                    const uint8_t *serial, size_t serial_length, uint8_t *image, size_t image_length);
+
+/* Any event on a board that lends two sets, by its number HK_EVENT_..: what the call for that event does, with the set in
+ * use. bytes, *count and *part are always written, as hk_setup writes them. A part lies in the set in use, by image[7] as
+ * it was before the call, or in the serial block; one that is not handed back is the full-speed set's first 0 bytes.
+ *
+ * A bus reset to HK_SPEED_FULL or HK_SPEED_HIGH makes that set the one in use. Any other speed is HK_ENDPOINT_UNFIT.
+ *
+ * SET_FEATURE(TEST_MODE) waits for the status end, as an address does, and is dropped as an address is: then image[2] is
+ * 128 plus the selector of the test mode, 1 to 5. HK_EVENT_STATUS_END enters it: then image[7] is 1 plus 16 times the
+ * selector, and the board starts that test on the bus. From then on each setup of 8 bytes is HK_TEST_MODE_ENTERED, and a
+ * bus reset changes nothing: only power-on (hk_two_open) ends a test mode. */
+uint8_t hk_two_event(const uint8_t *full, size_t full_length, const uint8_t *high, size_t high_length,
+                     const uint8_t *serial, size_t serial_length, uint8_t *image, size_t image_length,
+                     uint8_t event, uint8_t value, const uint8_t *setup, size_t setup_length,
+                     uint8_t bytes[2], uint8_t *count, hk_part *part);
+
+/* Endpoint descriptor `number` of the current settings: as hk_endpoint, of the set in use. All but HK_DONE leave the
+ * full-speed set's first 0 bytes in *descriptor. */
+uint8_t hk_two_endpoint(const uint8_t *full, size_t full_length, const uint8_t *high, size_t high_length,
+                        const uint8_t *serial, size_t serial_length, uint8_t *image, size_t image_length,
+                        uint8_t number, hk_part *descriptor);
 
 /* Cuts packet `number` (from 0) out of a reply: asked is the setup's wLength, size is bMaxPacketSize0.
  *

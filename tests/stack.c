@@ -1,4 +1,5 @@
-/* stack SET SERIAL [SET SERIAL].. : how many bytes of stack each function of the library takes, on the sets in these files.
+/* stack FULL HIGH SERIAL SET SERIAL [SET SERIAL].. : how many bytes of stack each function of the library takes, on the sets in these
+ * files: first a pair, then sets that are lent alone.
  *
  * Each call runs on a stack of its own that was painted before; the deepest byte that lost its paint tells, less what an
  * empty call takes. More than 1,024 bytes fail: the smallest board has 2 KiB in all. */
@@ -19,21 +20,25 @@
 #define PAINT 0x5A
 
 enum function {
-    EMPTY, OPEN, SETUP, STATUS_END, BUS_RESET, HALT, PACKET_PASSED, POWER, SUSPEND, RESUME, WAKE, RECORD_EVENT, PACKET, ENDPOINT, EXPORT, TRIM,
+    EMPTY, OPEN, SETUP, STATUS_END, BUS_RESET, BUS_RESET_TO, HALT, PACKET_PASSED, POWER, SUSPEND, RESUME, WAKE, RECORD_EVENT, PACKET, ENDPOINT,
+    TWO_OPEN, TWO_EVENT, TWO_ENDPOINT, EXPORT, TRIM,
     FUNCTIONS
 };
 
 static const char *const names[FUNCTIONS] = {
-    "an empty call", "hk_open", "hk_setup", "hk_status_end", "hk_bus_reset", "hk_halt", "hk_packet_passed",
-    "hk_power", "hk_suspend", "hk_resume", "hk_wake", "hk_record_event", "hk_packet", "hk_endpoint", "hk_export", "hk_trim",
+    "an empty call", "hk_open", "hk_setup", "hk_status_end", "hk_bus_reset", "hk_bus_reset_to", "hk_halt", "hk_packet_passed",
+    "hk_power", "hk_suspend", "hk_resume", "hk_wake", "hk_record_event", "hk_packet", "hk_endpoint",
+    "hk_two_open", "hk_two_event", "hk_two_endpoint", "hk_export", "hk_trim",
 };
 
 /* What the next call takes; static, so that nothing of it lies on the painted stack. */
 static enum function function;
-static uint8_t set[20000], serial[20000], image[HK_IMAGE_LENGTH], setup[HK_SETUP_LENGTH], bytes[2], count;
+static uint8_t set[20000], high[20000], serial[20000], image[HK_IMAGE_LENGTH], setup[HK_SETUP_LENGTH], bytes[2], count;
 static hk_record record;
 static uint8_t event, event_value, number;
-static size_t set_length, serial_length;
+static size_t set_length, high_length, serial_length;
+/* two sets are lent */
+static int paired;
 static uint8_t dump[16384], trimmed[20000];
 static uint16_t written;
 static hk_part part = HK_NO_PART;
@@ -58,6 +63,9 @@ static void call(void) {
     case BUS_RESET:
         hk_bus_reset(set, set_length, serial, serial_length, image, sizeof image);
         break;
+    case BUS_RESET_TO:
+        hk_bus_reset_to(set, set_length, serial, serial_length, image, sizeof image, event_value);
+        break;
     case HALT:
         hk_halt(set, set_length, serial, serial_length, image, sizeof image, event_value);
         break;
@@ -79,6 +87,16 @@ static void call(void) {
     case RECORD_EVENT:
         hk_record_event(set, set_length, serial, serial_length, &record, event, event_value, setup, sizeof setup, bytes,
                         &count, &part);
+        break;
+    case TWO_OPEN:
+        number = hk_two_open(set, set_length, high, high_length, serial, serial_length, image, sizeof image);
+        break;
+    case TWO_EVENT:
+        hk_two_event(set, set_length, high, high_length, serial, serial_length, image, sizeof image, event, event_value, setup, sizeof setup,
+                     bytes, &count, &part);
+        break;
+    case TWO_ENDPOINT:
+        hk_two_endpoint(set, set_length, high, high_length, serial, serial_length, image, sizeof image, event_value, &part);
         break;
     case PACKET:
         hk_packet(set, set_length, UINT16_MAX, 8, event_value, &part);
@@ -129,9 +147,15 @@ static void measure(enum function measured) {
         deepest[measured] = depth;
 }
 
-static void measure_record(uint8_t measured) {
+/* An event by its number, and by the call that is its own. */
+static void measure_event(uint8_t measured, enum function alone) {
     event = measured;
+    if (paired) {
+        measure(TWO_EVENT);
+        return;
+    }
     measure(RECORD_EVENT);
+    measure(alone);
 }
 
 static void ask(uint8_t request_type, uint8_t code, uint16_t value, uint16_t index, uint16_t length) {
@@ -140,8 +164,7 @@ static void ask(uint8_t request_type, uint8_t code, uint16_t value, uint16_t ind
         (uint8_t)index, (uint8_t)(index >> 8), (uint8_t)length, (uint8_t)(length >> 8),
     };
     memcpy(setup, asked, sizeof setup);
-    measure_record(HK_EVENT_SETUP);
-    measure(SETUP);
+    measure_event(HK_EVENT_SETUP, SETUP);
 }
 
 /* Every request and every endpoint, in the state that the image is in. Each call starts from this image. */
@@ -150,8 +173,8 @@ static void measure_state(void) {
         {0x80, 0, 2}, {0x81, 0, 2}, {0x82, 0, 2}, {0x00, 1, 0}, {0x01, 1, 0}, {0x02, 1, 0}, {0x00, 3, 0}, {0x01, 3, 0},
         {0x02, 3, 0}, {0x00, 5, 0}, {0x80, 6, 255}, {0x80, 8, 1}, {0x00, 9, 0}, {0x81, 10, 1}, {0x01, 11, 0},
     };
-    static const uint16_t values[] = {0, 1, 0x0100, 0x0200, 0x0201, 0x0300, 0x0301};
-    static const uint16_t indices[] = {0, 1, 0x0f, 0x81, 0x0409};
+    static const uint16_t values[] = {0, 1, 2, 0x0100, 0x0200, 0x0201, 0x0300, 0x0301, 0x0600, 0x0700};
+    static const uint16_t indices[] = {0, 1, 0x0f, 0x81, 0x0100, 0x0409};
     uint8_t state[HK_IMAGE_LENGTH];
     memcpy(state, image, sizeof state);
     for (size_t request = 0; request < sizeof requests / sizeof *requests; request++)
@@ -162,53 +185,71 @@ static void measure_state(void) {
             }
     for (int address = 0; address < 32; address++) {
         event_value = (uint8_t)(address % 16 | (address < 16 ? 0 : 0x80));
-        measure_record(HK_EVENT_HALT);
-        measure_record(HK_EVENT_PACKET_PASSED);
         memcpy(image, state, sizeof state);
-        measure(HALT);
+        measure_event(HK_EVENT_HALT, HALT);
         memcpy(image, state, sizeof state);
-        measure(PACKET_PASSED);
+        measure_event(HK_EVENT_PACKET_PASSED, PACKET_PASSED);
         memcpy(image, state, sizeof state);
-        measure(ENDPOINT);
+        measure(paired ? TWO_ENDPOINT : ENDPOINT);
     }
     memcpy(image, state, sizeof state);
     event_value = HK_POWER_OWN;
-    measure_record(HK_EVENT_POWER);
-    measure(POWER);
+    measure_event(HK_EVENT_POWER, POWER);
     memcpy(image, state, sizeof state);
-    for (uint8_t number = HK_EVENT_SUSPEND; number <= HK_EVENT_WAKE; number++) {
-        measure_record(number);
-        measure((enum function)(SUSPEND + number - HK_EVENT_SUSPEND));
-    }
+    for (uint8_t number = HK_EVENT_SUSPEND; number <= HK_EVENT_WAKE; number++)
+        measure_event(number, (enum function)(SUSPEND + number - HK_EVENT_SUSPEND));
     memcpy(image, state, sizeof state);
 }
 
-/* From power-on through every state, with every configuration. */
-static void measure_set(void) {
-    static const uint8_t numbers[] = {0, 1, 255};
-    measure(OPEN);
-    if (number != HK_DONE) {
-        fprintf(stderr, "stack: a set was refused with %d\n", number);
-        exit(2);
-    }
+static void open_with(enum function opening) {
+    measure(opening);
+    if (number == HK_DONE)
+        return;
+    fprintf(stderr, "stack: a set was refused with %d\n", number);
+    exit(2);
+}
+
+/* From Default through every state, with every configuration. */
+static void measure_states(void) {
     measure_state();
     ask(0x00, 5, 5, 0, 0);
-    measure_record(HK_EVENT_STATUS_END);
-    measure(STATUS_END);
+    measure_event(HK_EVENT_STATUS_END, STATUS_END);
     measure_state();
     for (uint16_t value = 1; value < 256; value++) {
         ask(0x00, 9, value, 0, 0);
         if (image[3] == value)
             measure_state();
     }
-    measure_record(HK_EVENT_BUS_RESET);
-    measure(BUS_RESET);
+}
+
+static void measure_set(void) {
+    static const uint8_t numbers[] = {0, 1, 255};
+    open_with(OPEN);
+    measure_states();
+    event_value = HK_SPEED_FULL;
+    measure(BUS_RESET_TO);
+    measure_event(HK_EVENT_BUS_RESET, BUS_RESET);
     for (size_t at = 0; at < sizeof numbers; at++) {
         event_value = numbers[at];
         measure(PACKET);
     }
     measure(EXPORT);
     measure(TRIM);
+}
+
+/* Both speeds, and then a test mode. */
+static void measure_pair(void) {
+    paired = 1;
+    open_with(TWO_OPEN);
+    for (uint8_t speed = HK_SPEED_FULL; speed <= HK_SPEED_HIGH; speed++) {
+        event_value = speed;
+        measure_event(HK_EVENT_BUS_RESET, BUS_RESET_TO);
+        measure_states();
+    }
+    ask(0x00, 3, 2, 0x0100, 0);
+    measure_event(HK_EVENT_STATUS_END, STATUS_END);
+    measure_state();
+    paired = 0;
 }
 
 static size_t read_file(const char *path, uint8_t *to, size_t room) {
@@ -225,12 +266,16 @@ static size_t read_file(const char *path, uint8_t *to, size_t room) {
 
 int main(int argument_count, char **arguments) {
     int too_deep = 0;
-    if (argument_count < 3 || argument_count % 2 == 0) {
-        fprintf(stderr, "usage: stack SET SERIAL [SET SERIAL]..\n");
+    if (argument_count < 6 || argument_count % 2 != 0) {
+        fprintf(stderr, "usage: stack FULL HIGH SERIAL SET SERIAL [SET SERIAL]..\n");
         return 2;
     }
     measure(EMPTY);
-    for (int at = 1; at < argument_count; at += 2) {
+    set_length = read_file(arguments[1], set, sizeof set);
+    high_length = read_file(arguments[2], high, sizeof high);
+    serial_length = read_file(arguments[3], serial, sizeof serial);
+    measure_pair();
+    for (int at = 4; at < argument_count; at += 2) {
         set_length = read_file(arguments[at], set, sizeof set);
         serial_length = read_file(arguments[at + 1], serial, sizeof serial);
         measure_set();
@@ -241,7 +286,7 @@ int main(int argument_count, char **arguments) {
         printf("  %5zu bytes of stack  %s%s\n", taken, names[at], taken > most ? "  TOO DEEP" : "");
         too_deep |= taken > most;
     }
-    printf("stack: %s %d bytes at the most (hk_trim %d more) on %d sets\n", too_deep ? "OVER" : "within", MOST, ASIDE,
-           argument_count / 2);
+    printf("stack: %s %d bytes at the most (hk_trim %d more) on a pair and %d sets\n", too_deep ? "OVER" : "within", MOST, ASIDE,
+           argument_count / 2 - 2);
     return too_deep;
 }

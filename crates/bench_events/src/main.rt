@@ -124,7 +124,7 @@ fn event_of(kind: u8, bytes: &[u8]) -> Event {
         return Event::StatusEnd;
     }
     if kind == 2 {
-        return Event::BusReset;
+        return Event::BusReset(0);
     }
     if kind == 3 {
         return Event::Halt(octets::peek(bytes, 0));

@@ -1,11 +1,11 @@
 -- What opening and events do by the image's length, and an answer's two bytes. No axiom.
 use Prim.Native.Nat.{ℕ}
-use mathlib.Core.Path.{_≡_, refl, sym, _∙_}
+use mathlib.Core.Path.{_≡_, refl}
 use mathlib.Core.List.{List, [], _∷_}
 use lib.ListN.{length}
 use borrow.Author.Tests.{eq-eqb, ne-eqb}
 use Rattle.sets.specs.Opening.{Board}
-use Rattle.sets.specs.View.{openingOf}
+use Rattle.sets.specs.View.{View, openingOf}
 use Rattle.records.specs.Device.{fresh}
 use Rattle.octets.specs.Octets.{byte}
 use Rattle.records.specs.Image.{imageOf, deviceOf}
@@ -13,7 +13,8 @@ use Rattle.events.specs.declared.Answer.{Answer}
 use Rattle.events.specs.declared.Answer.the-variants.{Done, OneByte, TwoBytes, SetPart, SerialPart, Refused}
 use Rattle.events.specs.declared.Event.{Event}
 use Rattle.events.specs.Answer.{bytesOf}
-use Rattle.events.specs.Step.{opened, replyOf, step, event}
+use Rattle.events.specs.Step.{opened, replyOf}
+use Rattle.steps.specs.Gathering.{stepIn, eventIn}
 use Rattle.board.specs.Exports.{Opens, padded}
 
 module _ (b : Board) (image : List ℕ) where
@@ -25,18 +26,16 @@ module _ (b : Board) (image : List ℕ) where
   unfolding opened
   open-whole l n left p q = record { number = rw (eq-eqb (length image) 32 l) p; leaves = rw (eq-eqb (length image) 32 l) q }
 
-  module _ (e : Event) where
-    pub event-short : (length image ≡ 32 → ⊥) → (n : ℕ) → n ≡ openingOf b → n ≡ 0 → event b image e ≡ record { answer = Refused 8; image = image }
-    unfolding event
-    event-short s n p q = rw (ne-eqb (length image) 32 s, eq-eqb (openingOf b) 0 (sym p ∙ q))
+-- with what opening gives, and the view of the set in use
+module _ (n : ℕ) (v : View) (image : List ℕ) (e : Event) where
+  pub event-short : (length image ≡ 32 → ⊥) → n ≡ 0 → eventIn n v image e ≡ record { answer = Refused 8; image = image }
+  event-short s q = rw (ne-eqb (length image) 32 s, eq-eqb n 0 q)
 
-    pub event-refused : (length image ≡ 32 → ⊥) → (n : ℕ) → n ≡ openingOf b → (n ≡ 0 → ⊥) → event b image e ≡ record { answer = Refused 7; image = image }
-    unfolding event
-    event-refused s n p q = rw (ne-eqb (length image) 32 s, ne-eqb (openingOf b) 0 (λ z. q (p ∙ z)))
+  pub event-refused : (length image ≡ 32 → ⊥) → (n ≡ 0 → ⊥) → eventIn n v image e ≡ record { answer = Refused 7; image = image }
+  event-refused s q = rw (ne-eqb (length image) 32 s, ne-eqb n 0 q)
 
-    pub event-whole : length image ≡ 32 → event b image e ≡ replyOf (step b (deviceOf image) e)
-    unfolding event
-    event-whole l = rw (eq-eqb (length image) 32 l)
+  pub event-whole : length image ≡ 32 → eventIn n v image e ≡ replyOf (stepIn n v (deviceOf image) e)
+  event-whole l = rw (eq-eqb (length image) 32 l)
 
 -- the two bytes of an answer, those not handed back 0
 pub two-bytes : (a : Answer) → byte (bytesOf a) 0 ∷ byte (bytesOf a) 1 ∷ [] ≡ padded (bytesOf a)

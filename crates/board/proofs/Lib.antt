@@ -1,2 +1,4 @@
 pub mod Lengths
+pub mod Spots
 pub mod EndpointImages
+pub mod TwoSets

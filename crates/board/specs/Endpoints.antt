@@ -1,5 +1,5 @@
--- hk_endpoint: which number it gives, what a refusal shows, and that after an opening it never gives 8; every part is an endpoint descriptor inside
--- the set; and counting up from 0 to the first 16 gives exactly the endpoints of the current settings, each once, in the set's order. No axiom.
+-- hk_endpoint and hk_two_endpoint: which number it gives, what a refusal shows, and that after an opening it never gives 8; every part is an endpoint descriptor inside
+-- the set in use; and counting up from 0 to the first 16 gives exactly the endpoints of the current settings, each once, in the set's order. No axiom.
 use Prim.Native.Nat.{ℕ, _+_, _*_, _/_, _%_, _-_, _≤_, _<_}
 use native.Mathlib.Nat.{add-zero}
 use native.Mathlib.Omega.{arith}
@@ -11,12 +11,11 @@ use mathlib.Core.Option.{Option, some, none}
 use lib.ListN.{length, getD, getElem?, length-map}
 use lib.Dec.{eqb, leb}
 use borrow.Author.Tests.{not-true, eq-eqb, eqb-true, eqb-false, leb-true, le-leb}
-use Rattle.octets.specs.Octets.{Bytes, byte, part}
+use Rattle.octets.specs.Octets.{byte, part}
 use Rattle.octets.specs.Sentences.{pick, every, only, pairs, upTo}
 use Rattle.octets.proofs.Sentences.{cases, both, joined, never, if-then, every-member, member-every, only-member, pairs-split}
 use Rattle.octets.proofs.Counting.{at-member, at-inside, at-beyond, told, pairs-at, pairs-map, pairs-then, differ, apart as unequal, differs, no-more}
 use Rattle.descriptors.specs.declared.Endpoint.{Endpoint}
-use Rattle.descriptors.specs.Limits.{fullSpeed}
 use Rattle.descriptors.specs.Cut.{cut, cutAfter, descriptorsOf, wellCut}
 use Rattle.descriptors.specs.Descriptor.{isEndpoint, bEndpointAddress, bmAttributes, goodAddress, goodEndpoint}
 use Rattle.descriptors.specs.Interfaces.{apart, grouped, endpointsOf}
@@ -26,12 +25,13 @@ use Rattle.descriptors.proofs.CurrentEndpoints.{before-it, named, ordered}
 use Rattle.sets.proofs.Bodies.{mapped}
 use Rattle.sets.specs.declared.Entry.{Entry}
 use Rattle.sets.specs.Contents.{bodyOf}
-use Rattle.sets.specs.Opening.{Board}
-use Rattle.sets.specs.View.{viewOf, openingOf, accepted}
+use Rattle.sets.specs.Opening.{Board, BytesOf}
+use Rattle.sets.specs.View.{openingOf, accepted}
 use Rattle.records.specs.declared.Device.{Device}
 use Rattle.records.specs.Device.{inConfigured}
 use Rattle.records.specs.Image.{deviceOf}
-use Rattle.records.specs.Current.{selected, currentEndpoints}
+use Rattle.records.specs.Current.{inUse, setFor, setAt, boardFor, viewAt, selected, currentEndpoints}
+use Rattle.records.proofs.InUse.{rowFor, opensFor, bytesFor}
 use Rattle.records.specs.Fits.{fits, fitsOn}
 use Rattle.events.specs.declared.Answer.the-variants.{SetPart, Refused}
 use Rattle.steps.specs.Endpoint.{selectedEntry, inSet, endpointsIn, endpointDescriptors, endpointPart, endpoint, endpointOn}
@@ -44,22 +44,26 @@ use Rattle.laws.proofs.Keeping.{soundSelected}
 use Rattle.laws.proofs.Locality.{zero-selects}
 use Rattle.promises.specs.Sound.{sound}
 use Rattle.promises.specs.Keeps.{FitImage, Reached, reachedFits}
-use Rattle.board.specs.Exports.{Spot, GivesEndpoint}
+use Rattle.board.specs.Exports.{Spot, Spots, GivesEndpoint}
 
 -- ---- what the statements say
 -- demand 1's numbers: 7 where the board is not accepted, 8 where the image does not fit, else 0 or 16
 abbrev pub allowsEndpoint : Board → List ℕ → ℕ → Bool
 allowsEndpoint b image n = pick (accepted b) (pick (eqb (length image) 32 && fitsOn b (deviceOf image)) (eqb n 0 || eqb n 16) (eqb n 8)) (eqb n 7)
 
--- a part that is an endpoint descriptor inside the set: of type 5, as long as its bLength, and good by document 01's rules
-pub record EndpointIn (b : Board) (setSpot : Spot) (shown : List ℕ) (spot : Spot) : Type 0 where
+-- where the set in use lies
+abbrev pub spotInUse : Board → ℕ → Spots → Spot
+spotInUse b speed lie = inUse (b .high) speed (lie .set) (lie .high)
+
+-- a part that is an endpoint descriptor inside the set in use: of type 5, as long as its bLength, and good by the rules of its speed
+pub record EndpointIn (b : Board) (speed : ℕ) (lie : Spots) (shown : List ℕ) (spot : Spot) : Type 0 where
   pub offset : ℕ
-  pub inside : offset + length shown ≤ length (b .set)
-  pub lies : spot ≡ record { block = setSpot .block; offset = setSpot .offset + offset }
-  pub shows : shown ≡ part (b .set) offset (length shown)
+  pub inside : offset + length shown ≤ length (setFor b speed)
+  pub lies : spot ≡ record { block = spotInUse b speed lie .block; offset = spotInUse b speed lie .offset + offset }
+  pub shows : shown ≡ part (setFor b speed) offset (length shown)
   pub kind : isEndpoint shown ≡ true
   pub long : byte shown 0 ≡ length shown
-  pub good : goodEndpoint fullSpeed shown ≡ true
+  pub good : goodEndpoint (rowFor (b .high) speed) shown ≡ true
 
 -- address and attributes, as an endpoint descriptor has them and as the configuration lists them
 abbrev pub pair : ℕ → ℕ → ℕ × ℕ
@@ -74,7 +78,7 @@ listed e = pair (e .address) (e .attributes)
 -- ---- an answer is a refusal, or the part of a descriptor of the list
 module _ (b : Board) (image : List ℕ) (k : ℕ) where
   abbrev ds : List DescriptorAt
-  ds = endpointDescriptors (b .set) (deviceOf image)
+  ds = endpointDescriptors (setAt b (deviceOf image)) (deviceOf image)
 
   record There : Type 0 where
     at : DescriptorAt
@@ -110,8 +114,8 @@ module _ (b : Board) (image : List ℕ) (k : ℕ) where
       go p l f (some x) e = inr (record { at = x; member = at-member ds k e; opens = eqb-true (openingOf b) 0 p; answer = rw (p, l, f, e); allowed = rw (p, l, f) })
 
 -- ---- one call
-module _ {b : Board} {setSpot : Spot} {image : List ℕ} {k n : ℕ} {shown : List ℕ} {spot : Spot} (g : GivesEndpoint b setSpot image k n shown spot) where
-  -- demand 1: the number; a refusal shows the set's first 0 bytes
+module _ {b : Board} {lie : Spots} {image : List ℕ} {k n : ℕ} {shown : List ℕ} {spot : Spot} (g : GivesEndpoint b lie image k n shown spot) where
+  -- demand 1: the number; a refusal shows the first set's first 0 bytes
   pub endpointNumber : allowsEndpoint b image n ≡ true
   endpointNumber = go (either-way b image k)
     where
@@ -119,22 +123,23 @@ module _ {b : Board} {setSpot : Spot} {image : List ℕ} {k n : ℕ} {shown : Li
       go (inl r) = let e : n ≡ r .number = g .number ∙ rw (r .answer) in rw e (r .allowed)
       go (inr t) = let e : n ≡ 0 = g .number ∙ rw (t .answer) in rw e (t .allowed)
 
-  pub endpointRefused : (n ≡ 0 → ⊥) → (shown ≡ []) × (spot ≡ setSpot)
+  pub endpointRefused : (n ≡ 0 → ⊥) → (shown ≡ []) × (spot ≡ lie .set)
   endpointRefused nonzero = go (either-way b image k)
     where
-      go : Refusal b image k ⊎ There b image k → (shown ≡ []) × (spot ≡ setSpot)
-      go (inl r) = (g .shows ∙ rw (r .answer), g .lies ∙ rw (r .answer) (ap (λ (o : ℕ). record { block = setSpot .block; offset = o }) (add-zero (setSpot .offset))))
+      go : Refusal b image k ⊎ There b image k → (shown ≡ []) × (spot ≡ lie .set)
+      go (inl r) = (g .shows ∙ rw (r .answer), g .lies ∙ rw (r .answer) (ap (λ (o : ℕ). record { block = lie .set .block; offset = o }) (add-zero (lie .set .offset))))
       go (inr t) = absurd (nonzero (g .number ∙ rw (t .answer)))
 
-  -- every part is an endpoint descriptor inside the set
-  pub endpointGiven : n ≡ 0 → EndpointIn b setSpot shown spot
+  -- every part is an endpoint descriptor inside the set in use
+  pub endpointGiven : n ≡ 0 → EndpointIn b (deviceOf image .speed) lie shown spot
   endpointGiven z = go (either-way b image k)
     where
-      go : Refusal b image k ⊎ There b image k → EndpointIn b setSpot shown spot
+      go : Refusal b image k ⊎ There b image k → EndpointIn b (deviceOf image .speed) lie shown spot
       go (inl r) = absurd (r .nonzero (sym (g .number ∙ rw (r .answer)) ∙ z))
       go (inr t) =
           let p = t .at in
-          let s = stands b (t .opens) (deviceOf image) p (t .member) in
+          let speed = deviceOf image .speed in
+          let s = stands (rowFor (b .high) speed) (boardFor b speed) (opensFor b speed (t .opens)) (deviceOf image) p (t .member) in
           let e : shown ≡ p .bytes = g .shows ∙ rw (t .answer) (s .shown) in
           rw e (record {
             offset = p .offset;
@@ -147,16 +152,20 @@ module _ {b : Board} {setSpot : Spot} {image : List ℕ} {k n : ℕ} {shown : Li
           })
 
 -- after an opening, of whatever 32 bytes, and whatever events: never 8
-pub endpointNeverEight : (b : Board) → Bytes (b .set) → {image : List ℕ} → Reached b image → {setSpot : Spot} {k n : ℕ} {shown : List ℕ} {spot : Spot}
-    → GivesEndpoint b setSpot image k n shown spot → n ≡ 8 → ⊥
+pub endpointNeverEight : (b : Board) → BytesOf b → {image : List ℕ} → Reached b image → {lie : Spots} {k n : ℕ} {shown : List ℕ} {spot : Spot}
+    → GivesEndpoint b lie image k n shown spot → n ≡ 8 → ⊥
 endpointNeverEight b bytes {image} r g e = cases (accepted b)
     (λ p. let f = reachedFits b bytes p r in never {a = true} refl (sym (rw (e, p, eq-eqb (length image) 32 (f .long), f .fit) at (endpointNumber g))))
     (λ p. never {a = true} refl (sym (rw (e, p) at (endpointNumber g))))
 
 -- ---- the list of descriptors is the list of the current endpoints, one for one
-module _ (b : Board) (bytes : Bytes (b .set)) (ok : accepted b ≡ true) (d : Device) where
+module _ (b : Board) (bytes : BytesOf b) (ok : accepted b ≡ true) (d : Device) where
   opens : openingOf b ≡ 0
   opens = eqb-true (openingOf b) 0 ok
+
+  -- the body of the selected configuration is well cut
+  well-cut : {body : List ℕ} → body ≡ selectedBody (setAt b d) (d .configuration) → wellCut (cut body) ≡ true
+  well-cut s = rw s (usable (rowFor (b .high) (d .speed)) (boardFor b (d .speed)) (bytesFor b (d .speed) bytes) (opensFor b (d .speed) opens) (d .configuration) .whole)
 
   module _ {A : Type 0} (f : ℕ → ℕ → A) where
     abbrev said : DescriptorAt → A
@@ -169,27 +178,27 @@ module _ (b : Board) (bytes : Bytes (b .set)) (ok : accepted b ≡ true) (d : De
     moved e [] = refl
     moved e (p ∷ l) = ap (_∷_ (said p)) (moved e l)
 
-    in-entry : (o : Option Entry) → selectedEntry (b .set) d ≡ o → map said (endpointsIn (b .set) d o) ≡ map has (currentEndpoints (viewOf b) d)
+    in-entry : (o : Option Entry) → selectedEntry (setAt b d) d ≡ o → map said (endpointsIn (setAt b d) d o) ≡ map has (currentEndpoints (viewAt b d) d)
     unfolding configurationOf groupsOf grouped endpointsOf cutAfter descriptorsOf only
     in-entry none e =
-        let s : [] ≡ selectedBody (b .set) (d .configuration) = rw e in
-        rw (← is-selected b d s)
+        let s : [] ≡ selectedBody (setAt b d) (d .configuration) = rw e in
+        rw (← is-selected (boardFor b (d .speed)) d s)
     in-entry (some x) e =
-        let body = bodyOf (b .set) x in
-        let s : body ≡ selectedBody (b .set) (d .configuration) = rw e in
-        let well : wellCut (cut body) ≡ true = rw s (usable b bytes opens (d .configuration) .whole) in
-        moved x (currentDescriptors (d .alternates) body) ∙ named (d .alternates) body well f ∙ ap (λ c. map has (currentOf (d .alternates) c)) (is-selected b d s)
+        let body = bodyOf (setAt b d) x in
+        let s : body ≡ selectedBody (setAt b d) (d .configuration) = rw e in
+        let well : wellCut (cut body) ≡ true = well-cut s in
+        moved x (currentDescriptors (d .alternates) body) ∙ named (d .alternates) body well f ∙ ap (λ c. map has (currentOf (d .alternates) c)) (is-selected (boardFor b (d .speed)) d s)
 
     -- outside Configured a record that fits selects nothing
-    pub sameEndpoints : fitsOn b d ≡ true → map said (endpointDescriptors (b .set) d) ≡ map has (currentEndpoints (viewOf b) d)
+    pub sameEndpoints : fitsOn b d ≡ true → map said (endpointDescriptors (setAt b d) d) ≡ map has (currentEndpoints (viewAt b d) d)
     unfolding endpointDescriptors only
     sameEndpoints fit = go (eqb (d .state) inConfigured) refl
       where
-        nothing-there : (d .state ≡ inConfigured → ⊥) → currentEndpoints (viewOf b) d ≡ []
-        nothing-there n = rw (zero-selects (b .set) (viewOf b) (sound b bytes ok) (d .configuration) (unselected (viewOf b) d fit n))
+        nothing-there : (d .state ≡ inConfigured → ⊥) → currentEndpoints (viewAt b d) d ≡ []
+        nothing-there n = rw (zero-selects (setAt b d) (viewAt b d) (sound b bytes ok (d .speed)) (d .configuration) (unselected (viewAt b d) d fit n))
 
-        go : (t : Bool) → eqb (d .state) inConfigured ≡ t → map said (pick t (endpointsIn (b .set) d (selectedEntry (b .set) d)) []) ≡ map has (currentEndpoints (viewOf b) d)
-        go true p = in-entry (selectedEntry (b .set) d) refl
+        go : (t : Bool) → eqb (d .state) inConfigured ≡ t → map said (pick t (endpointsIn (setAt b d) d (selectedEntry (setAt b d) d)) []) ≡ map has (currentEndpoints (viewAt b d) d)
+        go true p = in-entry (selectedEntry (setAt b d) d) refl
         go false p = rw (nothing-there (eqb-false (d .state) inConfigured p))
 
   -- one lies before the other in the set
@@ -197,17 +206,17 @@ module _ (b : Board) (bytes : Bytes (b .set)) (ok : accepted b ≡ true) (d : De
   shifted e l p = sym (pairs-map before-it (inSet e) l) ∙ pairs-then before-it (λ x y. before-it (inSet e x) (inSet e y)) l
       (λ x y m k q. let h : x .offset + length (x .bytes) ≤ y .offset = leb-true _ _ q in le-leb (e .offset + x .offset + length (x .bytes)) (e .offset + y .offset) (omega arith)) p
 
-  pub inOrder : pairs before-it (endpointDescriptors (b .set) d) ≡ true
+  pub inOrder : pairs before-it (endpointDescriptors (setAt b d) d) ≡ true
   unfolding endpointDescriptors pairs
-  inOrder = go (eqb (d .state) inConfigured) (selectedEntry (b .set) d) refl
+  inOrder = go (eqb (d .state) inConfigured) (selectedEntry (setAt b d) d) refl
     where
-      go : (t : Bool) (o : Option Entry) → selectedEntry (b .set) d ≡ o → pairs before-it (pick t (endpointsIn (b .set) d o) []) ≡ true
+      go : (t : Bool) (o : Option Entry) → selectedEntry (setAt b d) d ≡ o → pairs before-it (pick t (endpointsIn (setAt b d) d o) []) ≡ true
       go false o e = refl
       go true none e = refl
       go true (some x) e =
-          let body = bodyOf (b .set) x in
-          let s : body ≡ selectedBody (b .set) (d .configuration) = rw e in
-          let well : wellCut (cut body) ≡ true = rw s (usable b bytes opens (d .configuration) .whole) in
+          let body = bodyOf (setAt b d) x in
+          let s : body ≡ selectedBody (setAt b d) (d .configuration) = rw e in
+          let well : wellCut (cut body) ≡ true = well-cut s in
           shifted x (currentDescriptors (d .alternates) body) (ordered (d .alternates) body well)
 
   -- no two current endpoints have one address
@@ -231,18 +240,18 @@ module _ (b : Board) (bytes : Bytes (b .set)) (ok : accepted b ≡ true) (d : De
           (λ y m. let (k, e) = only-member (isCurrent (d .alternates)) l m in differs (x .address) (y .address) (other y c e (every-member (apart x) q k)))) r
       go false c q r = r
 
-  pub addressesDiffer : pairs (λ e f. differ (e .address) (f .address)) (currentEndpoints (viewOf b) d) ≡ true
-  addressesDiffer = apart-current (selected (viewOf b) d .endpoints) (soundSelected (b .set) (viewOf b) (sound b bytes ok) d .distinct)
+  pub addressesDiffer : pairs (λ e f. differ (e .address) (f .address)) (currentEndpoints (viewAt b d) d) ≡ true
+  addressesDiffer = apart-current (selected (viewAt b d) d .endpoints) (soundSelected (setAt b d) (viewAt b d) (sound b bytes ok (d .speed)) d .distinct)
 
   -- and there are 30 addresses: numbers 1 to 15, OUT and IN
   abbrev slot : ℕ → ℕ
   slot a = a % 16 - 1 + 15 * (a / 128)
 
-  pub atMostThirty : length (currentEndpoints (viewOf b) d) ≤ 30
+  pub atMostThirty : length (currentEndpoints (viewAt b d) d) ≤ 30
   atMostThirty =
-      let es = currentEndpoints (viewOf b) d in
-      let sound = soundSelected (b .set) (viewOf b) (sound b bytes ok) d in
-      let in-it : (e : Endpoint) → List·Memᴰ e es → List·Memᴰ e (selected (viewOf b) d .endpoints) = λ e m. only-member (isCurrent (d .alternates)) (selected (viewOf b) d .endpoints) m .0 in
+      let es = currentEndpoints (viewAt b d) d in
+      let sound = soundSelected (setAt b d) (viewAt b d) (sound b bytes ok (d .speed)) d in
+      let in-it : (e : Endpoint) → List·Memᴰ e es → List·Memᴰ e (selected (viewAt b d) d .endpoints) = λ e m. only-member (isCurrent (d .alternates)) (selected (viewAt b d) d .endpoints) m .0 in
       let one : pairs (λ e f. differ (slot (e .address)) (slot (f .address))) es ≡ true = pairs-then (λ e f. differ (e .address) (f .address)) (λ e f. differ (slot (e .address)) (slot (f .address))) es
       (λ e f m k q. differs (slot (e .address)) (slot (f .address)) (λ i. unequal (e .address) (f .address) q
       (slots (e .address) (f .address) (sound .addresses e (in-it e m)) (sound .addresses f (in-it f k)) (sound .octets e (in-it e m)) (sound .octets f (in-it f k)) i))) addressesDiffer in
@@ -272,13 +281,13 @@ module _ (b : Board) (bytes : Bytes (b .set)) (ok : accepted b ≡ true) (d : De
           ea ∙ rw (u, m) (sym ec)
 
 -- ---- counting up from 0 on an image that fits
-module _ (b : Board) (bytes : Bytes (b .set)) (ok : accepted b ≡ true) {image : List ℕ} (f : FitImage b image) (setSpot : Spot)
-    (number : ℕ → ℕ) (shown : ℕ → List ℕ) (spot : ℕ → Spot) (gives : (k : ℕ) → GivesEndpoint b setSpot image k (number k) (shown k) (spot k)) where
+module _ (b : Board) (bytes : BytesOf b) (ok : accepted b ≡ true) {image : List ℕ} (f : FitImage b image) (lie : Spots)
+    (number : ℕ → ℕ) (shown : ℕ → List ℕ) (spot : ℕ → Spot) (gives : (k : ℕ) → GivesEndpoint b lie image k (number k) (shown k) (spot k)) where
   abbrev endpoints : List Endpoint
-  endpoints = currentEndpoints (viewOf b) (deviceOf image)
+  endpoints = currentEndpoints (viewAt b (deviceOf image)) (deviceOf image)
 
   abbrev all : List DescriptorAt
-  all = endpointDescriptors (b .set) (deviceOf image)
+  all = endpointDescriptors (setAt b (deviceOf image)) (deviceOf image)
 
   same-count : length all ≡ length endpoints
   same-count = sym (length-map all _) ∙ ap length (sameEndpoints b bytes ok (deviceOf image) (λ address attributes. address) (f .fit)) ∙ length-map endpoints _
@@ -297,7 +306,7 @@ module _ (b : Board) (bytes : Bytes (b .set)) (ok : accepted b ≡ true) {image 
   endpointsEnd k h = gives k .number ∙ rw (gave k, at-beyond all k (omega (arith, same-count, h)))
 
   shows-at : (k : ℕ) (x : DescriptorAt) → getElem? all k ≡ some x → shown k ≡ x .bytes
-  shows-at k x e = gives k .shows ∙ rw (gave k, e) (stands b (opens b bytes ok (deviceOf image)) (deviceOf image) x (at-member all k e) .shown)
+  shows-at k x e = gives k .shows ∙ rw (gave k, e) (stands (rowFor (b .high) (deviceOf image .speed)) (boardFor b (deviceOf image .speed)) (opensFor b (deviceOf image .speed) (opens b bytes ok (deviceOf image))) (deviceOf image) x (at-member all k e) .shown)
 
   -- the parts tell the address and the attributes of each current endpoint, one for one, in the set's order
   pub endpointsAll : map (λ k. described (shown k)) (upTo (length endpoints)) ≡ map listed endpoints

@@ -13,7 +13,7 @@ use Rattle.octets.proofs.Sentences.{cases}
 use Rattle.sets.specs.Opening.{Board}
 use Rattle.sets.specs.View.{accepted}
 use Rattle.records.specs.declared.Device.{Device}
-use Rattle.records.specs.Device.{fresh}
+use Rattle.records.specs.Device.{fresh, inTestMode}
 use Rattle.records.specs.Image.{deviceOf}
 use Rattle.records.specs.Fits.{fitsOn}
 use Rattle.events.specs.Answer.{numberOf}
@@ -23,7 +23,7 @@ use Rattle.promises.specs.Examples.{bytes, computed, S}
 use Rattle.promises.specs.Inhabited.{acceptedS}
 use Rattle.promises.specs.Refusal.{freshImage}
 use Rattle.board.specs.Exports
-use Rattle.board.specs.Exports.{Opens, Spot, CutsPacket, AnswersRecordEvent}
+use Rattle.board.specs.Exports.{Opens, Spot, Spots, CutsPacket, AnswersRecordEvent}
 use Rattle.board.specs.Transfers.{within, beyond}
 use Rattle.board.specs.Runs.{Call, setup, tell, statusEnd, busReset, recordEvent, eventOf, Given, numberGiven, Meets, gives, leaves, met, meets, number-of, opening}
 
@@ -32,13 +32,13 @@ abbrev pub Build : Type 0
 Build = List Call → List ℕ → Call → Given × List ℕ
 
 -- on every image of 32 bytes (hk_record_event can be lent no other)
-abbrev pub MeetsAll : Board → Spot → Spot → Build → Type 0
-MeetsAll b set serial build =
-    (before : List Call) (image : List ℕ) → length image ≡ 32 → (c : Call) → Meets b set serial image c (build before image c .0) (build before image c .1)
+abbrev pub MeetsAll : Board → Spots → Build → Type 0
+MeetsAll b lie build =
+    (before : List Call) (image : List ℕ) → length image ≡ 32 → (c : Call) → Meets b lie image c (build before image c .0) (build before image c .1)
 
 -- one does
-pub byRules : (b : Board) (set serial : Spot) → MeetsAll b set serial (λ before image c. (gives b set serial image c, leaves b set serial image c))
-byRules b set serial before image long c = meets b set serial image c
+pub byRules : (b : Board) (lie : Spots) → MeetsAll b lie (λ before image c. (gives b lie image c, leaves b lie image c))
+byRules b lie before image long c = meets b lie image c
 
 -- ---- calls that tell a setup: hk_setup, and hk_record_event with event 0. Each law below is of either alone
 abbrev pub TellsSetups : (List ℕ → Call) → Type 0
@@ -58,14 +58,14 @@ abbrev pub unknown : List ℕ
 unknown = bytes 8 0xFFFF000000000000
 
 -- ---- on the bench set S, whatever has been called before
-module _ (set serial : Spot) (build : Build) (ok : MeetsAll S set serial build) (before : List Call) where
+module _ (lie : Spots) (build : Build) (ok : MeetsAll S lie build) (before : List Call) where
   module _ (call : List ℕ → Call) (tells : TellsSetups call) where
     abbrev numbered : List ℕ → ℕ
     numbered bytes = numberGiven (build before freshImage (call bytes) .0)
 
     said : (bytes : List ℕ) → numbered bytes ≡ numberOf (event S freshImage (setupEvent bytes) .answer)
-    said bytes = ap numberGiven (met S set serial (ok before freshImage refl (call bytes)) .0)
-        ∙ number-of S set serial freshImage (call bytes) ∙ ap (λ e. numberOf (event S freshImage e .answer)) (tells bytes)
+    said bytes = ap numberGiven (met S lie (ok before freshImage refl (call bytes)) .0)
+        ∙ number-of S lie freshImage (call bytes) ∙ ap (λ e. numberOf (event S freshImage e .answer)) (tells bytes)
 
     -- not every setup is refused: SET_ADDRESS 5 is done
     pub notRefusing : ((bytes : List ℕ) → numbered bytes ≡ 0 → ⊥) → ⊥
@@ -84,7 +84,7 @@ module _ (set serial : Spot) (build : Build) (ok : MeetsAll S set serial build) 
     pub notStill : ((bytes : List ℕ) → build before freshImage (call bytes) .1 ≡ freshImage) → ⊥
     unfolding computed
     notStill still =
-        let left = met S set serial (ok before freshImage refl (call setAddressFive)) .1 ∙ ap (λ e. event S freshImage e .image) (tells setAddressFive) in
+        let left = met S lie (ok before freshImage refl (call setAddressFive)) .1 ∙ ap (λ e. event S freshImage e .image) (tells setAddressFive) in
         let p : _≡_ {A = ℕ} 5 255 = ap (λ l. byte l 2) (sym left ∙ still setAddressFive) in
         omega arith
 
@@ -92,38 +92,40 @@ module _ (set serial : Spot) (build : Build) (ok : MeetsAll S set serial build) 
 pub notRefusingToOpen : {n : ℕ} {left : List ℕ} → Opens S freshImage n left → n ≡ 0
 notRefusingToOpen o = opening refl o .1 acceptedS
 
-pub notStillWhereItStands : (set serial : Spot) {n : ℕ} {left : Device} {handed : List ℕ} {count : ℕ} {shown : List ℕ} {spot : Spot}
-    → AnswersRecordEvent S set serial fresh (Exports.numbered 0 0 setAddressFive) n left handed count shown spot → left ≡ fresh → ⊥
+pub notStillWhereItStands : (lie : Spots) {n : ℕ} {left : Device} {handed : List ℕ} {count : ℕ} {shown : List ℕ} {spot : Spot}
+    → AnswersRecordEvent S lie fresh (Exports.numbered 0 0 setAddressFive) n left handed count shown spot → left ≡ fresh → ⊥
 unfolding computed
-notStillWhereItStands set serial a still = let p : _≡_ {A = ℕ} 5 255 = ap (λ (d : Device). d .waiting) (sym (a .leaves) ∙ still) in omega arith
+notStillWhereItStands lie a still = let p : _≡_ {A = ℕ} 5 255 = ap (λ (d : Device). d .waiting) (sym (a .leaves) ∙ still) in omega arith
 
 -- ---- the first event by the rules, and then only the echo of success
 unknown-refused : (b : Board) (image : List ℕ) → numberOf (event b image (setupEvent unknown) .answer) ≡ 0 → ⊥
 unfolding computed
 unknown-refused b image = cases (eqb (length image) 32)
     (λ p. cases (accepted b)
-    (λ q. cases (fitsOn b (deviceOf image)) (λ r. rw (p, q, r) (λ z. omega arith)) (λ r. rw (p, q, r) (λ z. omega arith)))
+    (λ q. cases (fitsOn b (deviceOf image))
+    (λ r. cases (inTestMode (deviceOf image)) (λ t. rw (p, q, r, t) (λ z. omega arith)) (λ t. rw (p, q, r, t) (λ z. omega arith)))
+    (λ r. rw (p, q, r) (λ z. omega arith)))
     (λ q. rw (p, q) (λ z. omega arith)))
     (λ p. cases (accepted b) (λ q. rw (p, q) (λ z. omega arith)) (λ q. rw (p, q) (λ z. omega arith)))
 
-module _ (b : Board) (set serial : Spot) (call : List ℕ → Call) (tells : TellsSetups call) where
+module _ (b : Board) (lie : Spots) (call : List ℕ → Call) (tells : TellsSetups call) where
   -- on every board and every image, whatever came before, FF FF is no success
-  pub noEcho : {image : List ℕ} {g : Given} {left : List ℕ} → Meets b set serial image (call unknown) g left → numberGiven g ≡ 0 → ⊥
+  pub noEcho : {image : List ℕ} {g : Given} {left : List ℕ} → Meets b lie image (call unknown) g left → numberGiven g ≡ 0 → ⊥
   noEcho {image} m z = unknown-refused b image
-      (sym (ap numberGiven (met b set serial m .0) ∙ number-of b set serial image (call unknown) ∙ ap (λ e. numberOf (event b image e .answer)) (tells unknown)) ∙ z)
+      (sym (ap numberGiven (met b lie m .0) ∙ number-of b lie image (call unknown) ∙ ap (λ e. numberOf (event b image e .answer)) (tells unknown)) ∙ z)
 
   -- so no build that answers every setup after its first call with 0 meets the statements of any board
-  pub notEchoing : (build : Build) → MeetsAll b set serial build
+  pub notEchoing : (build : Build) → MeetsAll b lie build
       → ((first : Call) (bytes : List ℕ) → numberGiven (build (first ∷ []) freshImage (call bytes) .0) ≡ 0) → ⊥
   notEchoing build ok echoes = noEcho (ok (tell busReset ∷ []) freshImage refl (call unknown)) (echoes (tell busReset) unknown)
 
 -- and on S the two calls of row 4 of table P suffice: after SET_ADDRESS 5 the status end leaves another image than it was lent
-pub secondCounts : (set serial : Spot) {g h : Given} {left last : List ℕ}
-    → Meets S set serial freshImage (setup setAddressFive) g left → Meets S set serial left (tell statusEnd) h last → last ≡ left → ⊥
+pub secondCounts : (lie : Spots) {g h : Given} {left last : List ℕ}
+    → Meets S lie freshImage (setup setAddressFive) g left → Meets S lie left (tell statusEnd) h last → last ≡ left → ⊥
 unfolding computed
-secondCounts set serial {left = left} one two still =
-    let first = met S set serial one .1 in
-    let p : _≡_ {A = ℕ} 5 (byte left 1) = sym (ap (λ l. byte (leaves S set serial l (tell statusEnd)) 1) first) ∙ ap (λ l. byte l 1) (sym (met S set serial two .1) ∙ still) in
+secondCounts lie {left = left} one two still =
+    let first = met S lie one .1 in
+    let p : _≡_ {A = ℕ} 5 (byte left 1) = sym (ap (λ l. byte (leaves S lie l (tell statusEnd)) 1) first) ∙ ap (λ l. byte l 1) (sym (met S lie two .1) ∙ still) in
     let q : byte left 1 ≡ 0 = ap (λ l. byte l 1) first in
     omega arith
 

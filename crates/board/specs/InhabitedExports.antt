@@ -30,7 +30,7 @@ use Rattle.board.specs.Endpoints.{EndpointIn, pair, described, endpointG
 use Rattle.board.specs.Order.{concernsThis, Reordered}
 use Rattle.board.specs.Records.{refusal, RecordRuns, ended, called, answersByRules, asImages, decidedRecord, neverEightRecord, orderRecord}
 use Rattle.board.specs.InhabitedRuns
-use Rattle.board.specs.InhabitedRuns.{start, setSpot, serialSpot, doneAlone}
+use Rattle.board.specs.InhabitedRuns.{start, setSpot, lie, doneAlone}
 
 -- ---- hk_open: T has all six groups; S with its interface's bLength 0 breaks the fourth first; 31 bytes get 8
 pub titratorHolds : AllHold (groups fullSpeed T)
@@ -47,7 +47,7 @@ pub opensShort : Opens S (replicate 31 170) 8 (replicate 31 170)
 unfolding computed
 opensShort = record { number = refl; leaves = refl }
 
-pub eightAllowed : opens (replicate 31 170) 8 ≡ true
+pub eightAllowed : opens S (replicate 31 170) 8 ≡ true
 eightAllowed = openingNumber opensShort
 
 -- ---- hk_packet: GET_DESCRIPTOR(device) on S, asked with 64
@@ -57,7 +57,7 @@ getDevice = bytes 8 0x8006000100004000
 abbrev pub deviceDescriptor : List ℕ
 deviceDescriptor = bytes 18 0x12010002FF00000834127856000100000001
 
-pub deviceReplies : AnswersSetup S setSpot serialSpot freshImage getDevice 0 freshImage (0 ∷ 0 ∷ []) 0 deviceDescriptor (record { block = 1; offset = 20 })
+pub deviceReplies : AnswersSetup S lie freshImage getDevice 0 freshImage (0 ∷ 0 ∷ []) 0 deviceDescriptor (record { block = 1; offset = 20 })
 unfolding computed
 deviceReplies = record { leaves = refl; answers = record { number = refl; hands = refl; counts = refl; shows = refl; lies = refl } }
 
@@ -90,17 +90,17 @@ pub opensRecord : Opens T start 0 (imageOf fresh)
 unfolding computed
 opensRecord = record { number = refl; leaves = refl }
 
-pub configures : RecordRuns T setSpot serialSpot fresh configuring (doneAlone ∷ doneAlone ∷ doneAlone ∷ []) configured
+pub configures : RecordRuns T lie fresh configuring (doneAlone ∷ doneAlone ∷ doneAlone ∷ []) configured
 unfolding computed
 configures =
-    let by = answersByRules T setSpot serialSpot in
+    let by = answersByRules T lie in
     called (by fresh _) (called (by (withWaiting 5 fresh) _) (called (by addressed _) ended))
 
-pub configuresDecided : {gs : List Given} {last : Device} → RecordRuns T setSpot serialSpot fresh configuring gs last → last ≡ configured
-configuresDecided r = decidedRecord T setSpot serialSpot bytesT freshSized r configures .1
+pub configuresDecided : {gs : List Given} {last : Device} → RecordRuns T lie fresh configuring gs last → last ≡ configured
+configuresDecided r = decidedRecord T lie bytesT freshSized r configures .1
 
-pub configuresNotEight : Throughout NotEight (asImages T setSpot serialSpot bytesT freshSized configures .0)
-configuresNotEight = neverEightRecord T setSpot serialSpot bytesT {start = start} refl opensRecord freshSized configures
+pub configuresNotEight : Throughout NotEight (asImages T lie bytesT freshSized configures .0)
+configuresNotEight = neverEightRecord T lie bytesT {start = start} refl opensRecord freshSized configures
 
 -- interface 0's packet at 81 and interface 1's SET_INTERFACE 1, in either order
 abbrev pub oneOrder : List Call
@@ -123,45 +123,46 @@ reordered = record { one = refl; other = refl; same = same }
 abbrev pub lastRecord : Device
 lastRecord = withEndpoints (set zeros 1 1) 0 (2 ^ 17) configured
 
-pub oneEnds : RecordRuns T setSpot serialSpot configured oneOrder (doneAlone ∷ doneAlone ∷ []) lastRecord
+pub oneEnds : RecordRuns T lie configured oneOrder (doneAlone ∷ doneAlone ∷ []) lastRecord
 unfolding computed
 oneEnds =
-    let by = answersByRules T setSpot serialSpot in
+    let by = answersByRules T lie in
     called (by configured _) (called (by (withEndpoints zeros 0 (2 ^ 17) configured) _) ended)
 
 -- whatever the other run gives and leaves, it leaves that
-pub otherEnds : {gs : List Given} {last : Device} → RecordRuns T setSpot serialSpot configured otherOrder gs last → lastRecord ≡ last
-otherEnds r = orderRecord T setSpot serialSpot bytesT acceptedT configuredSized configuredFitsT oneEnds r reordered .0
+pub otherEnds : {gs : List Given} {last : Device} → RecordRuns T lie configured otherOrder gs last → lastRecord ≡ last
+otherEnds r = orderRecord T lie bytesT acceptedT configuredSized configuredFitsT oneEnds r reordered .0
 
 -- ---- a refusal where the record stands: GET_DESCRIPTOR of type 6 on S with address 5 waiting drops it, whatever else it gives
 pub dropsWhereItStands : {left : Device} {handedBack : List ℕ} {count : ℕ} {shown : List ℕ} {spot : Spot}
-    → AnswersRecordEvent S setSpot serialSpot waiting (numbered 0 0 (bytes 8 0x8006000600000A00)) 13 left handedBack count shown spot → left ≡ fresh
+    → AnswersRecordEvent S lie waiting (numbered 0 0 (bytes 8 0x8006000600000A00)) 13 left handedBack count shown spot → left ≡ fresh
 unfolding computed
 dropsWhereItStands a = refusal a .keeps (λ z. omega arith)
 
 -- ---- hk_endpoint: S configured has one endpoint, and its descriptor is the set's last 7 bytes; the second one is refused, and so is the first in Default
-pub endpointOfS : GivesEndpoint S setSpot (imageOf configured) 0 0 (bytes 7 0x0705810308000A) (record { block = 1; offset = 56 })
+pub endpointOfS : GivesEndpoint S lie (imageOf configured) 0 0 (bytes 7 0x0705810308000A) (record { block = 1; offset = 56 })
 unfolding computed currentFrom endpointDescriptors endpoint endpointOn
 endpointOfS = record { number = refl; shows = refl; lies = refl }
 
-pub noSecond : GivesEndpoint S setSpot (imageOf configured) 1 16 [] setSpot
+pub noSecond : GivesEndpoint S lie (imageOf configured) 1 16 [] setSpot
 unfolding computed currentFrom endpointDescriptors endpoint endpointOn
 noSecond = record { number = refl; shows = refl; lies = refl }
 
-pub noneInDefault : GivesEndpoint S setSpot freshImage 0 16 [] setSpot
+pub noneInDefault : GivesEndpoint S lie freshImage 0 16 [] setSpot
 unfolding computed currentFrom endpointDescriptors endpoint endpointOn
 noneInDefault = record { number = refl; shows = refl; lies = refl }
 
-pub isDescriptor : EndpointIn S setSpot (bytes 7 0x0705810308000A) (record { block = 1; offset = 56 })
+pub isDescriptor : EndpointIn S 0 lie (bytes 7 0x0705810308000A) (record { block = 1; offset = 56 })
+unfolding computed
 isDescriptor = endpointGiven endpointOfS refl
 
 -- counted by whatever meets the statement: 0, then 16, and the one part lists endpoint 81, interrupt
-pub countsS : (number : ℕ → ℕ) (shown : ℕ → List ℕ) (spot : ℕ → Spot) → ((k : ℕ) → GivesEndpoint S setSpot (imageOf configured) k (number k) (shown k) (spot k))
+pub countsS : (number : ℕ → ℕ) (shown : ℕ → List ℕ) (spot : ℕ → Spot) → ((k : ℕ) → GivesEndpoint S lie (imageOf configured) k (number k) (shown k) (spot k))
     → (number 0 ≡ 0) × (number 1 ≡ 16) × (described (shown 0) ∷ [] ≡ pair 0x81 3 ∷ [])
 unfolding computed
 countsS number shown spot gives =
     let fit = imageFits S bytesS acceptedS configured (configuredFits, configuredSized) in (
-      endpointsThere S bytesS acceptedS fit setSpot number shown spot gives 0 (omega arith),
-      endpointsEnd S bytesS acceptedS fit setSpot number shown spot gives 1 (omega arith),
-      endpointsAll S bytesS acceptedS fit setSpot number shown spot gives,
+      endpointsThere S bytesS acceptedS fit lie number shown spot gives 0 (omega arith),
+      endpointsEnd S bytesS acceptedS fit lie number shown spot gives 1 (omega arith),
+      endpointsAll S bytesS acceptedS fit lie number shown spot gives,
     )

@@ -15,7 +15,7 @@ use Rattle.promises.specs.Examples.{bytes, computed, T}
 use Rattle.promises.specs.Inhabited.{acceptedT, bytesT}
 use Rattle.promises.specs.Refusal.{freshImage}
 use Rattle.promises.specs.InhabitedOrder.{configuredImage, configuredFit}
-use Rattle.board.specs.Exports.{Opens, Spot}
+use Rattle.board.specs.Exports.{Opens, Spot, Spots, spots}
 use Rattle.board.specs.Runs.{Call, setup, tell, statusEnd, halt, packetPassed, Given, number, handed, Runs, runs, decided, Refuses, refusals, NotEight, Throughout, neverEightAfter}
 use Rattle.board.specs.Order.{concernsThis, Reordered, told, orderAfterOpening}
 use Rattle.board.specs.Places.{whom, orderPlaces}
@@ -39,21 +39,24 @@ setSpot = record { block = 1; offset = 0 }
 abbrev pub serialSpot : Spot
 serialSpot = record { block = 2; offset = 0 }
 
+abbrev pub lie : Spots
+lie = spots setSpot serialSpot
+
 abbrev pub doneAlone : Given
 doneAlone = handed 0 (0 ∷ 0 ∷ []) 0 [] setSpot
 
-pub configures : Runs T setSpot serialSpot freshImage configuring (doneAlone ∷ number 0 ∷ doneAlone ∷ []) configuredImage
+pub configures : Runs T lie freshImage configuring (doneAlone ∷ number 0 ∷ doneAlone ∷ []) configuredImage
 unfolding computed
-configures = runs T setSpot serialSpot freshImage configuring
+configures = runs T lie freshImage configuring
 
-pub configuresDecided : {gs : List Given} {last : List ℕ} → Runs T setSpot serialSpot freshImage configuring gs last → last ≡ configuredImage
-configuresDecided r = decided T setSpot serialSpot r configures .1
+pub configuresDecided : {gs : List Given} {last : List ℕ} → Runs T lie freshImage configuring gs last → last ≡ configuredImage
+configuresDecided r = decided T lie r configures .1
 
-pub configuresRefuses : Throughout (Refuses T setSpot serialSpot) configures
-configuresRefuses = refusals T setSpot serialSpot configures
+pub configuresRefuses : Throughout (Refuses T lie) configures
+configuresRefuses = refusals T lie configures
 
 pub configuresNotEight : Throughout NotEight configures
-configuresNotEight = neverEightAfter T setSpot serialSpot bytesT refl opens configures
+configuresNotEight = neverEightAfter T lie bytesT refl opens configures
 
 -- ---- interface 0's packet at 81 and interface 1's SET_INTERFACE 1, then its halt at 85
 abbrev pub oneOrder : List Call
@@ -76,14 +79,14 @@ pub reordered : Reordered T configuredImage oneOrder otherOrder
 unfolding computed
 reordered = record { one = refl; other = refl; same = same }
 
-pub oneEnds : Runs T setSpot serialSpot configuredImage oneOrder (number 0 ∷ doneAlone ∷ number 0 ∷ []) lastImage
+pub oneEnds : Runs T lie configuredImage oneOrder (number 0 ∷ doneAlone ∷ number 0 ∷ []) lastImage
 unfolding computed
-oneEnds = runs T setSpot serialSpot configuredImage oneOrder
+oneEnds = runs T lie configuredImage oneOrder
 
 -- whatever the other run gives and leaves, it leaves that
-pub otherEnds : {gs : List Given} {last : List ℕ} → Runs T setSpot serialSpot configuredImage otherOrder gs last → lastImage ≡ last
+pub otherEnds : {gs : List Given} {last : List ℕ} → Runs T lie configuredImage otherOrder gs last → lastImage ≡ last
 unfolding computed
-otherEnds r = orderAfterOpening T setSpot serialSpot bytesT refl opens configures oneEnds r reordered .0
+otherEnds r = orderAfterOpening T lie bytesT refl opens configures oneEnds r reordered .0
 
 -- place by place: the packet at 81 stands first in the one and last in the other, and is given the same
 pub own-same : (k : ℕ) → own (whom T configuredImage) k oneOrder ≡ own (whom T configuredImage) k otherOrder
@@ -95,10 +98,10 @@ own-same (suc (suc k)) = rw (ne-eqb 0 (suc (suc k)) (λ p. omega arith), ne-eqb 
 abbrev pub moved : Permuted (whom T configuredImage) oneOrder otherOrder
 moved = places-own oneOrder otherOrder own-same
 
-pub samePlace : {gs : List Given} {last : List ℕ} → Runs T setSpot serialSpot configuredImage otherOrder gs last
+pub samePlace : {gs : List Given} {last : List ℕ} → Runs T lie configuredImage otherOrder gs last
     → getElem? gs (moved .to 0) ≡ some (number 0)
 unfolding computed
-samePlace r = orderPlaces T setSpot serialSpot bytesT acceptedT configuredFit oneEnds r refl moved .1 0 (number 0) refl
+samePlace r = orderPlaces T lie bytesT acceptedT configuredFit oneEnds r refl moved .1 0 (number 0) refl
 
 -- ---- one driver does not notice the other: from the opening on, without interface 0's packet at 81 interface 1 is given the same
 abbrev pub wholeRun : List Call
@@ -107,12 +110,12 @@ wholeRun = configuring ++ oneOrder
 abbrev pub leftRun : List Call
 leftRun = configuring ++ setup (bytes 8 0x010B010001000000) ∷ tell (halt 0x85) ∷ []
 
-pub struckOut : kept T setSpot serialSpot 1 freshImage wholeRun ≡ leftRun
+pub struckOut : kept T lie 1 freshImage wholeRun ≡ leftRun
 unfolding computed
 struckOut = refl
 
-pub unnoticedByOne : {gs others : List Given} {last other : List ℕ} → (r : Runs T setSpot serialSpot freshImage wholeRun gs last)
-    → Runs T setSpot serialSpot freshImage leftRun others other
-    → (keptOf T setSpot serialSpot 1 r ≡ told leftRun others) × Alike T setSpot serialSpot 1 last other
+pub unnoticedByOne : {gs others : List Given} {last other : List ℕ} → (r : Runs T lie freshImage wholeRun gs last)
+    → Runs T lie freshImage leftRun others other
+    → (keptOf T lie 1 r ≡ told leftRun others) × Alike T lie 1 last other
 unfolding computed
-unnoticedByOne r = unnoticed T setSpot serialSpot 1 bytesT {start = start} refl opens r (λ p. refl, (λ p. refl, (λ p. refl, (λ p. refl, (λ p. refl, (λ p. refl, tt))))))
+unnoticedByOne r = unnoticed T lie 1 bytesT {start = start} refl opens r (λ p. (refl, λ q. refl), (λ p. (refl, λ q. refl), (λ p. (refl, λ q. refl), (λ p. (refl, λ q. refl), (λ p. (refl, λ q. refl), (λ p. (refl, λ q. refl), tt))))))

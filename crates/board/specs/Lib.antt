@@ -1,4 +1,5 @@
 pub mod Exports
+pub mod Handing
 pub mod Decided
 pub mod Opening
 pub mod Runs

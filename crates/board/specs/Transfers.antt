@@ -14,16 +14,18 @@ use Rattle.octets.specs.Octets.{part}
 use Rattle.octets.specs.Sentences.{upTo}
 use Rattle.sets.specs.Device.{bMaxPacketSize0, deviceBody}
 use Rattle.sets.specs.Opening.{Board}
+use Rattle.records.specs.Image.{deviceOf}
+use Rattle.records.specs.Current.{setFor}
 use Rattle.requests.specs.Setup.{setupOf}
 use Rattle.events.specs.declared.Answer.{Answer}
 use Rattle.events.specs.declared.Answer.the-variants.{Done, OneByte, TwoBytes, SetPart, SerialPart, Refused}
 use Rattle.events.specs.Answer.{bytesOf, partOf}
-use Rattle.events.specs.Places.{inBlock, bytesIn}
+use Rattle.events.specs.Places.{inBlock, bytesAt}
 use Rattle.events.specs.Step.{event, setupEvent}
 use Rattle.packets.specs.Packets.{count, canCut, packetWhere, packet}
 use Rattle.promises.specs.Packets.{joined, whole-reply}
 use Rattle.promises.specs.Replies.{sizeCuts, eventWithin, doneAccepted}
-use Rattle.board.specs.Exports.{Spot, padded, AnswersSetup, CutsPacket}
+use Rattle.board.specs.Exports.{Spot, Spots, padded, AnswersSetup, AnswersImage, CutsPacket}
 
 -- ---- one packet
 -- 0 or 15; and 15 shows the reply's first 0 bytes
@@ -64,9 +66,9 @@ module _ (reply : List ℕ) (at : Spot) (asked size : ℕ) (number : ℕ → ℕ
 abbrev pub reply : List ℕ → ℕ → List ℕ → List ℕ
 reply bytes counted shown = take counted bytes ++ shown
 
--- the size in which it goes out
-abbrev pub packetSize : Board → ℕ
-packetSize b = bMaxPacketSize0 (deviceBody (b .set))
+-- the size in which it goes out: that of the set in use
+abbrev pub packetSize : Board → List ℕ → ℕ
+packetSize b image = bMaxPacketSize0 (deviceBody (setFor b (deviceOf image .speed)))
 
 bytes-or-part : (a : Answer) → (length (bytesOf a) ≡ 0) ⊎ (partOf a .length ≡ 0)
 bytes-or-part Done = inl refl
@@ -85,8 +87,8 @@ unpadded (SetPart offset size) = refl
 unpadded (SerialPart size) = refl
 unpadded (Refused n) = refl
 
-module _ {b : Board} {set serial : Spot} {image setup : List ℕ} {n : ℕ} {left bytes : List ℕ} {counted : ℕ} {shown : List ℕ} {spot : Spot}
-    (r : AnswersSetup b set serial image setup n left bytes counted shown spot) where
+module _ {b : Board} {lie : Spots} {image setup : List ℕ} {n : ℕ} {left bytes : List ℕ} {counted : ℕ} {shown : List ℕ} {spot : Spot}
+    (r : AnswersSetup b lie image setup n left bytes counted shown spot) where
   abbrev answer : Answer
   answer = event b image (setupEvent setup) .answer
 
@@ -100,34 +102,39 @@ module _ {b : Board} {set serial : Spot} {image setup : List ℕ} {n : ℕ} {lef
   -- never longer than asked
   pub replyLength : length (reply bytes counted shown) ≤ setupOf setup .wLength
   replyLength =
-      let slice = inBlock (b .set) (b .serial) (partOf answer .block) in
+      let slice = inBlock (b .set) (setFor b (deviceOf image .speed)) (b .serial) (partOf answer .block) in
       let most = eventWithin b image setup in
       rw (
         r .answers .hands,
         r .answers .counts,
         r .answers .shows,
         unpadded answer,
-        length-append (bytesOf answer) (bytesIn (b .set) (b .serial) (partOf answer)),
+        length-append (bytesOf answer) (bytesAt b (deviceOf image .speed) (partOf answer)),
         length-take (partOf answer .length) (drop (partOf answer .offset) slice),
       ) (omega arith)
 
-  -- so where the setup was answered 0, it can be cut into packets of the set's bMaxPacketSize0
-  pub replyCuts : n ≡ 0 → canCut (length (reply bytes counted shown)) (setupOf setup .wLength) (packetSize b) ≡ true
-  replyCuts z = sizeCuts b (doneAccepted b image (setupEvent setup) (sym (r .answers .number) ∙ z)) _ (setupOf setup .wLength) replyLength
+  -- so where the setup was answered 0, it can be cut into packets of the bMaxPacketSize0 of the set in use
+  pub replyCuts : n ≡ 0 → canCut (length (reply bytes counted shown)) (setupOf setup .wLength) (packetSize b image) ≡ true
+  replyCuts z = sizeCuts b (doneAccepted b image (setupEvent setup) (sym (r .answers .number) ∙ z)) (deviceOf image .speed) _ (setupOf setup .wLength) replyLength
+
+-- a setup that hk_two_event answered is one that hk_setup would answer so
+pub asSetup : {b : Board} {lie : Spots} {image setup : List ℕ} {n : ℕ} {left bytes : List ℕ} {counted : ℕ} {shown : List ℕ} {spot : Spot}
+    → AnswersImage b lie image (setupEvent setup) n left bytes counted shown spot → AnswersSetup b lie image setup n left bytes counted shown spot
+asSetup r = record { leaves = r .leaves; answers = r .answers }
 
 -- ---- the whole transfer: a setup that was answered 0, and the packets of what it handed back, wherever that lies, by any cutter that meets
 -- its statement: those below the count put together are the reply, each of them is given, and every later one is refused with 15
-pub transfer : {b : Board} {set serial : Spot} {image setup : List ℕ} {left bytes : List ℕ} {counted : ℕ} {shown : List ℕ} {spot : Spot}
-    → AnswersSetup b set serial image setup 0 left bytes counted shown spot
+pub transfer : {b : Board} {lie : Spots} {image setup : List ℕ} {left bytes : List ℕ} {counted : ℕ} {shown : List ℕ} {spot : Spot}
+    → AnswersSetup b lie image setup 0 left bytes counted shown spot
     → (at : Spot) (number : ℕ → ℕ) (packets : ℕ → List ℕ) (place : ℕ → Spot)
-    → ((k : ℕ) → CutsPacket (reply bytes counted shown) at (setupOf setup .wLength) (packetSize b) k (number k) (packets k) (place k))
-    → (let many = count (length (reply bytes counted shown)) (setupOf setup .wLength) (packetSize b) in
+    → ((k : ℕ) → CutsPacket (reply bytes counted shown) at (setupOf setup .wLength) (packetSize b image) k (number k) (packets k) (place k))
+    → (let many = count (length (reply bytes counted shown)) (setupOf setup .wLength) (packetSize b image) in
     (flatMap packets (upTo many) ≡ reply bytes counted shown) × ((k : ℕ) → k < many → number k ≡ 0) × ((k : ℕ) → many ≤ k → number k ≡ 15))
-transfer {b} {setup = setup} {bytes = bytes} {counted} {shown} r at number packets place cuts =
+transfer {b} {image = image} {setup = setup} {bytes = bytes} {counted} {shown} r at number packets place cuts =
     let can = replyCuts r refl in
     let out = reply bytes counted shown in
     let w = setupOf setup .wLength in (
-      together out at w (packetSize b) number packets place cuts can,
-      within out at w (packetSize b) number packets place cuts can,
-      beyond out at w (packetSize b) number packets place cuts can,
+      together out at w (packetSize b image) number packets place cuts can,
+      within out at w (packetSize b image) number packets place cuts can,
+      beyond out at w (packetSize b image) number packets place cuts can,
     )

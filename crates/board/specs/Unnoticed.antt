@@ -7,10 +7,10 @@ use mathlib.Core.Bool.{Bool, true, not}
 use lib.ListN.{length}
 use lib.Dec.{eqb}
 use Rattle.octets.proofs.Sentences.{both}
-use Rattle.sets.specs.Opening.{Board}
-use Rattle.sets.specs.View.{viewOf, accepted}
-use Rattle.octets.specs.Octets.{Bytes}
+use Rattle.sets.specs.Opening.{Board, BytesOf}
+use Rattle.sets.specs.View.{accepted}
 use Rattle.records.specs.Image.{deviceOf}
+use Rattle.records.specs.Current.{viewAt}
 use Rattle.order.specs.Run.{keep, answers, log}
 use Rattle.order.specs.Strike
 use Rattle.order.specs.Strike.{strike, left}
@@ -22,13 +22,13 @@ use Rattle.laws.specs.Parts.{Same, rest, owned, who}
 use Rattle.laws.proofs.Same.{self}
 use Rattle.laws.proofs.Locality.{idle}
 use Rattle.promises.specs.Rearranged.{valuesOf, answerOf}
-use Rattle.promises.specs.Order.{stepLocality, struckFor, Fair}
-use Rattle.board.specs.Exports.{Opens, Spot}
+use Rattle.promises.specs.Order.{stepLocalityAt, struckFor, Fair, Quiet}
+use Rattle.board.specs.Exports.{Opens, Spots}
 use Rattle.board.specs.Runs.{Call, eventOf, Given, Runs, ends, calls, givenAs, gives, leaves, met, ran, opening, openedReached}
 use Rattle.board.specs.Order.{told}
 use Rattle.board.specs.Places.{says, reads, keeps}
 
-module _ (b : Board) (set serial : Spot) (k : ℕ) where
+module _ (b : Board) (lie : Spots) (k : ℕ) where
   -- ---- what the statements say
   -- the call, arriving at this image, is struck out: in Configured, it concerns another interface than k
   abbrev pub struck : List ℕ → Call → Bool
@@ -36,18 +36,18 @@ module _ (b : Board) (set serial : Spot) (k : ℕ) where
 
   -- a premise on the run: no struck call arrives while there is something for it to settle
   abbrev pub FairRun : List ℕ → List Call → Type 0
-  FairRun = Strike.FairRun (leaves b set serial) struck (λ image c. Fair b (deviceOf image) (eventOf c))
+  FairRun = Strike.FairRun (leaves b lie) struck (λ image c. Fair b (deviceOf image) (eventOf c))
 
-  -- the page's: "no struck event arrived while suspended" (L12)
-  abbrev pub AwakeRun : List ℕ → List Call → Type 0
-  AwakeRun = Strike.FairRun (leaves b set serial) struck (λ image c. deviceOf image .suspended ≡ 0)
+  -- "no struck event arrived while suspended" (L12), and no struck setup while a test mode waits (L7)
+  abbrev pub QuietRun : List ℕ → List Call → Type 0
+  QuietRun = Strike.FairRun (leaves b lie) struck (λ image c. Quiet (deviceOf image) (eventOf c))
 
   -- the calls left
   abbrev pub kept : List ℕ → List Call → List Call
-  kept = strike (leaves b set serial) struck
+  kept = strike (leaves b lie) struck
 
   -- and each with what it was given in the whole run
-  abbrev pub keptOf : {image : List ℕ} {cs : List Call} {gs : List Given} {last : List ℕ} → Runs b set serial image cs gs last → List (Call × Given)
+  abbrev pub keptOf : {image : List ℕ} {cs : List Call} {gs : List Given} {last : List ℕ} → Runs b lie image cs gs last → List (Call × Given)
   keptOf ends = []
   keptOf (calls {image} {c} {g} m r) = keep (not (struck image c)) (c, g) (keptOf r)
 
@@ -56,40 +56,40 @@ module _ (b : Board) (set serial : Spot) (k : ℕ) where
   Alike image other = Same b k (deviceOf image) (deviceOf other) × (rest (deviceOf image) ≡ rest (deviceOf other))
 
   -- ---- runs as their functions
-  kept-left : {image : List ℕ} {cs : List Call} {gs : List Given} {last : List ℕ} (r : Runs b set serial image cs gs last)
-      → keptOf r ≡ left (gives b set serial) (leaves b set serial) struck image cs
+  kept-left : {image : List ℕ} {cs : List Call} {gs : List Given} {last : List ℕ} (r : Runs b lie image cs gs last)
+      → keptOf r ≡ left (gives b lie) (leaves b lie) struck image cs
   kept-left ends = refl
   kept-left (calls {image} {c} {cs = cs} m r) =
-      let (p, q) = met b set serial m in
+      let (p, q) = met b lie m in
       rw (p, kept-left r, q)
 
-  told-log : (image : List ℕ) (cs : List Call) → told cs (answers (gives b set serial) (leaves b set serial) image cs) ≡ log (gives b set serial) (leaves b set serial) image cs
+  told-log : (image : List ℕ) (cs : List Call) → told cs (answers (gives b lie) (leaves b lie) image cs) ≡ log (gives b lie) (leaves b lie) image cs
   told-log image [] = refl
-  told-log image (c ∷ cs) = ap (λ l. (c, gives b set serial image c) ∷ l) (told-log (leaves b set serial image c) cs)
+  told-log image (c ∷ cs) = ap (λ l. (c, gives b lie image c) ∷ l) (told-log (leaves b lie image c) cs)
 
   -- ---- from an image that fits
-  module _ (bytes : Bytes (b .set)) (ok : accepted b ≡ true) where
-    unwinding : Unwinding (gives b set serial) (leaves b set serial) (FitImage b) struck (λ image c. Fair b (deviceOf image) (eventOf c)) Alike
-    unwinding = unwinding-beside deviceOf eventOf (λ c a. givenAs b set serial c (valuesOf a)) (FitImage b)
-        (keeps b set serial bytes ok) (says b set serial bytes ok) (reads b set serial bytes ok) (unwinding-by (stepLocality b bytes ok) k) (λ image f. (f .sized, f .fit))
+  module _ (bytes : BytesOf b) (ok : accepted b ≡ true) where
+    unwinding : Unwinding (gives b lie) (leaves b lie) (FitImage b) struck (λ image c. Fair b (deviceOf image) (eventOf c)) Alike
+    unwinding = unwinding-beside deviceOf eventOf (λ c a. givenAs b lie c (a .0) (valuesOf (a .1))) (FitImage b)
+        (keeps b lie bytes ok) (says b lie bytes ok) (reads b lie bytes ok) (unwinding-by (stepLocalityAt b bytes ok) k) (λ image f. (f .sized, f .fit))
 
     pub unnoticedFit : {image : List ℕ} → FitImage b image → {cs : List Call} {gs others : List Given} {last other : List ℕ}
-        → (r : Runs b set serial image cs gs last) → FairRun image cs → Runs b set serial image (kept image cs) others other
+        → (r : Runs b lie image cs gs last) → FairRun image cs → Runs b lie image (kept image cs) others other
         → (keptOf r ≡ told (kept image cs) others) × Alike last other
     unnoticedFit {image} f {cs} one fair two =
-        let (same, end) = struck-unnoticed unwinding cs image image f f (self (viewOf b) k (deviceOf image), refl) fair in
-        let (p, q) = ran b set serial one in
-        let (s, t) = ran b set serial two in
+        let (same, end) = struck-unnoticed unwinding cs image image f f (self (viewAt b (deviceOf image)) k (deviceOf image), refl) fair in
+        let (p, q) = ran b lie one in
+        let (s, t) = ran b lie two in
         (kept-left one ∙ same ∙ sym (ap (told (kept image cs)) s ∙ told-log image (kept image cs)), rw (q, t) end)
 
-    -- nothing waits where a call concerns an interface
-    fairAwake : (image : List ℕ) → FitImage b image → (cs : List Call) → AwakeRun image cs → FairRun image cs
-    fairAwake = fair-run (leaves b set serial) struck (λ image c. deviceOf image .suspended ≡ 0) (λ image c. Fair b (deviceOf image) (eventOf c)) (FitImage b) (keeps b set serial bytes ok)
-        (λ image c f p z. idle b (deviceOf image) (eventOf c) (answerOf b (deviceOf image) (eventOf c)) (f .fit) z
+    -- where a call concerns an interface no address waits
+    fairQuiet : (image : List ℕ) → FitImage b image → (cs : List Call) → QuietRun image cs → FairRun image cs
+    fairQuiet = fair-run (leaves b lie) struck (λ image c. Quiet (deviceOf image) (eventOf c)) (λ image c. Fair b (deviceOf image) (eventOf c)) (FitImage b) (keeps b lie bytes ok)
+        (λ image c f p z. idle b (deviceOf image) (eventOf c) (answerOf b (deviceOf image) (eventOf c)) (f .fit) (z .0) (z .1)
         (both (owned b (deviceOf image) (eventOf c)) (not (eqb (who b (deviceOf image) (eventOf c)) k)) p .0))
 
   -- ---- from power-on: an opening that gave 0, of any 32 bytes
-  module _ (bytes : Bytes (b .set)) {start image : List ℕ} (long : length start ≡ 32) (o : Opens b start 0 image) where
+  module _ (bytes : BytesOf b) {start image : List ℕ} (long : length start ≡ 32) (o : Opens b start 0 image) where
     ok : accepted b ≡ true
     ok = opening long o .0 refl
 
@@ -97,12 +97,12 @@ module _ (b : Board) (set serial : Spot) (k : ℕ) where
     fit = reachedFits b bytes ok (openedReached long o)
 
     pub unnoticedFair : {cs : List Call} {gs others : List Given} {last other : List ℕ}
-        → (r : Runs b set serial image cs gs last) → FairRun image cs → Runs b set serial image (kept image cs) others other
+        → (r : Runs b lie image cs gs last) → FairRun image cs → Runs b lie image (kept image cs) others other
         → (keptOf r ≡ told (kept image cs) others) × Alike last other
     unnoticedFair = unnoticedFit bytes ok fit
 
-    -- with the page's premise
+    -- with these premises
     pub unnoticed : {cs : List Call} {gs others : List Given} {last other : List ℕ}
-        → (r : Runs b set serial image cs gs last) → AwakeRun image cs → Runs b set serial image (kept image cs) others other
+        → (r : Runs b lie image cs gs last) → QuietRun image cs → Runs b lie image (kept image cs) others other
         → (keptOf r ≡ told (kept image cs) others) × Alike last other
-    unnoticed {cs} r awake = unnoticedFair r (fairAwake bytes ok image fit cs awake)
+    unnoticed {cs} r quiet = unnoticedFair r (fairQuiet bytes ok image fit cs quiet)

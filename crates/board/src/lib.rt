@@ -7,11 +7,13 @@ ghost use Rattle.sets.specs.Opening.{lent};
 ghost use Rattle.sets.specs.View.{openingOf};
 ghost use Rattle.events.specs.Step.{event};
 ghost use Rattle.events.specs.declared.Event.the-variants.{StatusEnd, BusReset, Halt, PacketPassed, Power, Suspend, Resume, Wake};
-ghost use Rattle.board.specs.Exports.{Opens, Happens, AnswersSetup, CutsPacket, spotOf, numbered, AnswersRecordEvent};
+ghost use Rattle.steps.specs.Gathering.{Openable, viewIn, eventIn};
+ghost use Rattle.board.specs.Exports.{Opens, Happens, AnswersSetup, CutsPacket, spotOf, spots, numbered, AnswersRecordEvent};
 
 mod endpoint;
 mod makers;
 mod numbers;
+mod two;
 
 // Opens a set with its serial block: the image becomes the fresh record, whether they are accepted or not.
 #[no_mangle]
@@ -25,11 +27,19 @@ pub extern "C" fn hk_open(set: &[u8], serial: &[u8], image: &mut [u8]) -> u8
     steps::opening(set, serial)
 }
 
-// An event, on an image of any length. `number` is what opening gives: it is asked before this frame stands, to spare the stack.
-fn event(number: u8, set: &[u8], serial: &[u8], image: &mut [u8], what: Event) -> Answer
-    requires { ⌜ number ≡ openingOf (lent (now set) (now serial)) ⌝ }
-    ensures answer { λ r. ⌜ r ≡ event (lent (now (set .entry)) (now (serial .entry))) (now (image .entry)) what .answer ⌝ }
-    ensures image { λ _. ⌜ now (image .exit) ≡ event (lent (now (set .entry)) (now (serial .entry))) (now (image .entry)) what .image ⌝ }
+// An event, on an image of any length. `number` is what opening gives: it is asked before this frame stands, to spare the stack. `set` is the set in
+// use, one of two if `paired`.
+fn happen(
+    number: u8,
+    paired: bool,
+    set: &[u8],
+    serial: &[u8],
+    image: &mut [u8],
+    what: Event,
+) -> Answer
+    requires { ⌜ (number ≡ 0 → Openable (now set) (now serial)) ⌝ }
+    ensures answer { λ r. ⌜ r ≡ eventIn number (viewIn paired (now (set .entry)) (now (serial .entry))) (now (image .entry)) what .answer ⌝ }
+    ensures image { λ _. ⌜ now (image .exit) ≡ eventIn number (viewIn paired (now (set .entry)) (now (serial .entry))) (now (image .entry)) what .image ⌝ }
 {
     if image.len() != 32 {
         if number == 0 {
@@ -38,11 +48,20 @@ fn event(number: u8, set: &[u8], serial: &[u8], image: &mut [u8], what: Event) -
         return Answer::Refused(7);
     }
     let was = records::load(image);
-    let reaction = steps::react(number, set, serial, was, what);
+    let reaction = steps::react(number, paired, set, serial, was, what);
     let change = reaction.next;
     let next = records::changed(change, was);
     records::store(next, image);
     reaction.answer
+}
+
+// The same, of a board that lends one set.
+fn event(number: u8, set: &[u8], serial: &[u8], image: &mut [u8], what: Event) -> Answer
+    requires { ⌜ number ≡ openingOf (lent (now set) (now serial)) ⌝ }
+    ensures answer { λ r. ⌜ r ≡ event (lent (now (set .entry)) (now (serial .entry))) (now (image .entry)) what .answer ⌝ }
+    ensures image { λ _. ⌜ now (image .exit) ≡ event (lent (now (set .entry)) (now (serial .entry))) (now (image .entry)) what .image ⌝ }
+{
+    happen(number, false, set, serial, image, what)
 }
 
 // Answers a setup: its number; the bytes handed back and how many count; the part of the set or the serial block.
@@ -56,7 +75,7 @@ pub extern "C" fn hk_setup<'a>(
     count: &mut u8,
     part: &mut &'a [u8],
 ) -> u8
-    ensures { λ r. ⌜ AnswersSetup (lent (now (set .entry)) (now (serial .entry))) (spotOf ((set .entry) .ptr)) (spotOf ((serial .entry) .ptr)) (now (image .entry)) (now (setup .entry))
+    ensures { λ r. ⌜ AnswersSetup (lent (now (set .entry)) (now (serial .entry))) (spots (spotOf ((set .entry) .ptr)) (spotOf ((serial .entry) .ptr))) (now (image .entry)) (now (setup .entry))
         r (now (image .exit)) (now (bytes .exit)) (now (count .exit)) (now (now (part .exit))) (spotOf ((now (part .exit)) .ptr)) ⌝ }
 {
     let number = steps::opening(set, serial);
@@ -76,10 +95,19 @@ pub extern "C" fn hk_status_end(set: &[u8], serial: &[u8], image: &mut [u8]) -> 
 // The bus was reset: the fresh record, but the power source stays.
 #[no_mangle]
 pub extern "C" fn hk_bus_reset(set: &[u8], serial: &[u8], image: &mut [u8]) -> u8
-    ensures { λ r. ⌜ Happens (lent (now (set .entry)) (now (serial .entry))) (now (image .entry)) BusReset r (now (image .exit)) ⌝ }
+    ensures { λ r. ⌜ Happens (lent (now (set .entry)) (now (serial .entry))) (now (image .entry)) (BusReset 0) r (now (image .exit)) ⌝ }
 {
     let number = steps::opening(set, serial);
-    events::reply::number(event(number, set, serial, image, Event::BusReset))
+    events::reply::number(event(number, set, serial, image, Event::BusReset(0)))
+}
+
+// The bus was reset, to a speed: a board that lends one set has full speed alone.
+#[no_mangle]
+pub extern "C" fn hk_bus_reset_to(set: &[u8], serial: &[u8], image: &mut [u8], speed: u8) -> u8
+    ensures { λ r. ⌜ Happens (lent (now (set .entry)) (now (serial .entry))) (now (image .entry)) (BusReset speed) r (now (image .exit)) ⌝ }
+{
+    let number = steps::opening(set, serial);
+    events::reply::number(event(number, set, serial, image, Event::BusReset(speed)))
 }
 
 // The function halts an endpoint.
@@ -165,7 +193,7 @@ pub extern "C" fn hk_record_event<'a>(
     count: &mut u8,
     part: &mut &'a [u8],
 ) -> u8
-    ensures { λ r. ⌜ AnswersRecordEvent (lent (now (set .entry)) (now (serial .entry))) (spotOf ((set .entry) .ptr)) (spotOf ((serial .entry) .ptr)) (now (device .entry)) (numbered kind value (now (setup .entry)))
+    ensures { λ r. ⌜ AnswersRecordEvent (lent (now (set .entry)) (now (serial .entry))) (spots (spotOf ((set .entry) .ptr)) (spotOf ((serial .entry) .ptr))) (now (device .entry)) (numbered kind value (now (setup .entry)))
         r (now (device .exit)) (now (bytes .exit)) (now (count .exit)) (now (now (part .exit))) (spotOf ((now (part .exit)) .ptr)) ⌝ }
 {
     let number = steps::opening(set, serial);

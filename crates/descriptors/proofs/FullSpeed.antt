@@ -59,7 +59,7 @@ pub bulk-intervals : (interval : ℕ) → goodInterval fullSpeed 2 interval ≡ 
 bulk-intervals interval = refl
 
 -- ---- the types that bits name
-alike : Bool → Bool → Bool
+unfoldable pub alike : Bool → Bool → Bool
 alike a b = pick a b (not b)
 
 alike-is : (a b : Bool) → alike a b ≡ true → a ≡ b
@@ -77,7 +77,7 @@ module _ (word : ℕ) (ts : List ℕ) (small : word < 2 ^ 8) (each : every (λ k
       let m = ltb-true u 8 q in
       rw (ne-eqb t u (λ e. omega arith)) (no-member t l us r)
 
-  these : (t : ℕ) → named word t ≡ member t ts
+  pub these : (t : ℕ) → named word t ≡ member t ts
   these t = cases (ltb t 8)
       (λ p. alike-is (named word t) (member t ts) (below-at (λ t. alike (named word t) (member t ts)) 8 eight t (ltb-true t 8 p)))
       (λ p. let l = ltb-false t 8 p in bit-past 8 word t small l ∙ sym (no-member t l ts each))

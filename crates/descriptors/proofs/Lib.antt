@@ -9,3 +9,4 @@ pub mod Alternates
 pub mod Surveying
 pub mod CurrentEndpoints
 pub mod FullSpeed
+pub mod HighSpeed

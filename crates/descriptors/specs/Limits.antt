@@ -1,4 +1,4 @@
--- The row of limits that a speed sets. Document 01: "Base speed is full speed."
+-- The rows of limits that a speed sets. Document 01: "Base speed is full speed." Request L7: the rows of a pair's two sets.
 use Prim.Native.Nat.{ℕ, _+_, _*_, _^_}
 use mathlib.Core.Bool.{Bool, _&&_, _||_}
 use lib.Dec.{eqb, leb}
@@ -23,6 +23,39 @@ fullSpeed = record {
   bursts = 0;
   entries = 2 ^ 1 + 2 ^ 2 + 2 ^ 3;
   refused = 2 ^ 1 + 2 ^ 2 + 2 ^ 3 + 2 ^ 6 + 2 ^ 7;
+}
+
+-- ---- "The new board lends two sets, one for each speed"; "Sets gain type 6 .. and type 7" (L7)
+abbrev pub pairedEntries : ℕ
+pairedEntries = 2 ^ 1 + 2 ^ 2 + 2 ^ 3 + 2 ^ 6 + 2 ^ 7
+
+-- the full-speed set of a pair: full speed's row, but for the types of its entries
+abbrev pub pairedFull : Limits
+pairedFull = record {
+  control = fullSpeed .control;
+  bulk = fullSpeed .bulk;
+  interrupt = fullSpeed .interrupt;
+  polling = fullSpeed .polling;
+  isochronous = fullSpeed .isochronous;
+  period = fullSpeed .period;
+  bursts = fullSpeed .bursts;
+  entries = pairedEntries;
+  refused = fullSpeed .refused;
+}
+
+-- "At high speed bulk size is 512, interrupt and isochronous sizes go to 1,024 with bits 12–11 at most 2 and 15–13 zero,
+-- their bInterval is 1–16 and bMaxPacketSize0 is 64."
+abbrev pub highSpeed : Limits
+highSpeed = record {
+  control = range 64 64;
+  bulk = range 512 512;
+  interrupt = range 0 1024;
+  polling = range 1 16;
+  isochronous = range 0 1024;
+  period = range 1 16;
+  bursts = 2;
+  entries = pairedEntries;
+  refused = fullSpeed .refused;
 }
 
 abbrev pub within : Range → ℕ → Bool

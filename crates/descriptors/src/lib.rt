@@ -6,7 +6,7 @@ pub mod survey;
 
 ghost use mathlib.Core.Path.{_≡_};
 ghost use mathlib.Core.Bool.{true};
-ghost use Rattle.descriptors.specs.Limits.{fullSpeed};
+ghost use Rattle.descriptors.specs.Limits.{fullSpeed, pairedFull, highSpeed};
 ghost use Rattle.descriptors.specs.Walk.{before, standOf, stepsOn, stepOf};
 
 // A range of numbers, both ends in it.
@@ -48,6 +48,58 @@ pub fn full_speed() -> Limits
         period: Range { least: 1, most: 16 },
         bursts: 0,
         entries: 0x0E,
+        refused: 0xCE,
+    }
+}
+
+// The limits of the full-speed set of a pair.
+pub fn paired_full() -> Limits
+    ensures { λ r. ⌜ r ≡ pairedFull ⌝ }
+{
+    Limits {
+        control: Range { least: 8, most: 64 },
+        bulk: Range { least: 8, most: 64 },
+        interrupt: Range { least: 0, most: 64 },
+        polling: Range {
+            least: 1,
+            most: 255,
+        },
+        isochronous: Range {
+            least: 0,
+            most: 1023,
+        },
+        period: Range { least: 1, most: 16 },
+        bursts: 0,
+        entries: 0xCE,
+        refused: 0xCE,
+    }
+}
+
+// The limits of the high-speed set.
+pub fn high_speed() -> Limits
+    ensures { λ r. ⌜ r ≡ highSpeed ⌝ }
+{
+    Limits {
+        control: Range {
+            least: 64,
+            most: 64,
+        },
+        bulk: Range {
+            least: 512,
+            most: 512,
+        },
+        interrupt: Range {
+            least: 0,
+            most: 1024,
+        },
+        polling: Range { least: 1, most: 16 },
+        isochronous: Range {
+            least: 0,
+            most: 1024,
+        },
+        period: Range { least: 1, most: 16 },
+        bursts: 2,
+        entries: 0xCE,
         refused: 0xCE,
     }
 }

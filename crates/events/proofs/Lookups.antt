@@ -1,18 +1,20 @@
 -- What a lookup tells of the board. No axiom.
-use Prim.Native.Nat.{ℕ, zero, suc, _%_, _<_}
+use Prim.Native.Nat.{ℕ, zero, suc, _%_, _≤_, _<_}
 use native.Mathlib.Omega.{arith}
 use mathlib.Core.Path.{_≡_, refl}
 use mathlib.Core.Bool.{Bool, true, false, _&&_, not}
 use mathlib.Core.Option.{Option, some, none}
 use lib.Dec.{eqb, leb}
-use borrow.Author.Tests.{le-leb, ne-eqb}
+use borrow.Author.Tests.{le-leb, lt-leb, leb-true, ne-eqb}
 use Rattle.octets.specs.Sentences.{pick}
+use Rattle.octets.proofs.Sentences.{both}
 use Rattle.descriptors.specs.declared.Endpoint.{Endpoint}
 use Rattle.descriptors.specs.declared.lookup.EndpointFound.the-variants.{At, Nothing}
 use Rattle.descriptors.specs.Lookup.{found}
 use Rattle.sets.specs.View.{View}
 use Rattle.records.specs.declared.Device.{Device}
-use Rattle.records.specs.Device.{inDefault, inAddress, settled}
+use Rattle.records.specs.Device.{inDefault, inAddress, testWaits, settled}
+use Rattle.records.specs.Fits.{goodWaiting}
 use Rattle.requests.specs.declared.Setup.{Setup}
 use Rattle.events.specs.declared.facts.Facts.{Facts}
 use Rattle.events.specs.Requests.{digit}
@@ -37,6 +39,12 @@ pub state-of : (w : ℕ) → digit (leb 1 w) ≡ pick (eqb w 0) inDefault inAddr
 state-of zero = refl
 state-of (suc w) = rw (le-leb 1 (suc w) (omega arith), ne-eqb (suc w) 0 (λ p. omega (arith, p)))
 
+-- what waits in a record that fits, from 128 on, is a test mode
+pub test-small : (d : Device) → goodWaiting d ≡ true → (d .waiting ≡ 255 → ⊥) → 128 ≤ d .waiting → d .waiting ≤ 133
+test-small d g n l =
+    let p = rw (ne-eqb (d .waiting) 255 n, lt-leb (d .waiting) 127 (omega arith)) at g in
+    leb-true (d .waiting) 133 (both (leb 129 (d .waiting)) (leb (d .waiting) 133) (both (testWaits d) (eqb (d .speed) 1) p .0) .1)
+
 -- ---- a number that is small is its own remainder
 pub small-mod : {n : ℕ} → n < 16 → n % 16 ≡ n
 small-mod p = omega (arith, p)
@@ -44,6 +52,7 @@ small-mod p = omega (arith, p)
 -- ---- facts do not tell of what waits, nor of sleep
 pub settles : {v : View} {d : Device} {s : Setup} {f : Facts} → Tells v d s f → Tells v (settled d) s f
 settles t = record {
+  paired = t .paired;
   configured = t .configured;
   waking = t .waking;
   surveyed = t .surveyed;

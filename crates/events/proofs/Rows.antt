@@ -11,13 +11,10 @@ use Rattle.octets.specs.Sentences.{pick, _⇒_, every}
 use Rattle.octets.proofs.Sentences.{both, conjunct, if-then, every-member, first-some}
 use Rattle.requests.specs.declared.Setup.{Setup}
 use Rattle.requests.specs.declared.Row.{Row}
+use Rattle.events.specs.Facts.{takesByte}
 use Rattle.requests.specs.Table.{table, rowOf, inState, largestIndex, fieldsFit, refusalAt, refusal}
 
--- SET_ADDRESS and SET_CONFIGURATION
-abbrev takesByte : ℕ → Bool
-takesByte code = eqb code 5 || eqb code 9
-
--- their rows ask for a wValue of one byte
+-- the rows of SET_ADDRESS and SET_CONFIGURATION ask for a wValue of one byte
 bytes : every (λ r. takesByte (r .code) ⇒ leb (r .value) 255) table ≡ true
 unfolding every
 bytes = refl

@@ -23,23 +23,23 @@ bytesOf (SetPart offset size) = []
 bytesOf (SerialPart size) = []
 bytesOf (Refused n) = []
 
--- the slice that a part lies in
+-- the slice that a part lies in: the first set lent (the one set, or the full-speed one), the set in use (L7), the serial block
 pub data Block : Type 0 where
-  ofSet ofSerial : Block
+  ofFirst ofSet ofSerial : Block
 
 pub record Part : Type 0 where
   pub block : Block
   pub offset : ℕ
   pub length : ℕ
 
--- "or a descriptor part"; "an empty part": the set's first 0 bytes
+-- "or a descriptor part", of the set in use; "an empty part": the first set's first 0 bytes
 abbrev pub partOf : Answer → Part
-partOf Done = record { block = ofSet; offset = 0; length = 0 }
-partOf (OneByte a) = record { block = ofSet; offset = 0; length = 0 }
-partOf (TwoBytes a b) = record { block = ofSet; offset = 0; length = 0 }
+partOf Done = record { block = ofFirst; offset = 0; length = 0 }
+partOf (OneByte a) = record { block = ofFirst; offset = 0; length = 0 }
+partOf (TwoBytes a b) = record { block = ofFirst; offset = 0; length = 0 }
 partOf (SetPart offset size) = record { block = ofSet; offset = offset; length = size }
 partOf (SerialPart size) = record { block = ofSerial; offset = 0; length = size }
-partOf (Refused n) = record { block = ofSet; offset = 0; length = 0 }
+partOf (Refused n) = record { block = ofFirst; offset = 0; length = 0 }
 
 -- ---- outcomes
 abbrev pub gives : Answer → Device → Outcome

@@ -35,7 +35,7 @@ abbrev pub subjectOf : Event → Subject
 subjectOf (Request s) = aSetup s
 subjectOf Malformed = theDevice
 subjectOf StatusEnd = theDevice
-subjectOf BusReset = theDevice
+subjectOf (BusReset speed) = theDevice
 subjectOf (Halt a) = anEndpoint a
 subjectOf (PacketPassed a) = anEndpoint a
 subjectOf (Power source) = theDevice

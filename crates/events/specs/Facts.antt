@@ -1,7 +1,9 @@
 -- Working definitions for the contracts of the requests' functions; no promise cites them.
 use Prim.Native.Nat.{ℕ, _<_}
 use mathlib.Core.Path.{_≡_}
-use mathlib.Core.Bool.{Bool, true, false}
+use mathlib.Core.Bool.{Bool, true, false, _&&_, _||_}
+use lib.Dec.{eqb}
+use Rattle.octets.specs.Sentences.{pick}
 use Rattle.descriptors.specs.Configuration.{hasInterface, hasSetting}
 use Rattle.descriptors.specs.declared.survey.Asked.{Asked}
 use Rattle.descriptors.specs.Survey.{Surveys}
@@ -16,7 +18,7 @@ use Rattle.events.specs.declared.facts.Facts.{Facts}
 use Rattle.events.specs.declared.reaction.Reaction.{Reaction}
 use Rattle.events.specs.declared.Outcome.{Outcome}
 use Rattle.events.specs.Answer.{gives}
-use Rattle.events.specs.Requests.{byRecipient, digit, deviceFeature, interfaceFeature, endpointFeature, clearHalt, setHalt, locate}
+use Rattle.events.specs.Requests.{byRecipient, digit, deviceFeature, namesTestMode, setTestMode, interfaceFeature, endpointFeature, clearHalt, setHalt, locate}
 
 -- ---- a reaction to an event at a record
 abbrev pub outcomeOf : Reaction → Device → Outcome
@@ -27,9 +29,19 @@ abbrev pub withHalt : Bool → Device → ℕ → Device
 withHalt true = setHalt
 withHalt false = clearHalt
 
--- a feature of the recipient, set or cleared
+-- a feature of the recipient, set or cleared; only set is the test mode
+abbrev pub featureOfDevice : Bool → View → Device → Setup → Outcome
+featureOfDevice on v d s = pick (on && namesTestMode (v .paired) s) (setTestMode d s) (deviceFeature (digit on) v d s)
+
 abbrev pub feature : Bool → View → Device → Setup → Outcome
-feature on v d s = byRecipient s (deviceFeature (digit on) v d s) (interfaceFeature v d s) (endpointFeature (withHalt on) v d s)
+feature on v d s = byRecipient s (featureOfDevice on v d s) (interfaceFeature v d s) (endpointFeature (withHalt on) v d s)
+
+-- ---- past the table: SET_ADDRESS and SET_CONFIGURATION have a wValue of one byte
+abbrev pub takesByte : ℕ → Bool
+takesByte code = eqb code 5 || eqb code 9
+
+abbrev pub OneByte : Setup → Type 0
+OneByte s = takesByte (s .bRequest) ≡ true → s .wValue < 256
 
 -- ---- what is asked of a board
 -- an event's question, put as a setup: that of a function event names its endpoint, that of other events nothing
@@ -40,7 +52,7 @@ abbrev pub questionOf : Event → Setup
 questionOf (Request s) = s
 questionOf Malformed = naming 0
 questionOf StatusEnd = naming 0
-questionOf BusReset = naming 0
+questionOf (BusReset speed) = naming 0
 questionOf (Halt a) = naming a
 questionOf (PacketPassed a) = naming a
 questionOf (Power source) = naming 0
@@ -54,6 +66,7 @@ askedBy s = record { address = s .wIndex; interface = s .wIndex; alternate = s .
 
 -- facts are true of a view, at a record, for a question; two are told only to the request that asks
 pub record Tells (v : View) (d : Device) (s : Setup) (f : Facts) : Type 0 where
+  pub paired : f .paired ≡ v .paired
   pub configured : f .configured ≡ hasValue (record { 0 = d .configuration }) (v .configurations)
   pub waking : f .waking ≡ wakes v
   pub surveyed : Surveys (selected v d) (d .alternates) (askedBy s) (f .survey)

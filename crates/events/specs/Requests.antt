@@ -13,7 +13,7 @@ use Rattle.descriptors.specs.Configuration.{Configuration, hasInterface, hasSet
 use Rattle.sets.specs.declared.Entry.{Entry}
 use Rattle.sets.specs.View.{View, entryByIndex, hasValue, wakes}
 use Rattle.records.specs.declared.Device.{Device}
-use Rattle.records.specs.Device.{inAddress, inConfigured, withWaiting, withWakeup, withConfiguration, withEndpoints}
+use Rattle.records.specs.Device.{inAddress, inConfigured, atHighSpeed, testWaiting, withWaiting, withWakeup, withConfiguration, withEndpoints}
 use Rattle.records.specs.Current.{selected, endpointAt}
 use Rattle.requests.specs.declared.Setup.{Setup}
 use Rattle.requests.specs.Setup.{recipient}
@@ -83,8 +83,23 @@ setHalt d k = withEndpoints (d .alternates) (setBit (d .halts) k) (d .toggles) d
 unfoldable pub clearFeature : View → Device → Setup → Outcome
 clearFeature v d s = byRecipient s (deviceFeature 0 v d s) (interfaceFeature v d s) (endpointFeature clearHalt v d s)
 
+-- SET_FEATURE(TEST_MODE), "On two-set boards" (L7): the feature selector is the whole wValue, the test selector wIndex's high byte
+abbrev pub namesTestMode : Bool → Setup → Bool
+namesTestMode paired s = paired && eqb (s .wValue) 2
+
+abbrev pub testSelector : Setup → ℕ
+testSelector s = s .wIndex / 256
+
+-- "a selector of 1–5"; "an invalid selector, or a test mode at full speed outside Default, gets 14"; "It waits for the status end"
+abbrev pub setTestMode : Device → Setup → Outcome
+setTestMode d s =
+    pick (eqb (d .speed) atHighSpeed && leb 1 (testSelector s) && leb (testSelector s) 5) (done (withWaiting (testWaiting (testSelector s)) d)) (refused 14 d)
+
+abbrev pub setDeviceFeature : View → Device → Setup → Outcome
+setDeviceFeature v d s = pick (namesTestMode (v .paired) s) (setTestMode d s) (deviceFeature 1 v d s)
+
 unfoldable pub setFeature : View → Device → Setup → Outcome
-setFeature v d s = byRecipient s (deviceFeature 1 v d s) (interfaceFeature v d s) (endpointFeature setHalt v d s)
+setFeature v d s = byRecipient s (setDeviceFeature v d s) (interfaceFeature v d s) (endpointFeature setHalt v d s)
 
 -- ---- SET_ADDRESS: "the address waits"
 unfoldable pub setAddress : View → Device → Setup → Outcome
@@ -109,13 +124,18 @@ locateString v index language =
     pick (leb 1 index && eqb index (v .serialIndex)) (pick (member language (v .languages)) (Serial (v .serialLength)) Nowhere)
     (bodyAt (first (isEntry 3 index language) (v .entries)))
 
+-- the types of which an entry is asked for by its index, in language 0: the device, and in the sets of a pair alone the device_qualifier (6) and
+-- the other_speed_configuration (7) (L7)
+abbrev pub byIndex : ℕ → Bool
+byIndex kind = eqb kind 1 || eqb kind 6 || eqb kind 7
+
 -- where the descriptor lies that a setup asks for, whatever the record. "Device index must be 0 (13)": the one device entry has index 0;
 -- a configuration goes by its index; any other type is nowhere
 unfoldable pub locate : View → Setup → Located
 locate v s =
     pick (eqb (s .wValue / 256) 3) (locateString v (s .wValue % 256) (languageFor v (s .wValue % 256) (s .wIndex)))
     (pick (eqb (s .wValue / 256) 2) (bodyAt (entryByIndex (record { 0 = s .wValue % 256 }) (v .entries)))
-    (pick (eqb (s .wValue / 256) 1) (bodyAt (first (isEntry 1 (s .wValue % 256) 0) (v .entries)))
+    (pick (byIndex (s .wValue / 256)) (bodyAt (first (isEntry (s .wValue / 256) (s .wValue % 256) 0) (v .entries)))
     Nowhere))
 
 -- "never more than wLength bytes, from the start of the body"; what is nowhere gives 13

@@ -1,7 +1,7 @@
 -- The step: from a board, a record and an event to the answer and the next record.
-use Prim.Native.Nat.{ℕ}
+use Prim.Native.Nat.{ℕ, _%_}
 use mathlib.Core.List.{List}
-use mathlib.Core.Bool.{_&&_, not}
+use mathlib.Core.Bool.{Bool, _&&_, _||_, not}
 use mathlib.Core.Option.{Option, some, none}
 use lib.ListN.{length}
 use lib.Dec.{eqb, leb}
@@ -11,7 +11,7 @@ use Rattle.descriptors.specs.declared.Endpoint.{Endpoint}
 use Rattle.sets.specs.Opening.{Board}
 use Rattle.sets.specs.View.{View, openingOf, accepted}
 use Rattle.records.specs.declared.Device.{Device}
-use Rattle.records.specs.Device.{inDefault, inAddress, nothing, fresh, afterReset, awake, settled, withPower, withSuspended, withAddress, withEndpoints}
+use Rattle.records.specs.Device.{inDefault, inAddress, nothing, atFullSpeed, atHighSpeed, fresh, afterReset, testWaiting, inTestMode, enterTestMode, awake, settled, withPower, withSuspended, withAddress, withEndpoints}
 use Rattle.records.specs.Image.{deviceOf, imageOf}
 use Rattle.descriptors.specs.Configuration.{canHalt, bitOf}
 use Rattle.records.specs.Current.{viewAt, endpointAt}
@@ -25,7 +25,7 @@ use Rattle.events.specs.declared.Event.{Event}
 use Rattle.events.specs.declared.Event.the-variants.{Request, Malformed, StatusEnd, BusReset, Halt, PacketPassed, Power, Suspend, Resume, Wake}
 use Rattle.events.specs.declared.Outcome.{Outcome}
 use Rattle.events.specs.Answer.{done, refused}
-use Rattle.events.specs.Requests.{getStatus, clearFeature, setFeature, setHalt, setAddress, getDescriptor, getConfiguration, setConfiguration, getInterface, setInterface}
+use Rattle.events.specs.Requests.{getStatus, clearFeature, namesTestMode, setFeature, setHalt, setAddress, getDescriptor, getConfiguration, setConfiguration, getInterface, setInterface}
 
 -- ---- a setup: the request by its code (the table has no other)
 unfoldable pub request : View → Device → Setup → Outcome
@@ -44,15 +44,43 @@ request v d s =
 abbrev pub unlessRefused : ℕ → View → Device → Setup → Outcome
 unlessRefused n v d s = pick (eqb n 0) (request v d s) (refused n d)
 
--- "Past 7 to 9, a setup first drops any waiting address."; "any setup past 7 to 9" clears byte 6 (L12)
-unfoldable pub answerSetup : View → Device → Setup → Outcome
-answerSetup v d s = unlessRefused (refusal (d .state) s) v (settled d) s
+-- how SET_FEATURE(TEST_MODE) passes the table, here alone: it "needs wIndex's low byte 0 (else 12)", "and at high speed passes the state check in
+-- all three states" (L7), as its row does in Address
+abbrev pub asksTestMode : Bool → Setup → Bool
+asksTestMode paired s = namesTestMode paired s && eqb (s .bmRequestType) 0x00 && eqb (s .bRequest) 0x03
 
--- ---- status end: "applies it and byte 2 is 255 again. Zero leads to Default, others to Address"; "nothing waiting changes nothing"
+abbrev pub stateFor : Bool → Device → Setup → ℕ
+stateFor paired d s = pick (asksTestMode paired s && eqb (d .speed) atHighSpeed) inAddress (d .state)
+
+abbrev pub withIndex : ℕ → Setup → Setup
+withIndex index s = record { bmRequestType = s .bmRequestType; bRequest = s .bRequest; wValue = s .wValue; wIndex = index; wLength = s .wLength }
+
+abbrev pub setupFor : Bool → Setup → Setup
+setupFor paired s = withIndex (pick (asksTestMode paired s) (s .wIndex % 256) (s .wIndex)) s
+
+abbrev pub refusalFor : Bool → Device → Setup → ℕ
+refusalFor paired d s = refusal (stateFor paired d s) (setupFor paired s)
+
+-- "Past 7 to 9, a setup first drops any waiting address."; "any setup past 7 to 9" clears byte 6 (L12); "17 any 8-byte setup once test mode is
+-- entered, after 9" (L7)
+unfoldable pub answerSetup : View → Device → Setup → Outcome
+answerSetup v d s = pick (inTestMode d) (refused 17 (settled d)) (unlessRefused (refusalFor (v .paired) d s) v (settled d) s)
+
+-- ---- status end: "applies it and byte 2 is 255 again. Zero leads to Default, others to Address"; "nothing waiting changes nothing"; a test mode
+-- is entered (L7)
 unfoldable pub statusEnd : Device → Outcome
 statusEnd d =
     pick (eqb (d .waiting) nothing) (done d)
-    (done (withAddress (pick (eqb (d .waiting) 0) inDefault inAddress) (d .waiting) d))
+    (pick (leb (testWaiting 0) (d .waiting)) (done (enterTestMode d))
+    (done (withAddress (pick (eqb (d .waiting) 0) inDefault inAddress) (d .waiting) d)))
+
+-- ---- bus reset: "a reset to a speed above 1, or to 1 with one set lent, gets 16"; once test mode is entered "a valid bus reset then gives 0 and
+-- changes nothing" (L7)
+abbrev pub goodReset : Bool → ℕ → Bool
+goodReset paired speed = eqb speed atFullSpeed || (paired && eqb speed atHighSpeed)
+
+abbrev pub busReset : View → Device → ℕ → Outcome
+busReset v d speed = pick (goodReset (v .paired) speed) (done (pick (inTestMode d) d (afterReset speed d))) (refused 16 d)
 
 -- ---- "Two function events name an endpoint address"
 -- "halt (bulk or interrupt in a current setting)"
@@ -86,7 +114,7 @@ abbrev pub respond : View → Device → Event → Outcome
 respond v d (Request s) = answerSetup v d s
 respond v d Malformed = refused 9 d
 respond v d StatusEnd = statusEnd d
-respond v d BusReset = done (afterReset d)
+respond v d (BusReset speed) = busReset v d speed
 respond v d (Halt a) = halt v d a
 respond v d (PacketPassed a) = packetPassed v d a
 respond v d (Power source) = power d source

@@ -8,9 +8,10 @@ pub enum Located {
     Nowhere,
 }
 
-// configured: the set has a configuration with the record's value; waking: some configuration supports remote wakeup; survey: what the selected configuration has; interface: it has the interface that is asked for;
+// paired: two sets are lent; configured: the set has a configuration with the record's value; waking: some configuration supports remote wakeup; survey: what the selected configuration has; interface: it has the interface that is asked for;
 // configuration: the set has the value that SET_CONFIGURATION asks for; located: what GET_DESCRIPTOR asks for.
 pub struct Facts {
+    pub paired: bool,
     pub configured: bool,
     pub waking: bool,
     pub interface: bool,

@@ -16,7 +16,7 @@ pub enum Event {
     Request(Setup),
     Malformed,
     StatusEnd,
-    BusReset,
+    BusReset(u8),
     Halt(u8),
     PacketPassed(u8),
     Power(u8),

@@ -57,19 +57,19 @@ pub fn bytes_of(answer: Answer) -> Handed
     }
 }
 
-// The part of the set or of the serial block, and no copy; for an answer without one, the set's first 0 bytes.
-pub fn part<'a>(set: &'a [u8], serial: &'a [u8], answer: Answer) -> &'a [u8]
-    requires { ⌜ Inside (now set) (now serial) (partOf answer) ⌝ }
-    ensures bytes { λ r. ⌜ now r ≡ bytesIn (now (set .entry)) (now (serial .entry)) (partOf answer) ⌝ }
-    ensures block { λ r. ⌜ r .ptr .0 ≡ inBlock ((set .entry) .ptr .0) ((serial .entry) .ptr .0) (partOf answer .block) ⌝ }
-    ensures offset { λ r. ⌜ r .ptr .1 ≡ inBlock ((set .entry) .ptr .1) ((serial .entry) .ptr .1) (partOf answer .block) + partOf answer .offset ⌝ }
+// The part of the set in use or of the serial block, and no copy; for an answer without one, the first set's first 0 bytes.
+pub fn part<'a>(first: &'a [u8], used: &'a [u8], serial: &'a [u8], answer: Answer) -> &'a [u8]
+    requires { ⌜ Inside (now first) (now used) (now serial) (partOf answer) ⌝ }
+    ensures bytes { λ r. ⌜ now r ≡ bytesIn (now (first .entry)) (now (used .entry)) (now (serial .entry)) (partOf answer) ⌝ }
+    ensures block { λ r. ⌜ r .ptr .0 ≡ inBlock ((first .entry) .ptr .0) ((used .entry) .ptr .0) ((serial .entry) .ptr .0) (partOf answer .block) ⌝ }
+    ensures offset { λ r. ⌜ r .ptr .1 ≡ inBlock ((first .entry) .ptr .1) ((used .entry) .ptr .1) ((serial .entry) .ptr .1) (partOf answer .block) + partOf answer .offset ⌝ }
 {
     match answer {
-        Answer::SetPart { offset, length } => &set[offset..offset + length],
+        Answer::SetPart { offset, length } => &used[offset..offset + length],
         Answer::SerialPart { length } => &serial[0..length],
-        Answer::Done => &set[0..0],
-        Answer::OneByte(_) => &set[0..0],
-        Answer::TwoBytes(_, _) => &set[0..0],
-        Answer::Refused(_) => &set[0..0],
+        Answer::Done => &first[0..0],
+        Answer::OneByte(_) => &first[0..0],
+        Answer::TwoBytes(_, _) => &first[0..0],
+        Answer::Refused(_) => &first[0..0],
     }
 }

@@ -13,18 +13,19 @@ use requests::Setup;
 ghost use mathlib.Core.Path.{_≡_};
 ghost use Prim.Native.Nat.{_<_};
 ghost use Rattle.sets.specs.View.{View};
-ghost use Rattle.records.specs.Device.{afterReset, withSuspended};
-ghost use Rattle.requests.specs.Table.{refusal};
+ghost use mathlib.Core.Bool.{true};
+ghost use Rattle.records.specs.Device.{withSuspended};
+ghost use Rattle.records.specs.Fits.{goodWaiting};
 ghost use Rattle.events.specs.Answer.{done};
-ghost use Rattle.events.specs.Step.{request, answerSetup, statusEnd, power, wake, respond};
+ghost use Rattle.events.specs.Step.{request, asksTestMode, stateFor, setupFor, answerSetup, statusEnd, busReset, power, wake, respond};
 ghost use Rattle.events.specs.Requests.{digit};
-ghost use Rattle.events.specs.Facts.{questionOf, Tells, outcomeOf};
+ghost use Rattle.events.specs.Facts.{questionOf, Tells, outcomeOf, OneByte};
 
 // The request by its code, past the table's refusals.
 fn request(facts: Facts, device: Device, setup: Setup) -> Reaction
     requires { ⌜ device .wakeup < 2 ⌝ }
     requires { ⌜ device .power < 2 ⌝ }
-    requires { ⌜ refusal (device .state) setup ≡ 0 ⌝ }
+    requires { ⌜ OneByte setup ⌝ }
     ensures { λ r. ⌜ ((v : View) → Tells v device setup facts → outcomeOf r device ≡ request v device setup) ⌝ }
 {
     let code = setup.bRequest;
@@ -41,24 +42,57 @@ fn request(facts: Facts, device: Device, setup: Setup) -> Reaction
     }
 }
 
-// A setup: what waits is dropped, and the device is awake; then the table's refusal, or the request.
+// A setup asks for the test mode: SET_FEATURE, to the device, on a board that lends two sets.
+fn asks_test_mode(paired: bool, setup: Setup) -> bool
+    ensures { λ r. ⌜ r ≡ asksTestMode paired setup ⌝ }
+{
+    (paired & (setup.wValue == 2)) & (setup.bmRequestType == 0) & (setup.bRequest == 3)
+}
+
+// The state and the setup that the table judges: at high speed the test mode passes in every state, and its selector is wIndex's high byte.
+fn state_for(paired: bool, device: Device, setup: Setup) -> u8
+    ensures { λ r. ⌜ r ≡ stateFor paired device setup ⌝ }
+{
+    if asks_test_mode(paired, setup) & (device.speed == 1) {
+        return 1;
+    }
+    device.state
+}
+
+fn setup_for(paired: bool, setup: Setup) -> Setup
+    ensures { λ r. ⌜ r ≡ setupFor paired setup ⌝ }
+{
+    let mut tabled = setup;
+    if asks_test_mode(paired, setup) {
+        tabled.wIndex = setup.wIndex % 256;
+        return tabled;
+    }
+    tabled
+}
+
+// A setup: what waits is dropped, and the device is awake; then the refusal of an entered test mode, the table's refusal, or the request.
 fn answer_setup(facts: Facts, device: Device, setup: Setup) -> Reaction
     requires { ⌜ device .wakeup < 2 ⌝ }
     requires { ⌜ device .power < 2 ⌝ }
     ensures { λ r. ⌜ ((v : View) → Tells v device setup facts → outcomeOf r device ≡ answerSetup v device setup) ⌝ }
 {
-    let number = requests::refusal(device.state, setup);
     let mut settled = device;
     settled.waiting = 255;
     settled.suspended = 0;
+    if 2 <= device.speed {
+        return refused(17, settled);
+    }
+    let paired = facts.paired;
+    let number = requests::refusal(state_for(paired, device, setup), setup_for(paired, setup));
     if number == 0 {
         return request(facts, settled, setup);
     }
     refused(number, settled)
 }
 
-// The status stage of a request has ended: a waiting address is taken.
+// The status stage of a request has ended: a waiting address is taken, a waiting test mode is entered.
 fn status_end(device: Device) -> Reaction
+    requires { ⌜ goodWaiting device ≡ true ⌝ }
     ensures { λ r. ⌜ outcomeOf r device ≡ statusEnd device ⌝ }
 {
     let waiting = device.waiting;
@@ -66,29 +100,39 @@ fn status_end(device: Device) -> Reaction
     if waiting == 255 {
         return done(next);
     }
+    next.waiting = 255;
+    if 128 <= waiting {
+        next.speed = 1 + 16 * (waiting - 128);
+        return done(next);
+    }
     next.state = (1 <= waiting) as u8;
     next.address = waiting;
-    next.waiting = 255;
     done(next)
 }
 
-// The bus was reset: the power source stays.
-fn bus_reset(device: Device) -> Reaction
-    ensures { λ r. ⌜ outcomeOf r device ≡ done (afterReset device) ⌝ }
+// The bus was reset, to a speed that the board has: the power source stays. An entered test mode stays as it is.
+fn bus_reset(paired: bool, speed: u8, device: Device) -> Reaction
+    ensures { λ r. ⌜ ((v : View) → paired ≡ v .paired → outcomeOf r device ≡ busReset v device speed) ⌝ }
 {
-    done(Change {
-        state: 0,
-        address: 0,
-        waiting: 255,
-        configuration: 0,
-        wakeup: 0,
-        power: device.power,
-        suspended: 0,
-        speed: 0,
-        settings: Settings::Cleared,
-        halts: 0,
-        toggles: 0,
-    })
+    if (speed == 0) | (paired & (speed == 1)) {
+        if 2 <= device.speed {
+            return done(records::kept(device));
+        }
+        return done(Change {
+            state: 0,
+            address: 0,
+            waiting: 255,
+            configuration: 0,
+            wakeup: 0,
+            power: device.power,
+            suspended: 0,
+            speed,
+            settings: Settings::Cleared,
+            halts: 0,
+            toggles: 0,
+        });
+    }
+    refused(16, device)
 }
 
 // The power source has changed, or was found.
@@ -126,6 +170,7 @@ fn wake(device: Device) -> Reaction
 pub fn respond(facts: Facts, device: Device, event: Event) -> Reaction
     requires { ⌜ device .wakeup < 2 ⌝ }
     requires { ⌜ device .power < 2 ⌝ }
+    requires { ⌜ goodWaiting device ≡ true ⌝ }
     ensures { λ r. ⌜ ((v : View) → Tells v device (questionOf event) facts → outcomeOf r device ≡ respond v device event) ⌝ }
 {
     let survey = facts.survey;
@@ -134,7 +179,7 @@ pub fn respond(facts: Facts, device: Device, event: Event) -> Reaction
         Event::Request(setup) => answer_setup(facts, device, setup),
         Event::Malformed => refused(9, device),
         Event::StatusEnd => status_end(device),
-        Event::BusReset => bus_reset(device),
+        Event::BusReset(speed) => bus_reset(facts.paired, speed, device),
         Event::Halt(_) => endpoint::halt(endpoint, device),
         Event::PacketPassed(_) => endpoint::packet_passed(endpoint, device),
         Event::Power(source) => power(source, device),

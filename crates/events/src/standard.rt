@@ -18,7 +18,7 @@ ghost use Prim.Native.Nat.{_<_, min};
 ghost use Rattle.sets.specs.View.{View, hasValue, wakes};
 ghost use Rattle.records.specs.Device.{withConfiguration};
 ghost use Rattle.records.specs.Change.{changed};
-ghost use Rattle.events.specs.Requests.{digit, getStatus, deviceFeature, endpointFeature, clearFeature, setFeature, setAddress, locate, getDescriptor, getConfiguration, setConfiguration, getInterface, setInterface};
+ghost use Rattle.events.specs.Requests.{digit, getStatus, deviceFeature, setTestMode, endpointFeature, clearFeature, setFeature, setAddress, locate, getDescriptor, getConfiguration, setConfiguration, getInterface, setInterface};
 ghost use Rattle.events.specs.Facts.{Tells, withHalt, feature, outcomeOf};
 
 // GET_STATUS: of the device its power source and wakeup, of an interface 0, of an endpoint its halt.
@@ -66,6 +66,19 @@ fn device_feature(on: bool, facts: Facts, device: Device, setup: Setup) -> React
     refused(14, device)
 }
 
+// The test mode that wIndex's high byte selects: it waits for the status end, at high speed alone.
+fn set_test_mode(device: Device, setup: Setup) -> Reaction
+    ensures { λ r. ⌜ outcomeOf r device ≡ setTestMode device setup ⌝ }
+{
+    let selector = setup.wIndex / 256;
+    if (device.speed == 1) & (1 <= selector) & (selector <= 5) {
+        let mut next = records::kept(device);
+        next.waiting = 128 + selector as u8;
+        return done(next);
+    }
+    refused(14, device)
+}
+
 // An endpoint's feature: its halt.
 fn endpoint_feature(on: bool, facts: Facts, device: Device, setup: Setup) -> Reaction
     ensures { λ r. ⌜ ((v : View) → Tells v device setup facts → outcomeOf r device ≡ endpointFeature (withHalt on) v device setup) ⌝ }
@@ -92,6 +105,9 @@ fn feature(on: bool, facts: Facts, device: Device, setup: Setup) -> Reaction
 {
     let recipient = setup.bmRequestType % 32;
     if recipient == 0 {
+        if on & (facts.paired & (setup.wValue == 2)) {
+            return set_test_mode(device, setup);
+        }
         return device_feature(on, facts, device, setup);
     }
     if recipient == 1 {

@@ -1,32 +1,35 @@
 -- A fitting record keeps fitting under every kind of outcome. No axiom.
-use Prim.Native.Nat.{ℕ, _^_, _≤_, _<_}
+use Prim.Native.Nat.{ℕ, _-_, _%_, _^_, _≤_, _<_}
 use native.Mathlib.Omega.{arith}
-use mathlib.Core.Path.{_≡_, refl, ap}
+use mathlib.Core.Path.{_≡_, refl, sym, ap, _∙_}
 use lib.ListN.{length}
 use mathlib.Core.Logic.{_⊎_, inl, inr}
 use mathlib.Core.List.{List, List·Memᴰ}
-use mathlib.Core.Bool.{Bool, true, false}
+use mathlib.Core.Bool.{Bool, true, false, _&&_, _||_, not, false≢true}
 use lib.Dec.{eqb, leb, lit≤}
-use borrow.Author.Tests.{eqb-true, eqb-false, leb-true, le-leb}
+use borrow.Author.Tests.{eqb-true, eqb-false, eq-eqb, ne-eqb, leb-true, le-leb}
 use Rattle.octets.specs.Bit.{setBit, clearBit, flipBit}
 use Rattle.octets.specs.Sentences.{pick, any}
-use Rattle.octets.proofs.Sentences.{either, or-left, then-if}
+use Rattle.octets.proofs.Sentences.{both, joined, either, or-left, or-right, then-if}
 use Rattle.octets.proofs.Bits.{set-other, clear-other, flip-other, set-below, clear-below, flip-below}
 use Rattle.descriptors.specs.declared.Endpoint.{Endpoint}
 use Rattle.descriptors.specs.Configuration.{hasSetting, canHalt, bitOf}
-use Rattle.sets.specs.View.{View, wakes}
+use Rattle.sets.specs.Opening.{Board}
+use Rattle.sets.specs.View.{View, viewOf, wakes}
 use Rattle.records.specs.declared.Device.{Device}
-use Rattle.records.specs.Device.{inDefault, inAddress, inConfigured, nothing, zeros, fresh, afterReset, settled, withWaiting, withWakeup, withPower, withSuspended, awake, withAddress, withConfiguration, withEndpoints, Sized}
-use Rattle.records.specs.Current.{selected, currentEndpoints}
-use Rattle.records.specs.Fits.{standsAt}
+use Rattle.records.specs.Device.{inDefault, inAddress, inConfigured, nothing, atFullSpeed, atHighSpeed, zeros, fresh, afterReset, testWaiting, testWaits, testEntered, inTestMode, enterTestMode, settled, withWaiting, withWakeup, withPower, withSuspended, awake, withAddress, withConfiguration, withEndpoints, Sized}
+use Rattle.records.specs.Current.{setFor, setAt, viewFor, viewAt, selected, currentEndpoints}
+use Rattle.records.specs.Fits.{goodSpeed, standsAt}
 use Rattle.events.specs.declared.Event.{Event}
 use Rattle.events.specs.declared.Outcome.{Outcome}
+use Rattle.events.specs.Step.{goodReset}
 use Rattle.events.specs.Requests.{clearHalt, setHalt, withSetting}
 use Rattle.sets.specs.Sound.{Sound}
 use Rattle.laws.proofs.Fitting.{Ranges, Stated, atDefault, atAddress, atConfigured, Common, Stands, Fitting}
 use Rattle.laws.specs.Parts.{Shared, shared, rest, withCommon}
+use Rattle.laws.proofs.Same.{one-view, one-board}
 use Rattle.laws.proofs.Keeping.{none-stand, stand-changed, bit-below, zeros-good, set-good, set-stands, set-sized}
-use Rattle.laws.proofs.Outcomes.{Changed, wakeup, halted, unhalted, toggled, waits, applies, unconfigures, configures, sets, resets, powers, sleeps, Answered, reads, fromSet, fromSerial, changes, refusedWith, Responded, answers, leaves, becomes, refuses}
+use Rattle.laws.proofs.Outcomes.{Changed, wakeup, halted, unhalted, toggled, waits, awaits, enters, applies, unconfigures, configures, sets, resets, powers, sleeps, Answered, reads, fromSet, fromSerial, changes, refusedWith, inTest, Responded, answers, leaves, becomes, refuses}
 
 -- a record that fits a view, and has the sizes that 32 bytes give it
 pub record Fit (v : View) (d : Device) : Type 0 where
@@ -36,7 +39,7 @@ pub record Fit (v : View) (d : Device) : Type 0 where
 -- ---- what a fitting record's rules say
 module _ {v : View} {d : Device} (f : Common v d) where
   -- the ranges, with another state and wakeup
-  ranged : {state on : ℕ} → state ≤ 2 → on ≤ 1 → Ranges state on (d .power) (d .suspended) (d .speed)
+  ranged : {state on : ℕ} → state ≤ 2 → on ≤ 1 → Ranges (v .paired) state on (d .power) (d .suspended) (d .speed)
   ranged s w = record { stated = s; waking = w; powered = f .range .powered; sleeping = f .range .sleeping; running = f .range .running }
 
   -- past Default there is an address
@@ -48,29 +51,93 @@ module _ {v : View} {d : Device} (f : Common v d) where
       go (atAddress s l h c) = (l, h)
       go (atConfigured s l h m w) = (l, h)
 
-  -- what waits is an address, and no configuration is selected
-  address-waits : (d .waiting ≡ nothing → ⊥) → (d .waiting ≤ 127) × (d .configuration ≡ 0)
-  address-waits n = (low (either (leb (d .waiting) 127) (eqb (d .waiting) nothing) (f .waiting)), go (f .state))
+  -- what waits below 128 is an address, and no configuration is selected
+  address-waits : (d .waiting ≡ nothing → ⊥) → d .waiting < testWaiting 0 → d .configuration ≡ 0
+  address-waits n l = go (f .state)
     where
-      low : (leb (d .waiting) 127 ≡ true) ⊎ (eqb (d .waiting) nothing ≡ true) → d .waiting ≤ 127
-      low (inl p) = leb-true (d .waiting) 127 p
-      low (inr p) = absurd (n (eqb-true (d .waiting) nothing p))
+      no-test : (eqb (d .waiting) nothing ≡ true) ⊎ (testWaits d ≡ true) → ⊥
+      no-test (inl p) = n (eqb-true (d .waiting) nothing p)
+      no-test (inr p) = let m = leb-true 129 (d .waiting) (both (leb 129 (d .waiting)) (leb (d .waiting) 133) p .0) in omega arith
 
       go : Stated v (d .state) (d .address) (d .waiting) (d .configuration) → d .configuration ≡ 0
       go (atDefault s a c) = c
-      go (atAddress s l h c) = c
-      go (atConfigured s l h m w) = absurd (n w)
+      go (atAddress s k h c) = c
+      go (atConfigured s k h m w) = absurd (no-test (either (eqb (d .waiting) nothing) (testWaits d) w))
+
+  -- what waits from there on is a test mode, at high speed, and two sets are lent
+  pub test-waits : (d .waiting ≡ nothing → ⊥) → testWaiting 0 ≤ d .waiting → (testWaits d ≡ true) × (d .speed ≡ atHighSpeed)
+  test-waits n l = go (either (eqb (d .waiting) nothing || (leb (d .waiting) 127 && not (inTestMode d))) (testWaits d && eqb (d .speed) atHighSpeed) (f .waiting))
+    where
+      no-address : (eqb (d .waiting) nothing ≡ true) ⊎ ((leb (d .waiting) 127 && not (inTestMode d)) ≡ true) → ⊥
+      no-address (inl p) = n (eqb-true (d .waiting) nothing p)
+      no-address (inr p) = let m = leb-true (d .waiting) 127 (both (leb (d .waiting) 127) (not (inTestMode d)) p .0) in omega arith
+
+      go : ((eqb (d .waiting) nothing || (leb (d .waiting) 127 && not (inTestMode d))) ≡ true) ⊎ ((testWaits d && eqb (d .speed) atHighSpeed) ≡ true)
+          → (testWaits d ≡ true) × (d .speed ≡ atHighSpeed)
+      go (inl p) = absurd (no-address (either (eqb (d .waiting) nothing) (leb (d .waiting) 127 && not (inTestMode d)) p))
+      go (inr p) = let (t, h) = both (testWaits d) (eqb (d .speed) atHighSpeed) p in (t, eqb-true _ _ h)
+
+  -- nothing waits any more
+  drops : Stated v (d .state) (d .address) nothing (d .configuration)
+  drops = go (f .state)
+    where
+      go : Stated v (d .state) (d .address) (d .waiting) (d .configuration) → Stated v (d .state) (d .address) nothing (d .configuration)
+      go (atDefault s a c) = atDefault s a c
+      go (atAddress s l h c) = atAddress s l h c
+      go (atConfigured s l h m w) = atConfigured s l h m refl
+
+-- ---- byte 7
+-- high speed needs two sets
+pair-of : (paired : Bool) → goodSpeed paired atHighSpeed ≡ true → paired ≡ true
+pair-of true p = refl
+pair-of false p = absurd (false≢true p)
+
+-- a reset goes to a speed that fits
+reset-good : (paired : Bool) (speed : ℕ) → goodReset paired speed ≡ true → goodSpeed paired speed ≡ true
+reset-good paired speed p = go (either (eqb speed atFullSpeed) (paired && eqb speed atHighSpeed) p)
+  where
+    go : (eqb speed atFullSpeed ≡ true) ⊎ ((paired && eqb speed atHighSpeed) ≡ true) → goodSpeed paired speed ≡ true
+    go (inl z) = or-left _ z
+    go (inr z) =
+        let (two, h) = both paired (eqb speed atHighSpeed) z in
+        let one = eqb-true speed atHighSpeed h in
+        or-right (eqb speed atFullSpeed) (joined (joined two (eq-eqb (speed % 16) 1 (omega arith))) (le-leb speed 81 (omega arith)))
+
+-- an entered test mode fits
+entered-good : (w : ℕ) → (leb 129 w && leb w 133) ≡ true → goodSpeed true (testEntered (w - testWaiting 0)) ≡ true
+entered-good w p =
+    let (l, h) = both (leb 129 w) (leb w 133) p in
+    let m = leb-true 129 w l in
+    let n = leb-true w 133 h in
+    or-right (eqb (testEntered (w - 128)) 0) (joined (eq-eqb (testEntered (w - 128) % 16) 1 (omega arith)) (le-leb (testEntered (w - 128)) 81 (omega arith)))
 
 -- ---- the changes
-module _ (bytes : List ℕ) (v : View) (s : Sound bytes v) where
+-- asleep or awake
+slept : {v : View} (x : Device) (on : ℕ) → on ≤ 1 → Fit v x → Fit v (withSuspended on x)
+slept x on l g =
+    let c = g .fitting .common in
+    let s = g .fitting .stands in
+    record {
+      fitting = record {
+        common = record { range = record { stated = c .range .stated; waking = c .range .waking; powered = c .range .powered; sleeping = l; running = c .range .running }; waiting = c .waiting; state = c .state; wakeup = c .wakeup };
+        stands = record { alternates = s .alternates; halts = s .halts; toggles = s .toggles };
+      };
+      sized = record { sixteen = g .sized .sixteen; halts-fit = g .sized .halts-fit; toggles-fit = g .sized .toggles-fit };
+    }
+
+-- the view of an entered test mode is that of high speed
+pub entered-view : (b : Board) (d : Device) → d .speed ≡ atHighSpeed → viewAt b (enterTestMode d) ≡ viewAt b d
+entered-view b d h = one-view b (testEntered (d .waiting - testWaiting 0)) (d .speed) (ne-eqb (testEntered (d .waiting - testWaiting 0)) 0 (λ p. omega arith) ∙ sym (ne-eqb (d .speed) 0 (λ p. omega arith)))
+
+module _ (b : Board) (sound : (speed : ℕ) → Sound (setFor b speed) (viewFor b speed)) where
   -- every setting, halt and toggle 0
-  cleared : (x : Device) → x .alternates ≡ zeros → x .halts ≡ 0 → x .toggles ≡ 0 → Common v x → Fit v x
+  cleared : (x : Device) → x .alternates ≡ zeros → x .halts ≡ 0 → x .toggles ≡ 0 → Common (viewAt b x) x → Fit (viewAt b x) x
   cleared x a h t c = record {
-    fitting = record { common = c; stands = record { alternates = zeros-good bytes v s x a; halts = rw h (none-stand (currentEndpoints v x)); toggles = rw t (none-stand (currentEndpoints v x)) } };
+    fitting = record { common = c; stands = record { alternates = zeros-good (setAt b x) (viewAt b x) (sound (x .speed)) x a; halts = rw h (none-stand (currentEndpoints (viewAt b x) x)); toggles = rw t (none-stand (currentEndpoints (viewAt b x) x)) } };
     sized = record { sixteen = ap length a; halts-fit = rw h (omega arith); toggles-fit = rw t (omega arith) };
   }
 
-  pub freshFits : Fit v fresh
+  pub freshFits : Fit (viewAt b fresh) fresh
   freshFits = cleared fresh refl refl refl (record {
     range = record { stated = lit≤ tt; waking = lit≤ tt; powered = lit≤ tt; sleeping = lit≤ tt; running = refl };
     waiting = refl;
@@ -78,20 +145,16 @@ module _ (bytes : List ℕ) (v : View) (s : Sound bytes v) where
     wakeup = refl;
   })
 
-  -- asleep or awake
-  slept : (x : Device) (on : ℕ) → on ≤ 1 → Fit v x → Fit v (withSuspended on x)
-  slept x on l g =
-      let c = g .fitting .common in
-      let s = g .fitting .stands in
-      record {
-        fitting = record {
-          common = record { range = record { stated = c .range .stated; waking = c .range .waking; powered = c .range .powered; sleeping = l; running = c .range .running }; waiting = c .waiting; state = c .state; wakeup = c .wakeup };
-          stands = record { alternates = s .alternates; halts = s .halts; toggles = s .toggles };
-        };
-        sized = record { sixteen = g .sized .sixteen; halts-fit = g .sized .halts-fit; toggles-fit = g .sized .toggles-fit };
-      }
+  module _ (d : Device) (g : Fit (viewAt b d) d) where
+    abbrev v : View
+    v = viewAt b d
 
-  module _ (d : Device) (g : Fit v d) where
+    abbrev bytes : List ℕ
+    bytes = setAt b d
+
+    s : Sound bytes v
+    s = sound (d .speed)
+
     f : Common v d
     f = g .fitting .common
 
@@ -106,12 +169,7 @@ module _ (bytes : List ℕ) (v : View) (s : Sound bytes v) where
     }
 
     settles : Fit v (settled d)
-    settles = slept (withWaiting nothing d) 0 (lit≤ tt) (shares (shared d) (nothing, d .suspended) refl (record { range = f .range; waiting = refl; state = go (f .state); wakeup = f .wakeup }))
-      where
-        go : Stated v (d .state) (d .address) (d .waiting) (d .configuration) → Stated v (d .state) (d .address) nothing (d .configuration)
-        go (atDefault s a c) = atDefault s a c
-        go (atAddress s l h c) = atAddress s l h c
-        go (atConfigured s l h m w) = atConfigured s l h m refl
+    settles = slept (withWaiting nothing d) 0 (lit≤ tt) (shares (shared d) (nothing, d .suspended) refl (record { range = f .range; waiting = refl; state = drops f; wakeup = f .wakeup }))
 
     wakeable : (on : ℕ) → on ≤ 1 → wakes v ≡ true → Fit v (withWakeup on d)
     wakeable on l w = shares (shared (withWakeup on d)) (rest d) refl (record {
@@ -129,18 +187,18 @@ module _ (bytes : List ℕ) (v : View) (s : Sound bytes v) where
       wakeup = f .wakeup;
     })
 
-    reset : Fit v (afterReset d)
-    reset = cleared (afterReset d) refl refl refl (record {
-      range = record { stated = lit≤ tt; waking = lit≤ tt; powered = f .range .powered; sleeping = lit≤ tt; running = refl };
+    reset : (speed : ℕ) → goodReset (v .paired) speed ≡ true → Fit (viewFor b speed) (afterReset speed d)
+    reset speed p = cleared (afterReset speed d) refl refl refl (record {
+      range = record { stated = lit≤ tt; waking = lit≤ tt; powered = f .range .powered; sleeping = lit≤ tt; running = reset-good (viewFor b speed .paired) speed (rw (one-board b (d .speed) speed) at p) };
       waiting = refl;
       state = atDefault refl refl refl;
       wakeup = refl;
     })
 
-    waiting : (a : ℕ) → a ≤ 127 → d .state ≤ 1 → Fit v (withWaiting a d)
-    waiting a l p = shares (shared d) (a, d .suspended) refl (record {
+    waiting : (a : ℕ) → a ≤ 127 → d .state ≤ 1 → inTestMode d ≡ false → Fit v (withWaiting a d)
+    waiting a l p t = shares (shared d) (a, d .suspended) refl (record {
       range = f .range;
-      waiting = or-left (eqb a nothing) (le-leb a 127 l);
+      waiting = or-left _ (or-right (eqb a nothing) (joined (le-leb a 127 l) (ap not t)));
       state = go (f .state);
       wakeup = f .wakeup;
     })
@@ -150,21 +208,50 @@ module _ (bytes : List ℕ) (v : View) (s : Sound bytes v) where
         go (atAddress s m h c) = atAddress s m h c
         go (atConfigured s m h n w) = absurd (omega arith)
 
-    -- the address that waited
-    applied : (d .waiting ≡ nothing → ⊥) → Fit v (withAddress (pick (eqb (d .waiting) 0) inDefault inAddress) (d .waiting) d)
-    applied n = go (eqb (d .waiting) 0) refl (address-waits f n)
+    awaiting : (n : ℕ) → 1 ≤ n → n ≤ 5 → d .speed ≡ atHighSpeed → Fit v (withWaiting (testWaiting n) d)
+    awaiting n l h p = shares (shared d) (testWaiting n, d .suspended) refl (record {
+      range = f .range;
+      waiting = or-right (eqb (testWaiting n) nothing || (leb (testWaiting n) 127 && not (inTestMode d))) (joined tests (eq-eqb (d .speed) atHighSpeed p));
+      state = go (f .state);
+      wakeup = f .wakeup;
+    })
       where
-        go : (b : Bool) → eqb (d .waiting) 0 ≡ b → (d .waiting ≤ 127) × (d .configuration ≡ 0) → Fit v (withAddress (pick b inDefault inAddress) (d .waiting) d)
-        go true p (l, c) = shares (shared (withAddress inDefault (d .waiting) d)) (nothing, d .suspended) refl (record {
+        tests : (leb 129 (testWaiting n) && leb (testWaiting n) 133) ≡ true
+        tests = joined (le-leb 129 (testWaiting n) (omega arith)) (le-leb (testWaiting n) 133 (omega arith))
+
+        go : Stated v (d .state) (d .address) (d .waiting) (d .configuration) → Stated v (d .state) (d .address) (testWaiting n) (d .configuration)
+        go (atDefault s b c) = atDefault s b c
+        go (atAddress s m h c) = atAddress s m h c
+        go (atConfigured s m h k w) = atConfigured s m h k (or-right (eqb (testWaiting n) nothing) tests)
+
+    -- the test mode that waited: the high-speed set stays in use
+    entered : (d .waiting ≡ nothing → ⊥) → testWaiting 0 ≤ d .waiting → Fit (viewAt b (enterTestMode d)) (enterTestMode d)
+    unfolding viewOf
+    entered n l =
+        let (t, h) = test-waits f n l in
+        let two = pair-of (v .paired) (rw h at (f .range .running)) in
+        rw (entered-view b d h) (shares (shared (enterTestMode d)) (nothing, d .suspended) refl (record {
+          range = record { stated = f .range .stated; waking = f .range .waking; powered = f .range .powered; sleeping = f .range .sleeping; running = rw two (entered-good (d .waiting) t) };
+          waiting = refl;
+          state = drops f;
+          wakeup = f .wakeup;
+        }))
+
+    -- the address that waited
+    applied : (d .waiting ≡ nothing → ⊥) → d .waiting < testWaiting 0 → Fit v (withAddress (pick (eqb (d .waiting) 0) inDefault inAddress) (d .waiting) d)
+    applied n l = go (eqb (d .waiting) 0) refl (address-waits f n l)
+      where
+        go : (b : Bool) → eqb (d .waiting) 0 ≡ b → d .configuration ≡ 0 → Fit v (withAddress (pick b inDefault inAddress) (d .waiting) d)
+        go true p c = shares (shared (withAddress inDefault (d .waiting) d)) (nothing, d .suspended) refl (record {
           range = ranged f (lit≤ tt) (f .range .waking);
           waiting = refl;
           state = atDefault refl (eqb-true _ _ p) c;
           wakeup = f .wakeup;
         })
-        go false p (l, c) = shares (shared (withAddress inAddress (d .waiting) d)) (nothing, d .suspended) refl (record {
+        go false p c = shares (shared (withAddress inAddress (d .waiting) d)) (nothing, d .suspended) refl (record {
           range = ranged f (lit≤ tt) (f .range .waking);
           waiting = refl;
-          state = atAddress refl (let n = eqb-false (d .waiting) 0 p in omega arith) l c;
+          state = atAddress refl (let n = eqb-false (d .waiting) 0 p in omega arith) (omega arith) c;
           wakeup = f .wakeup;
         })
 
@@ -180,7 +267,7 @@ module _ (bytes : List ℕ) (v : View) (s : Sound bytes v) where
     configured c l w m = cleared (withConfiguration inConfigured c d) refl refl refl (record {
       range = ranged f (lit≤ tt) (f .range .waking);
       waiting = f .waiting;
-      state = let (a, b) = has-address f l in atConfigured refl a b m w;
+      state = let (a, b) = has-address f l in atConfigured refl a b m (or-left _ (eq-eqb (d .waiting) nothing w));
       wakeup = f .wakeup;
     })
 
@@ -222,28 +309,31 @@ module _ (bytes : List ℕ) (v : View) (s : Sound bytes v) where
       toggles = set-stands bytes v s d (g .fitting) z j a h (d .toggles) (g .fitting .stands .toggles);
     }) (set-sized bytes v s d (g .fitting) z j a h)
 
-    changedFits : {x : Device} → Changed v d x → Fit v x
+    changedFits : {x : Device} → Changed v d x → Fit (viewAt b x) x
     changedFits (wakeup on l p) = wakeable on l p
     changedFits (halted e m c) = halts e m c
     changedFits (unhalted e m c) = unhalts e m c
     changedFits (toggled e m c) = flips e m c
-    changedFits (waits a l h) = waiting a l h
-    changedFits (applies n) = applied n
+    changedFits (waits a l h t) = waiting a l h t
+    changedFits (awaits n l h p) = awaiting n l h p
+    changedFits (enters n l) = entered n l
+    changedFits (applies n l) = applied n l
     changedFits (unconfigures l) = unconfigured l
     changedFits (configures c l w m) = configured c l w m
     changedFits (sets j a h) = setting j a h
-    changedFits resets = reset
+    changedFits (resets speed p) = reset speed p
     changedFits (powers source l) = powered source l
     changedFits (sleeps on l) = slept d on l g
 
-    answeredFits : {o : Outcome} → Answered v d o → Fit v (o .device)
+    answeredFits : {o : Outcome} → Answered v d o → Fit (viewAt b (o .device)) (o .device)
     answeredFits (reads a p q) = g
     answeredFits (fromSet e n m) = g
     answeredFits (fromSerial n) = g
     answeredFits (changes c) = changedFits c
     answeredFits (refusedWith n l h) = g
+    answeredFits (inTest t) = g
 
-  pub respondedFits : (d : Device) → Fit v d → {e : Event} {o : Outcome} → Responded v d e o → Fit v (o .device)
+  pub respondedFits : (d : Device) → Fit (viewAt b d) d → {e : Event} {o : Outcome} → Responded (viewAt b d) d e o → Fit (viewAt b (o .device)) (o .device)
   respondedFits d g (answers a) = answeredFits (settled d) (settles d g) a
   respondedFits d g leaves = g
   respondedFits d g (becomes c) = changedFits d g c

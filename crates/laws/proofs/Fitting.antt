@@ -2,37 +2,42 @@
 use Prim.Native.Nat.{ℕ, _≤_}
 use native.Mathlib.Omega.{arith}
 use native.Mathlib.Decide.{ℕ-discrete}
-use mathlib.Core.Path.{_≡_, refl}
+use mathlib.Core.Path.{_≡_, refl, sym, _∙_}
 use mathlib.Core.List.{List, [], _∷_}
-use mathlib.Core.Bool.{Bool, true, _&&_}
+use mathlib.Core.Bool.{Bool, true, false, _&&_, _||_, false≢true}
+use mathlib.Core.Logic.{_⊎_, inl, inr}
 use lib.Dec.{eqb, leb}
 use borrow.Author.Tests.{eqb-true, eq-eqb, leb-true, le-leb}
 use Rattle.octets.specs.Sentences.{_⇒_, any}
-use Rattle.octets.proofs.Sentences.{both, joined, if-then, conjunct}
+use Rattle.octets.proofs.Sentences.{both, joined, if-then, conjunct, either}
 use Rattle.sets.specs.View.{View, wakes}
 use Rattle.records.specs.declared.Device.{Device}
-use Rattle.records.specs.Device.{inDefault, inAddress, inConfigured, nothing}
+use Rattle.records.specs.Device.{inDefault, inAddress, inConfigured, nothing, testWaiting, testWaits}
 use Rattle.records.specs.Current.{selected, currentEndpoints}
-use Rattle.records.specs.Fits.{inRange, goodWaiting, goodState, goodAlternates, standsAt, fits}
+use Rattle.records.specs.Fits.{goodSpeed, inRange, goodWaiting, goodState, goodAlternates, standsAt, fits}
 
 -- "those ranges hold", field by field
-pub record Ranges (state wakeup power suspended speed : ℕ) : Type 0 where
+pub record Ranges (paired : Bool) (state wakeup power suspended speed : ℕ) : Type 0 where
   pub stated : state ≤ 2
   pub waking : wakeup ≤ 1
   pub powered : power ≤ 1
   pub sleeping : suspended ≤ 1
-  pub running : speed ≡ 0
+  pub running : goodSpeed paired speed ≡ true
+
+-- no address waits: nothing does, or a test mode
+abbrev pub unaddressed : ℕ → Bool
+unaddressed waiting = eqb waiting nothing || (leb (testWaiting 1) waiting && leb waiting (testWaiting 5))
 
 -- the three states' rules
 pub data Stated (v : View) (state address waiting configuration : ℕ) : Type 0 where
   atDefault : state ≡ inDefault → address ≡ 0 → configuration ≡ 0 → Stated v state address waiting configuration
   atAddress : state ≡ inAddress → 1 ≤ address → address ≤ 127 → configuration ≡ 0 → Stated v state address waiting configuration
   atConfigured : state ≡ inConfigured → 1 ≤ address → address ≤ 127 → any (λ c. eqb (c .value) configuration) (v .configurations) ≡ true
-      → waiting ≡ nothing → Stated v state address waiting configuration
+      → unaddressed waiting ≡ true → Stated v state address waiting configuration
 
 -- the rules of what is the whole device's, and those of its interfaces
 pub record Common (v : View) (d : Device) : Type 0 where
-  pub range : Ranges (d .state) (d .wakeup) (d .power) (d .suspended) (d .speed)
+  pub range : Ranges (v .paired) (d .state) (d .wakeup) (d .power) (d .suspended) (d .speed)
   pub waiting : goodWaiting d ≡ true
   pub state : Stated v (d .state) (d .address) (d .waiting) (d .configuration)
   pub wakeup : (eqb (d .wakeup) 1 ⇒ wakes v) ≡ true
@@ -48,24 +53,24 @@ pub record Fitting (v : View) (d : Device) : Type 0 where
 
 module _ (v : View) (d : Device) where
   -- ---- `inRange`, taken apart and put together again
-  ranges : inRange d ≡ true → Ranges (d .state) (d .wakeup) (d .power) (d .suspended) (d .speed)
+  ranges : inRange (v .paired) d ≡ true → Ranges (v .paired) (d .state) (d .wakeup) (d .power) (d .suspended) (d .speed)
   ranges p =
-      let row = leb (d .state) 2 ∷ leb (d .wakeup) 1 ∷ leb (d .power) 1 ∷ leb (d .suspended) 1 ∷ eqb (d .speed) 0 ∷ [] in
+      let row = leb (d .state) 2 ∷ leb (d .wakeup) 1 ∷ leb (d .power) 1 ∷ leb (d .suspended) 1 ∷ goodSpeed (v .paired) (d .speed) ∷ [] in
       record {
         stated = leb-true _ _ (conjunct 0 row p);
         waking = leb-true _ _ (conjunct 1 row p);
         powered = leb-true _ _ (conjunct 2 row p);
         sleeping = leb-true _ _ (conjunct 3 row p);
-        running = eqb-true _ _ (conjunct 4 row p);
+        running = conjunct 4 row p;
       }
 
-  in-range : Ranges (d .state) (d .wakeup) (d .power) (d .suspended) (d .speed) → inRange d ≡ true
+  in-range : Ranges (v .paired) (d .state) (d .wakeup) (d .power) (d .suspended) (d .speed) → inRange (v .paired) d ≡ true
   in-range r =
-      joined (joined (joined (joined (le-leb _ _ (r .stated)) (le-leb _ _ (r .waking))) (le-leb _ _ (r .powered))) (le-leb _ _ (r .sleeping))) (eq-eqb _ _ (r .running))
+      joined (joined (joined (joined (le-leb _ _ (r .stated)) (le-leb _ _ (r .waking))) (le-leb _ _ (r .powered))) (le-leb _ _ (r .sleeping))) (r .running)
 
   -- ---- `goodState` likewise
   there : List Bool
-  there = leb 1 (d .address) ∷ leb (d .address) 127 ∷ any (λ c. eqb (c .value) (d .configuration)) (v .configurations) ∷ eqb (d .waiting) nothing ∷ []
+  there = leb 1 (d .address) ∷ leb (d .address) 127 ∷ any (λ c. eqb (c .value) (d .configuration)) (v .configurations) ∷ unaddressed (d .waiting) ∷ []
 
   placed : List Bool
   placed = leb 1 (d .address) ∷ leb (d .address) 127 ∷ eqb (d .configuration) 0 ∷ []
@@ -74,7 +79,7 @@ module _ (v : View) (d : Device) where
   states =
       (eqb (d .state) inDefault ⇒ (eqb (d .address) 0 && eqb (d .configuration) 0)) ∷
       (eqb (d .state) inAddress ⇒ (leb 1 (d .address) && leb (d .address) 127 && eqb (d .configuration) 0)) ∷
-      (eqb (d .state) inConfigured ⇒ (leb 1 (d .address) && leb (d .address) 127 && any (λ c. eqb (c .value) (d .configuration)) (v .configurations) && eqb (d .waiting) nothing)) ∷ []
+      (eqb (d .state) inConfigured ⇒ (leb 1 (d .address) && leb (d .address) 127 && any (λ c. eqb (c .value) (d .configuration)) (v .configurations) && unaddressed (d .waiting))) ∷ []
 
   state-of : d .state ≤ 2 → goodState v d ≡ true → Stated v (d .state) (d .address) (d .waiting) (d .configuration)
   unfolding states placed there
@@ -90,16 +95,16 @@ module _ (v : View) (d : Device) where
       go (no n) (no m) =
           let s : d .state ≡ 2 = omega arith in
           let q = if-then _ _ (conjunct 2 states p) (eq-eqb _ _ s) in
-          atConfigured s (leb-true _ _ (conjunct 0 there q)) (leb-true _ _ (conjunct 1 there q)) (conjunct 2 there q) (eqb-true _ _ (conjunct 3 there q))
+          atConfigured s (leb-true _ _ (conjunct 0 there q)) (leb-true _ _ (conjunct 1 there q)) (conjunct 2 there q) (conjunct 3 there q)
 
   good-state : Stated v (d .state) (d .address) (d .waiting) (d .configuration) → goodState v d ≡ true
   good-state (atDefault s a c) = rw (s, a, c) refl
   good-state (atAddress s l h c) = rw s (joined (joined (joined (le-leb _ _ l) (le-leb _ _ h)) (eq-eqb _ _ c)) refl)
-  good-state (atConfigured s l h m w) = rw s (joined (joined (joined (le-leb _ _ l) (le-leb _ _ h)) m) (eq-eqb _ _ w))
+  good-state (atConfigured s l h m w) = rw s (joined (joined (joined (le-leb _ _ l) (le-leb _ _ h)) m) w)
 
   -- ---- `fits`
   rules : List Bool
-  rules = inRange d ∷ goodWaiting d ∷ goodState v d ∷ goodAlternates (selected v d) d ∷ standsAt (currentEndpoints v d) (d .halts) ∷ standsAt (currentEndpoints v d) (d .toggles) ∷ (eqb (d .wakeup) 1 ⇒ wakes v) ∷ []
+  rules = inRange (v .paired) d ∷ goodWaiting d ∷ goodState v d ∷ goodAlternates (selected v d) d ∷ standsAt (currentEndpoints v d) (d .halts) ∷ standsAt (currentEndpoints v d) (d .toggles) ∷ (eqb (d .wakeup) 1 ⇒ wakes v) ∷ []
 
   pub fitting : fits v d ≡ true → Fitting v d
   unfolding fits rules
@@ -117,14 +122,18 @@ module _ (v : View) (d : Device) where
       let s = f .stands in
       joined (joined (joined (joined (joined (joined (in-range (c .range)) (c .waiting)) (good-state (c .state))) (s .alternates)) (s .halts)) (s .toggles)) (c .wakeup)
 
-  -- ---- in Configured nothing waits, and elsewhere no configuration is selected
-  pub unwaiting : fits v d ≡ true → d .state ≡ inConfigured → d .waiting ≡ nothing
-  unwaiting f s = go (fitting f .common .state)
+  -- ---- in Configured no address waits, so nothing does where no test mode does; elsewhere no configuration is selected
+  pub unwaiting : fits v d ≡ true → d .state ≡ inConfigured → testWaits d ≡ false → d .waiting ≡ nothing
+  unwaiting f s t = go (fitting f .common .state)
     where
       go : Stated v (d .state) (d .address) (d .waiting) (d .configuration) → d .waiting ≡ nothing
       go (atDefault z a c) = absurd (omega arith)
       go (atAddress z l h c) = absurd (omega arith)
-      go (atConfigured z l h m w) = w
+      go (atConfigured z l h m w) = neither (either (eqb (d .waiting) nothing) (testWaits d) w)
+        where
+          neither : (eqb (d .waiting) nothing ≡ true) ⊎ (testWaits d ≡ true) → d .waiting ≡ nothing
+          neither (inl p) = eqb-true _ _ p
+          neither (inr p) = absurd (false≢true (sym t ∙ p))
 
   pub unselected : fits v d ≡ true → (d .state ≡ inConfigured → ⊥) → d .configuration ≡ 0
   unselected f n = go (fitting f .common .state)

@@ -7,27 +7,30 @@ use mathlib.Core.Path.{_≡_, refl, sym, ap, subst, _∙_}
 use mathlib.Core.Bool.{Bool, true, false, false≢true}
 use mathlib.Core.List.{List}
 use mathlib.Core.Option.{Option, some, none, Option·some-injective, Option·none-ne-some}
-use lib.Dec.{eqb}
-use borrow.Author.Tests.{eqb-true, eqb-false, ne-eqb}
+use lib.Dec.{eqb, leb}
+use borrow.Author.Tests.{eqb-true, eqb-false, ne-eqb, leb-true}
 use Rattle.octets.specs.Sentences.{pick, any, first, isSome}
 use Rattle.octets.proofs.Sentences.{none-first}
 use Rattle.sets.specs.Opening.{Board}
-use Rattle.sets.specs.View.{View, viewOf, byValue, orNone, unconfigured}
+use Rattle.sets.specs.View.{View, byValue, orNone, unconfigured}
 use Rattle.records.specs.declared.Device.{Device}
-use Rattle.records.specs.Device.{inConfigured, nothing}
-use Rattle.records.specs.Current.{viewFor, viewAt, selected}
+use Rattle.records.specs.Device.{inConfigured, nothing, testWaiting, testWaits, enterTestMode}
+use Rattle.records.specs.Current.{setFor, setAt, viewFor, viewAt, selected}
 use Rattle.records.specs.Fits.{fits, fitsOn}
 use Rattle.requests.specs.Setup.{recipient}
 use Rattle.events.specs.declared.Event.{Event}
+use Rattle.events.specs.declared.Event.the-variants.{Request, Malformed, StatusEnd, BusReset, Halt, PacketPassed, Power, Suspend, Resume, Wake}
+use Rattle.events.specs.Answer.{numberOf}
 use Rattle.events.specs.declared.Answer.{Answer}
 use Rattle.events.specs.declared.Outcome.{Outcome}
 use Rattle.events.specs.Step.{respond}
 use Rattle.events.specs.Concerns.{Subject, aSetup, anEndpoint, theDevice, subjectOf, subjectConcerns, eventConcerns, concerns, concernsOn}
 use Rattle.order.specs.Owners.{Owners}
 use Rattle.sets.specs.Sound.{Sound}
-use Rattle.laws.proofs.Fitting.{unwaiting, unselected}
+use Rattle.laws.proofs.Fitting.{fitting, unwaiting, unselected}
+use Rattle.laws.proofs.Changes.{test-waits, entered-view}
 use Rattle.laws.proofs.Keeping.{soundSelected}
-use Rattle.laws.specs.Parts.{Good, orNobody, Shared, shared, Same, rest, owned, who, Settling, keeps, settles, wakes, settledBy, kind, settle}
+use Rattle.laws.specs.Parts.{Good, orNobody, Shared, shared, SameIn, Same, rest, owned, who, keeps, wakes, settledBy, drops, kind, settle}
 use Rattle.laws.proofs.Same.{self, whole, same-view, turn-on, join-on, settled-same, settled-rest, settle-again, settle-commute}
 use Rattle.laws.proofs.Alike.{Alike, alike-event}
 use Rattle.laws.proofs.Touches.{Touches, touch-event}
@@ -82,52 +85,76 @@ configured b d e o = go (eqb (d .state) inConfigured) o
     go true p = refl
     go false p = p
 
--- "in Configured, .. nothing waiting": where the device is not suspended, such an event has nothing to settle
-pub idle : (b : Board) (d : Device) (e : Event) (a : Answer) → fitsOn b d ≡ true → d .suspended ≡ 0 → owned b d e ≡ true → settle (kind e a) (rest d) ≡ rest d
-idle b d e a f z o = go (kind e a)
+-- in Configured no address waits: where the device is not suspended and no test mode waits that a setup would drop, such an event has nothing to settle
+pub idle : (b : Board) (d : Device) (e : Event) (a : Answer) → fitsOn b d ≡ true → d .suspended ≡ 0 → (drops e ≡ true → testWaits d ≡ false) → owned b d e ≡ true
+    → settle (kind e a) (rest d) ≡ rest d
+idle b d e a f z t o = go e t
   where
-    waits : d .waiting ≡ nothing
-    waits = unwaiting (viewAt b d) d f (eqb-true _ _ (configured b d e o))
+    kept : settle wakes (rest d) ≡ rest d
+    kept = λ i. (d .waiting, sym z i)
 
-    go : (m : Settling) → settle m (rest d) ≡ rest d
-    go keeps = refl
-    go settles = λ i. (sym waits i, sym z i)
-    go wakes = λ i. (d .waiting, sym z i)
+    passed : (ok : Bool) → settle (pick ok wakes keeps) (rest d) ≡ rest d
+    passed true = kept
+    passed false = refl
+
+    go : (e : Event) → (drops e ≡ true → testWaits d ≡ false) → settle (kind e a) (rest d) ≡ rest d
+    go (Request s) n = λ i. (sym (unwaiting (viewAt b d) d f (eqb-true _ _ (configured b d e o)) (n refl)) i, sym z i)
+    go (PacketPassed x) n = passed (eqb (numberOf a) 0)
+    go (Halt x) n = refl
+    go Malformed n = refl
+    go StatusEnd n = refl
+    go (BusReset speed) n = refl
+    go (Power source) n = refl
+    go Suspend n = refl
+    go Resume n = refl
+    go Wake n = refl
 
 -- the step at a record that fits, by the set in use
 abbrev pub respondOn : Board → Device → Event → Outcome
 respondOn b d e = respond (viewAt b d) d e
 
-module _ (b : Board) (S : Sound (b .set) (viewOf b)) where
+module _ (b : Board) (S : (speed : ℕ) → Sound (setFor b speed) (viewFor b speed)) where
   -- an event of k's
   mine : (d : Device) (e : Event) → Good b d → owned b d e ≡ true → eventConcerns (selected (viewAt b d) d) e ≡ some (who b d e)
-  mine d e g o = sym (concerns-good (b .set) (viewAt b d) S d e (g .1)) ∙ whose (concernsOn b d e) o
+  mine d e g o = sym (concerns-good (setAt b d) (viewAt b d) (S (d .speed)) d e (g .1)) ∙ whose (concernsOn b d e) o
 
   -- from two records at one speed: the same set is in use
-  on-both : {T : Type 0} {k : ℕ} {r s : Device} (e : Event) → Same b k r s → Alike (viewAt b r) T k (respondOn b r e) (respond (viewAt b r) s e)
-      → Alike (viewAt b r) T k (respondOn b r e) (respondOn b s e)
-  on-both {T} {k} {r} {s} e h a = subst (λ v. Alike (viewAt b r) T k (respondOn b r e) (respond v s e)) (same-view b r s (h .firm)) a
+  on-both : {T : Type 0} {k : ℕ} {r s : Device} (e : Event) → Same b k r s → Alike (viewFor b) T k (respondOn b r e) (respond (viewAt b r) s e)
+      → Alike (viewFor b) T k (respondOn b r e) (respondOn b s e)
+  on-both {T} {k} {r} {s} e h a = subst (λ v. Alike (viewFor b) T k (respondOn b r e) (respond v s e)) (same-view b r s (h .firm)) a
+
+  -- where a test mode is entered the set in use stays
+  staying : (r : Device) → Good b r → eqb (r .waiting) nothing ≡ false → leb (testWaiting 0) (r .waiting) ≡ true → viewAt b (enterTestMode r) ≡ viewAt b r
+  staying r g n l = entered-view b r (test-waits (fitting (viewAt b r) r (g .1) .common) (eqb-false _ _ n) (leb-true _ _ l) .1)
 
   alike-mine : (k : ℕ) (r s : Device) (e : Event) → Good b r → Good b s → owned b r e ≡ true → who b r e ≡ k → Same b k r s
-      → Alike (viewAt b r) ⊥ k (respondOn b r e) (respondOn b s e)
+      → Alike (viewFor b) ⊥ k (respondOn b r e) (respondOn b s e)
   alike-mine k r s e g d o w h =
       let v = viewAt b r in
       let c : eventConcerns (selected v r) e ≡ some k = mine r e g o ∙ ap some w in
-      on-both e h (alike-event v ⊥ k r s e (soundSelected (b .set) v S r) (g .0 .sixteen) (d .0 .sixteen) (λ j p. Option·some-injective j k (sym p ∙ c))
-      (λ p. Option·none-ne-some k (sym (ap (subjectConcerns (selected v r)) p) ∙ c)) (record { part = h; still = λ t. absurd t }))
+      on-both e h (alike-event (viewFor b) ⊥ k r s e (soundSelected (setAt b r) v (S (r .speed)) r) (g .0 .sixteen) (d .0 .sixteen) (λ j p. Option·some-injective j k (sym p ∙ c))
+      (λ p. Option·none-ne-some k (sym (ap (subjectConcerns (selected v r)) p) ∙ c)) (staying r g) (record { part = h; still = λ t. absurd t }))
 
   -- an event of nobody's
   alike-free : (k : ℕ) (r s : Device) (e : Event) → Good b r → Good b s → owned b r e ≡ false → Same b k r s → rest r ≡ rest s
-      → Alike (viewAt b r) (rest r ≡ rest s) k (respondOn b r e) (respondOn b s e)
+      → Alike (viewFor b) (rest r ≡ rest s) k (respondOn b r e) (respondOn b s e)
   alike-free k r s e g d o h w =
       let v = viewAt b r in
-      let c : eventConcerns (selected v r) e ≡ none = sym (concerns-good (b .set) v S r e (g .1)) ∙ nobodys (concernsOn b r e) o in
-      on-both e h (alike-event v (rest r ≡ rest s) k r s e (soundSelected (b .set) v S r) (g .0 .sixteen) (d .0 .sixteen)
-      (λ j p. absurd (Option·none-ne-some j (sym c ∙ p))) (λ p. w) (record { part = h; still = λ t. t }))
+      let c : eventConcerns (selected v r) e ≡ none = sym (concerns-good (setAt b r) v (S (r .speed)) r e (g .1)) ∙ nobodys (concernsOn b r e) o in
+      on-both e h (alike-event (viewFor b) (rest r ≡ rest s) k r s e (soundSelected (setAt b r) v (S (r .speed)) r) (g .0 .sixteen) (d .0 .sixteen)
+      (λ j p. absurd (Option·none-ne-some j (sym c ∙ p))) (λ p. w) (staying r g) (record { part = h; still = λ t. t }))
 
   touch-mine : (d : Device) (e : Event) → Good b d → owned b d e ≡ true
       → Touches (viewAt b d) (who b d e) (settledBy (kind e (respondOn b d e .answer)) d) (respondOn b d e .device)
-  touch-mine d e g o = touch-event (viewAt b d) (who b d e) d (soundSelected (b .set) (viewAt b d) S d) e (mine d e g o)
+  touch-mine d e g o = touch-event (viewAt b d) (who b d e) d (soundSelected (setAt b d) (viewAt b d) (S (d .speed)) d) e (mine d e g o)
+
+  -- the parts of the others, by the set in use after it
+  apart-mine : (k : ℕ) (d : Device) (e : Event) → Good b d → owned b d e ≡ true → (who b d e ≡ k → ⊥) → Same b k (respondOn b d e .device) d
+  apart-mine k d e g o n =
+      let m = kind e (respondOn b d e .answer) in
+      let t = touch-mine d e g o .others k n in
+      let u = settled-same b k d m in
+      join-on b k _ _ _ (subst (λ v. SameIn v k (respondOn b d e .device) (settledBy m d)) (sym (same-view b (respondOn b d e .device) d (t .firm ∙ u .firm))) t) u
 
   pub locality : ((d : Device) (e : Event) → Good b d → Good b (respondOn b d e .device))
       → Owners (λ d e. respondOn b d e .answer) (λ d e. respondOn b d e .device) (Good b) (owned b) (who b) (Same b) rest kind settle
@@ -140,7 +167,7 @@ module _ (b : Board) (S : Sound (b .set) (viewOf b)) where
     who-by = λ k r s e g d h. ap orNobody (concerns-by b r s e (h .firm));
     reply = λ k r s e g d o w h. alike-mine k r s e g d o w h .answer;
     local = λ k r s e g d o w h. alike-mine k r s e g d o w h .near .part;
-    apart = λ k r e g o n. join-on b k _ _ _ (touch-mine r e g o .others k n) (settled-same b k r (kind e (respondOn b r e .answer)));
+    apart = apart-mine;
     rests = λ r e g o. touch-mine r e g o .still ∙ settled-rest r (kind e (respondOn b r e .answer));
     again = settle-again;
     commute = settle-commute;

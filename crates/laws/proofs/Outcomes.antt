@@ -1,12 +1,12 @@
 -- Every outcome of an event on a record that fits, by kind, with what is known where it comes about: the one walk over the events and
 -- requests from which the promises about the step are proved. No axiom.
-use Prim.Native.Nat.{ℕ, _≤_, min, _/_, _%_}
-use mathlib.Core.Path.{_≡_, refl, _∙_}
+use Prim.Native.Nat.{ℕ, _≤_, _<_, min, _/_, _%_}
+use mathlib.Core.Path.{_≡_, refl, ap, _∙_}
 use mathlib.Core.List.{[], _∷_, List·Memᴰ}
-use mathlib.Core.Bool.{Bool, true, false, _&&_, _||_, not}
+use mathlib.Core.Bool.{Bool, true, false, _&&_, _||_, not, and-false}
 use mathlib.Core.Option.{Option, some, none}
 use lib.Dec.{eqb, leb, lit≤}
-use borrow.Author.Tests.{eq-eqb, eqb-true, eqb-false, leb-true}
+use borrow.Author.Tests.{eq-eqb, eqb-true, eqb-false, leb-true, leb-false}
 use native.Mathlib.Omega.{arith}
 use Rattle.octets.specs.Bit.{bit, flipBit}
 use Rattle.octets.specs.Sentences.{pick, _⇒_, any, every, first, member}
@@ -19,7 +19,7 @@ use Rattle.descriptors.specs.declared.ConfigurationIndex.{ConfigurationIndex}
 use Rattle.sets.specs.View.{View, entryByIndex, wakes}
 use Rattle.sets.proofs.Lookups.{by-index-member}
 use Rattle.records.specs.declared.Device.{Device}
-use Rattle.records.specs.Device.{inDefault, inAddress, inConfigured, nothing, afterReset, settled, withWaiting, withWakeup, withPower, withSuspended, awake, withAddress, withConfiguration, withEndpoints}
+use Rattle.records.specs.Device.{inDefault, inAddress, inConfigured, nothing, atHighSpeed, afterReset, testWaiting, inTestMode, enterTestMode, settled, withWaiting, withWakeup, withPower, withSuspended, awake, withAddress, withConfiguration, withEndpoints}
 use Rattle.records.specs.Current.{selected, currentEndpoints, endpointAt}
 use Rattle.requests.specs.declared.Setup.{Setup}
 use Rattle.requests.specs.declared.Row.{Row}
@@ -33,8 +33,8 @@ use Rattle.events.specs.declared.facts.Located.{Located}
 use Rattle.events.specs.declared.facts.Located.the-variants.{Body, Serial, Nowhere}
 use Rattle.events.specs.declared.Outcome.{Outcome}
 use Rattle.events.specs.Answer.{numberOf, partOf, gives, done, refused}
-use Rattle.events.specs.Requests.{byRecipient, isEndpointZero, deviceFeature, interfaceFeature, endpointFeature, endpointStatus, haltFeature, clearHalt, setHalt, isEntry, bodyAt, languageFor, locateString, locate, describe, withSetting, getStatus, clearFeature, setFeature, setAddress, getDescriptor, getConfiguration, setConfiguration, getInterface, setInterface}
-use Rattle.events.specs.Step.{request, answerSetup, statusEnd, haltAt, halt, passAt, packetPassed, respond}
+use Rattle.events.specs.Requests.{byRecipient, isEndpointZero, deviceFeature, namesTestMode, testSelector, setTestMode, interfaceFeature, endpointFeature, endpointStatus, haltFeature, clearHalt, setHalt, isEntry, bodyAt, byIndex, languageFor, locateString, locate, describe, withSetting, getStatus, clearFeature, setFeature, setAddress, getDescriptor, getConfiguration, setConfiguration, getInterface, setInterface}
+use Rattle.events.specs.Step.{request, stateFor, setupFor, refusalFor, answerSetup, statusEnd, goodReset, haltAt, halt, passAt, packetPassed, respond}
 
 -- a change of a record that fits, with what is known where it comes about
 pub data Changed (v : View) (d : Device) : Device → Type 0 where
@@ -43,13 +43,15 @@ pub data Changed (v : View) (d : Device) : Device → Type 0 where
   unhalted : (e : Endpoint) → List·Memᴰ e (currentEndpoints v d) → canHalt e ≡ true → Changed v d (clearHalt d (bitOf (e .address)))
   toggled : (e : Endpoint) → List·Memᴰ e (currentEndpoints v d) → canHalt e ≡ true
       → Changed v d (awake (withEndpoints (d .alternates) (d .halts) (flipBit (d .toggles) (bitOf (e .address))) d))
-  waits : (a : ℕ) → a ≤ 127 → d .state ≤ 1 → Changed v d (withWaiting a d)
-  applies : (d .waiting ≡ nothing → ⊥) → Changed v d (withAddress (pick (eqb (d .waiting) 0) inDefault inAddress) (d .waiting) d)
+  waits : (a : ℕ) → a ≤ 127 → d .state ≤ 1 → inTestMode d ≡ false → Changed v d (withWaiting a d)
+  awaits : (s : ℕ) → 1 ≤ s → s ≤ 5 → d .speed ≡ atHighSpeed → Changed v d (withWaiting (testWaiting s) d)
+  enters : (d .waiting ≡ nothing → ⊥) → testWaiting 0 ≤ d .waiting → Changed v d (enterTestMode d)
+  applies : (d .waiting ≡ nothing → ⊥) → d .waiting < testWaiting 0 → Changed v d (withAddress (pick (eqb (d .waiting) 0) inDefault inAddress) (d .waiting) d)
   unconfigures : 1 ≤ d .state → Changed v d (withConfiguration inAddress 0 d)
   configures : (c : ℕ) → 1 ≤ d .state → d .waiting ≡ nothing → any (λ k. eqb (k .value) c) (v .configurations) ≡ true
       → Changed v d (withConfiguration inConfigured c d)
   sets : (j a : ℕ) → hasSetting (selected v d) j a ≡ true → Changed v d (withSetting v d j a)
-  resets : Changed v d (afterReset d)
+  resets : (speed : ℕ) → goodReset (v .paired) speed ≡ true → Changed v d (afterReset speed d)
   powers : (source : ℕ) → source ≤ 1 → Changed v d (withPower source d)
   sleeps : (on : ℕ) → on ≤ 1 → Changed v d (withSuspended on d)
 
@@ -60,10 +62,12 @@ pub data Answered (v : View) (d : Device) : Outcome → Type 0 where
   fromSerial : (asked : ℕ) → Answered v d (gives (SerialPart (min (v .serialLength) asked)) d)
   changes : {x : Device} → Changed v d x → Answered v d (done x)
   refusedWith : (n : ℕ) → 10 ≤ n → n ≤ 14 → Answered v d (refused n d)
+  inTest : inTestMode d ≡ true → Answered v d (refused 17 d)
 
--- the refusals of an event that settles nothing: "not 8 bytes" 9, a function event or a power event 16, a wake event 19
+-- the refusals of an event that settles nothing: "not 8 bytes" 9, a bus reset, a function event or a power event 16, a wake event 19
 pub data Refusable : Event → ℕ → Type 0 where
   malformed : Refusable Malformed 9
+  noReset : {speed : ℕ} → Refusable (BusReset speed) 16
   noHalt : {a : ℕ} → Refusable (Halt a) 16
   noPass : {a : ℕ} → Refusable (PacketPassed a) 16
   noPower : {source : ℕ} → Refusable (Power source) 16
@@ -130,7 +134,7 @@ lies : (v : View) (s : Setup) → Lies v (locate v s)
 unfolding locate
 lies v s = chosen (Lies v) (eqb (s .wValue / 256) 3) (λ e. string (s .wValue % 256) (languageFor v (s .wValue % 256) (s .wIndex)))
     (λ e. chosen (Lies v) (eqb (s .wValue / 256) 2) (λ e. numbered (record { 0 = s .wValue % 256 }) _ refl)
-    (λ e. chosen (Lies v) (eqb (s .wValue / 256) 1) (λ e. entry (isEntry 1 (s .wValue % 256) 0) _ refl) (λ e. nowhere)))
+    (λ e. chosen (Lies v) (byIndex (s .wValue / 256)) (λ e. entry (isEntry (s .wValue / 256) (s .wValue % 256) 0) _ refl) (λ e. nowhere)))
   where
     numbered : (i : ConfigurationIndex) (o : Option Entry) → entryByIndex i (v .entries) ≡ o → Lies v (bodyAt o)
     numbered i none e = nowhere
@@ -165,11 +169,20 @@ module _ (v : View) (d : Device) (s : Setup) where
       at none = missing
       at (some e) = reads _ refl refl
 
-  features : (change : Device → ℕ → Device) (on : ℕ) → on ≤ 1
+  wakes-or-not : (on : ℕ) → on ≤ 1 → Answered v d (deviceFeature on v d s)
+  wakes-or-not on l = chosen (Answered v d) (eqb (s .wValue) 1 && wakes v) (λ e. changes (wakeup on l (both (eqb (s .wValue) 1) (wakes v) e .1))) (λ e. noFeature)
+
+  test-mode : Answered v d (setTestMode d s)
+  test-mode = chosen (Answered v d) (eqb (d .speed) atHighSpeed && leb 1 (testSelector s) && leb (testSelector s) 5)
+      (λ e.
+      let row = eqb (d .speed) atHighSpeed ∷ leb 1 (testSelector s) ∷ leb (testSelector s) 5 ∷ [] in
+      changes (awaits (testSelector s) (leb-true _ _ (conjunct 1 row e)) (leb-true _ _ (conjunct 2 row e)) (eqb-true _ _ (conjunct 0 row e))))
+      (λ e. noFeature)
+
+  features : (change : Device → ℕ → Device) {device : Outcome} → Answered v d device
       → ((e : Endpoint) → List·Memᴰ e (currentEndpoints v d) → canHalt e ≡ true → Changed v d (change d (bitOf (e .address))))
-      → Answered v d (byRecipient s (deviceFeature on v d s) (interfaceFeature v d s) (endpointFeature change v d s))
-  features change on l changed = recipients
-      (chosen (Answered v d) (eqb (s .wValue) 1 && wakes v) (λ e. changes (wakeup on l (both (eqb (s .wValue) 1) (wakes v) e .1))) (λ e. noFeature))
+      → Answered v d (byRecipient s device (interfaceFeature v d s) (endpointFeature change v d s))
+  features change device changed = recipients device
       (chosen (Answered v d) (hasInterface (selected v d) (s .wIndex)) (λ e. noFeature) (λ e. missing))
       (chosen (Answered v d) (isEndpointZero (s .wIndex)) (λ e. noFeature) (λ e. at (endpointAt v d (s .wIndex)) refl))
     where
@@ -192,16 +205,22 @@ module _ (v : View) (d : Device) (s : Setup) where
   configurations l w = chosen (Answered v d) (eqb (s .wValue) 0) (λ e. changes (unconfigures l))
       (λ e. chosen (Answered v d) (any (λ c. eqb (c .value) (s .wValue)) (v .configurations)) (λ e. changes (configures (s .wValue) l w e)) (λ e. missing))
 
-  answered : d .waiting ≡ nothing → refusal (d .state) s ≡ 0 → Answered v d (request v d s)
+  -- the state that the table judges, of a request that is no SET_FEATURE
+  own-state : (code : ℕ) → eqb (s .bRequest) code ≡ true → eqb code 3 ≡ false → stateFor (v .paired) d s ≡ d .state
+  own-state code e n =
+      let z : eqb (s .bRequest) 3 ≡ false = ap (λ c. eqb c 3) (eqb-true (s .bRequest) code e) ∙ n in
+      ap (λ t. pick (t && eqb (d .speed) atHighSpeed) inAddress (d .state)) (ap (λ t. namesTestMode (v .paired) s && eqb (s .bmRequestType) 0x00 && t) z ∙ and-false (namesTestMode (v .paired) s && eqb (s .bmRequestType) 0x00))
+
+  answered : d .waiting ≡ nothing → inTestMode d ≡ false → refusalFor (v .paired) d s ≡ 0 → Answered v d (request v d s)
   unfolding request clearFeature setFeature setAddress getConfiguration getInterface setInterface
-  answered w p =
+  answered w t p =
       chosen (Answered v d) (eqb (s .bRequest) 0x00) (λ e. status)
-      (λ e. chosen (Answered v d) (eqb (s .bRequest) 0x01) (λ e. features clearHalt 0 (lit≤ tt) unhalted)
-      (λ e. chosen (Answered v d) (eqb (s .bRequest) 0x03) (λ e. features setHalt 1 (lit≤ tt) halted)
-      (λ e. chosen (Answered v d) (eqb (s .bRequest) 0x05) (λ e. let (a, b) = addressAllowed (d .state) s p (eqb-true (s .bRequest) 5 e) in changes (waits (s .wValue) a b))
+      (λ e. chosen (Answered v d) (eqb (s .bRequest) 0x01) (λ e. features clearHalt (wakes-or-not 0 (lit≤ tt)) unhalted)
+      (λ e. chosen (Answered v d) (eqb (s .bRequest) 0x03) (λ e. features setHalt (chosen (Answered v d) (namesTestMode (v .paired) s) (λ n. test-mode) (λ n. wakes-or-not 1 (lit≤ tt))) halted)
+      (λ e. chosen (Answered v d) (eqb (s .bRequest) 0x05) (λ e. let (a, b) = addressAllowed (stateFor (v .paired) d s) (setupFor (v .paired) s) p (eqb-true (s .bRequest) 5 e) in changes (waits (s .wValue) a (rw (own-state 5 e refl) at b) t))
       (λ e. chosen (Answered v d) (eqb (s .bRequest) 0x06) (λ e. descriptors)
       (λ e. chosen (Answered v d) (eqb (s .bRequest) 0x08) (λ e. reads _ refl refl)
-      (λ e. chosen (Answered v d) (eqb (s .bRequest) 0x09) (λ e. configurations (configurationAllowed (d .state) s p (eqb-true (s .bRequest) 9 e)) w)
+      (λ e. chosen (Answered v d) (eqb (s .bRequest) 0x09) (λ e. configurations (rw (own-state 9 e refl) at (configurationAllowed (stateFor (v .paired) d s) (setupFor (v .paired) s) p (eqb-true (s .bRequest) 9 e))) w)
       (λ e. chosen (Answered v d) (eqb (s .bRequest) 0x0A) (λ e. chosen (Answered v d) (hasInterface (selected v d) (s .wIndex)) (λ e. reads _ refl refl) (λ e. missing))
       (λ e. chosen (Answered v d) (hasSetting (selected v d) (s .wIndex) (s .wValue)) (λ e. changes (sets (s .wIndex) (s .wValue) e)) (λ e. missing)))))))))
 
@@ -209,9 +228,12 @@ module _ (v : View) (d : Device) (s : Setup) where
 module _ (v : View) (d : Device) where
   setup : (s : Setup) → Answered v (settled d) (answerSetup v d s)
   unfolding answerSetup
-  setup s = chosen (Answered v (settled d)) (eqb (refusal (d .state) s) 0)
-      (λ e. answered v (settled d) s refl (eqb-true (refusal (d .state) s) 0 e))
-      (λ e. let (l, h) = tableRefuses (d .state) s (eqb-false (refusal (d .state) s) 0 e) in refusedWith (refusal (d .state) s) l h)
+  setup s = chosen (Answered v (settled d)) (inTestMode d) (λ t. inTest t)
+      (λ t. chosen (Answered v (settled d)) (eqb (refusalFor (v .paired) d s) 0)
+      (λ e. answered v (settled d) s refl t (eqb-true (refusalFor (v .paired) d s) 0 e))
+      (λ e.
+      let n = refusalFor (v .paired) d s in
+      let (l, h) = tableRefuses (stateFor (v .paired) d s) (setupFor (v .paired) s) (eqb-false n 0 e) in refusedWith n l h))
 
   found : (a : ℕ) {e : Endpoint} → endpointAt v d a ≡ some e → List·Memᴰ e (currentEndpoints v d)
   found a p = first-some (λ e. eqb (e .address) a) (currentEndpoints v d) p .0
@@ -220,8 +242,13 @@ module _ (v : View) (d : Device) where
   unfolding statusEnd halt packetPassed
   responded (Request s) = answers (setup s)
   responded Malformed = refuses malformed
-  responded StatusEnd = chosen (Responded v d StatusEnd) (eqb (d .waiting) nothing) (λ e. leaves) (λ e. becomes (applies (eqb-false (d .waiting) nothing e)))
-  responded BusReset = becomes resets
+  responded StatusEnd = chosen (Responded v d StatusEnd) (eqb (d .waiting) nothing) (λ e. leaves)
+      (λ e. chosen (Responded v d StatusEnd) (leb (testWaiting 0) (d .waiting))
+      (λ t. becomes (enters (eqb-false (d .waiting) nothing e) (leb-true _ _ t)))
+      (λ t. becomes (applies (eqb-false (d .waiting) nothing e) (leb-false _ _ t))))
+  responded (BusReset speed) = chosen (Responded v d (BusReset speed)) (goodReset (v .paired) speed)
+      (λ g. chosen (λ x. Responded v d (BusReset speed) (done x)) (inTestMode d) (λ t. leaves) (λ t. becomes (resets speed g)))
+      (λ g. refuses noReset)
   responded (Halt a) = at (endpointAt v d a) refl
     where
       at : (o : Option Endpoint) → endpointAt v d a ≡ o → Responded v d (Halt a) (haltAt d o)

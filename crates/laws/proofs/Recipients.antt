@@ -12,6 +12,8 @@ use Rattle.octets.proofs.Sentences.{both, if-then, first-some, every-member}
 use Rattle.requests.specs.declared.Setup.{Setup}
 use Rattle.requests.specs.declared.Row.{Row}
 use Rattle.requests.specs.Setup.{recipient}
+use Rattle.records.specs.declared.Device.{Device}
+use Rattle.events.specs.Step.{stateFor, setupFor, refusalFor}
 use Rattle.requests.specs.Table.{table, rowOf, inState, fieldsFit, refusalAt, refusal}
 
 -- the row that let a setup through
@@ -56,7 +58,7 @@ pub record Tabled (s : Setup) : Type 0 where
   pub alone : ofDevice (s .bRequest) ≡ true → recipient s ≡ 0
   pub other : ofDevice (s .bRequest) ≡ false → ofAny (s .bRequest) ≡ false → recipient s ≡ 1
 
-pub table-fits : (state : ℕ) (s : Setup) → refusal state s ≡ 0 → Tabled s
+table-fits : (state : ℕ) (s : Setup) → refusal state s ≡ 0 → Tabled s
 unfolding every
 table-fits state s p =
     let f = tabled inTable refl state s p in
@@ -67,3 +69,9 @@ table-fits state s p =
       alone = λ q. eqb-true _ _ (if-then (ofDevice (s .bRequest)) (eqb (recipient s) 0) b q);
       other = λ q r. eqb-true _ _ (rw (q, r) at c);
     }
+
+-- what the table judges is the setup but for its index
+pub table-passes : (paired : Bool) (d : Device) (s : Setup) → refusalFor paired d s ≡ 0 → Tabled s
+table-passes paired d s p =
+    let t = table-fits (stateFor paired d s) (setupFor paired s) p in
+    record { known = t .known; alone = t .alone; other = t .other }

@@ -6,27 +6,29 @@ use mathlib.Core.Bool.{Bool, true, false, not}
 use mathlib.Core.List.{List}
 use Rattle.octets.specs.Sentences.{pick}
 use Rattle.descriptors.specs.declared.Limits.{Limits}
-use Rattle.descriptors.specs.Limits.{fullSpeed}
 use Rattle.sets.specs.Opening.{Board, goodDevices, goodConfigurations, goodBlock, opening}
 use Rattle.sets.specs.Contents.{goodFrame, goodContents}
 use Rattle.sets.specs.Strings.{goodStrings}
 use Rattle.sets.specs.View.{View, viewOf}
 use Rattle.sets.proofs.Groups.{Groups, inside}
 use Rattle.records.specs.declared.Device.{Device}
-use Rattle.records.specs.Device.{nothing, settled, withWaiting, withSuspended}
+use Rattle.records.specs.Current.{boardFor, viewFor}
+use Rattle.records.proofs.InUse.{rowFor}
+use Rattle.records.specs.Device.{nothing, inTestMode, settled, withWaiting, withSuspended}
 use Rattle.records.specs.Image.{deviceOf, imageOf, settledImage}
 use Rattle.requests.specs.declared.Setup.{Setup}
 use Rattle.events.specs.declared.Event.{Event}
 use Rattle.events.specs.declared.Event.the-variants.{Request}
 use Rattle.events.specs.declared.Outcome.{Outcome}
 use Rattle.events.specs.Answer.{numberOf, partOf, refused}
-use Rattle.events.specs.Places.{Inside}
-use Rattle.laws.proofs.Outcomes.{reads, fromSet, fromSerial, changes, refusedWith, Refusable, Responded, answers, leaves, becomes, refuses}
+use Rattle.events.specs.Places.{InsideAt}
+use Rattle.laws.proofs.Outcomes.{reads, fromSet, fromSerial, changes, refusedWith, inTest, Refusable, Responded, answers, leaves, becomes, refuses}
 
--- an outcome by its number: done; a setup refused by its rules, once it has settled; or a refusal that settles nothing
+-- an outcome by its number: done; a setup refused by its rules or in a test mode, once it has settled; or a refusal that settles nothing
 pub data Numbered (d : Device) : Event → Outcome → Type 0 where
   notRefused : {e : Event} {o : Outcome} → numberOf (o .answer) ≡ 0 → Numbered d e o
   refusedSetup : {s : Setup} {n : ℕ} → 10 ≤ n → n ≤ 14 → Numbered d (Request s) (refused n (settled d))
+  refusedInTest : {s : Setup} → inTestMode d ≡ true → Numbered d (Request s) (refused 17 (settled d))
   refusedOther : {e : Event} {n : ℕ} → Refusable e n → Numbered d e (refused n d)
 
 pub numbered : {v : View} {d : Device} {e : Event} {o : Outcome} → Responded v d e o → Numbered d e o
@@ -35,19 +37,21 @@ numbered (answers (fromSet e n m)) = notRefused refl
 numbered (answers (fromSerial n)) = notRefused refl
 numbered (answers (changes c)) = notRefused refl
 numbered (answers (refusedWith n l h)) = refusedSetup l h
+numbered (answers (inTest t)) = refusedInTest t
 numbered leaves = notRefused refl
 numbered (becomes c) = notRefused refl
 numbered (refuses r) = refusedOther r
 
 -- ---- parts
-module _ (b : Board) (g : Groups fullSpeed b) where
-  pub placed : {d : Device} {e : Event} {o : Outcome} → Responded (viewOf b) d e o → Inside (b .set) (b .serial) (partOf (o .answer))
+module _ (b : Board) (speed : ℕ) (g : Groups (rowFor (b .high) speed) (boardFor b speed)) where
+  pub placed : {d : Device} {e : Event} {o : Outcome} → Responded (viewFor b speed) d e o → InsideAt b speed (partOf (o .answer))
   unfolding viewOf
   placed (answers (reads a p q)) = rw q (omega arith)
-  placed (answers (fromSet e n m)) = omega (arith, inside fullSpeed b g e m)
+  placed (answers (fromSet e n m)) = omega (arith, inside (rowFor (b .high) speed) (boardFor b speed) g e m)
   placed (answers (fromSerial n)) = omega arith
   placed (answers (changes c)) = omega arith
   placed (answers (refusedWith n l h)) = omega arith
+  placed (answers (inTest t)) = omega arith
   placed leaves = omega arith
   placed (becomes c) = omega arith
   placed (refuses r) = omega arith

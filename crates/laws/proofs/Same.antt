@@ -2,13 +2,17 @@
 -- interface's part, may be done again and may change places. No axiom.
 use Prim.Native.Nat.{ℕ}
 use mathlib.Core.Path.{_≡_, refl, sym, ap, subst, _∙_}
+use mathlib.Core.List.{List}
+use mathlib.Core.Option.{Option, some, none}
 use lib.Seq.{ext-getD}
+use lib.Dec.{eqb}
+use Rattle.octets.specs.Sentences.{pick}
 use Rattle.octets.proofs.Bits.{ext-bits}
 use Rattle.sets.specs.Opening.{Board}
-use Rattle.sets.specs.View.{View}
+use Rattle.sets.specs.View.{View, viewOf}
 use Rattle.records.specs.declared.Device.{Device}
-use Rattle.records.specs.Current.{viewFor, viewAt}
-use Rattle.records.specs.Device.{Sized}
+use Rattle.records.specs.Current.{inUse, orEmpty, viewFor, viewAt}
+use Rattle.records.specs.Device.{atFullSpeed, Sized}
 use Rattle.laws.specs.Parts.{Shared, shared, home, SameIn, Same, rest, Settling, keeps, settles, wakes, settledBy, settle}
 
 -- ---- the laws of Same
@@ -57,6 +61,19 @@ module _ (v : View) where
       }
 
 -- ---- on a board
+-- one set is in use at speeds that are both full or both not
+in-use : {A : Type 0} (high : Option (List ℕ)) (s t : ℕ) (x y : A) → eqb s atFullSpeed ≡ eqb t atFullSpeed → inUse high s x y ≡ inUse high t x y
+in-use none s t x y p = refl
+in-use (some set) s t x y p = ap (λ q. pick q x y) p
+
+pub one-view : (b : Board) (s t : ℕ) → eqb s atFullSpeed ≡ eqb t atFullSpeed → viewFor b s ≡ viewFor b t
+one-view b s t p = ap (λ set. viewOf (record { set = set; serial = b .serial; high = b .high })) (in-use (b .high) s t (b .set) (orEmpty (b .high)) p)
+
+-- two sets are lent, or one, at every speed
+pub one-board : (b : Board) (s t : ℕ) → viewFor b s .paired ≡ viewFor b t .paired
+unfolding viewOf
+one-board b s t = refl
+
 -- records that anybody cannot tell apart are at one speed, so one set is in use
 pub same-view : (b : Board) (r s : Device) → shared r ≡ shared s → viewAt b r ≡ viewAt b s
 same-view b r s p = ap (λ (x : Shared). viewFor b (x .speed)) p

@@ -18,23 +18,22 @@ use Rattle.descriptors.specs.declared.Endpoint.{Endpoint}
 use Rattle.descriptors.specs.Configuration.{Configuration, hasInterface, hasSetting, canHalt, bitOf, ofEither}
 use Rattle.sets.specs.View.{View}
 use Rattle.records.specs.declared.Device.{Device}
-use Rattle.records.specs.Device.{awake, settled, withEndpoints}
+use Rattle.records.specs.Device.{inTestMode, awake, settled, withEndpoints}
 use Rattle.records.specs.Current.{selected, endpointAt}
 use Rattle.requests.specs.declared.Setup.{Setup}
 use Rattle.requests.specs.Setup.{recipient}
-use Rattle.requests.specs.Table.{refusal}
 use Rattle.events.specs.declared.Outcome.{Outcome}
 use Rattle.events.specs.declared.Event.{Event}
 use Rattle.events.specs.declared.Event.the-variants.{Request, Malformed, StatusEnd, BusReset, Halt, PacketPassed, Power, Suspend, Resume, Wake}
 use Rattle.events.specs.Requests.{getStatus, endpointStatus, isEndpointZero, interfaceFeature, haltFeature, endpointFeature, clearHalt, setHalt, clearFeature, setFeature, getInterface, withSetting, setInterface}
-use Rattle.events.specs.Step.{request, answerSetup, haltAt, halt, passAt, packetPassed, respond}
+use Rattle.events.specs.Step.{request, refusalFor, answerSetup, haltAt, halt, passAt, packetPassed, respond}
 use Rattle.events.specs.Concerns.{listedBy, setupConcerns, eventConcerns}
 use Rattle.sets.specs.Sound.{SoundConfiguration}
 use Rattle.laws.specs.Parts.{home, homeIn, shared, SameIn, rest, settledBy, kind}
 use Rattle.laws.proofs.Same.{self}
 use Rattle.laws.proofs.Outcomes.{chosen}
 use Rattle.laws.proofs.Homes.{AllIn, all-in, at-home, found-home, cleared-other}
-use Rattle.laws.proofs.Recipients.{ofDevice, Tabled, table-fits}
+use Rattle.laws.proofs.Recipients.{ofDevice, Tabled, table-passes}
 
 -- x differs from d in j's part alone
 pub record Touches (v : View) (j : ℕ) (d x : Device) : Type 0 where
@@ -187,9 +186,12 @@ module _ (v : View) (j : ℕ) (d : Device) (S : SoundConfiguration (selected v d
 touch-setup : (v : View) (j : ℕ) (d : Device) → SoundConfiguration (selected v d) → (q : Setup) → setupConcerns (selected v d) q ≡ some j
     → Touches v j (settled d) (answerSetup v d q .device)
 unfolding answerSetup
-touch-setup v j d S q c = chosen (λ (o : Outcome). Touches v j (settled d) (o .device)) (eqb (refusal (d .state) q) 0)
-    (λ p. touch-request v j (settled d) S q (table-fits (d .state) q (eqb-true _ _ p)) (setup-of (selected v d) S q j c))
-    (λ p. touch-none v j (settled d) _ refl)
+touch-setup v j d S q c =
+    let P : Outcome → Type 0 = λ o. Touches v j (settled d) (o .device) in
+    chosen P (inTestMode d) (λ t. touch-none v j (settled d) _ refl)
+    (λ t. chosen P (eqb (refusalFor (v .paired) d q) 0)
+    (λ p. touch-request v j (settled d) S q (table-passes (v .paired) d q (eqb-true _ _ p)) (setup-of (selected v d) S q j c))
+    (λ p. touch-none v j (settled d) _ refl))
 
 -- a packet that is accepted also wakes the device
 touch-pass : (v : View) (j : ℕ) (d : Device) → SoundConfiguration (selected v d) → (a : ℕ) → AllIn (selected v d) a j
@@ -207,7 +209,7 @@ pub touch-event : (v : View) (j : ℕ) (d : Device) → SoundConfiguration (sele
 touch-event v j d S (Request q) c = touch-setup v j d S q c
 touch-event v j d S Malformed c = absurd (let z : _≡_ {A = ℕ} 0 1 = cc in omega arith)
 touch-event v j d S StatusEnd c = absurd (let z : _≡_ {A = ℕ} 0 1 = cc in omega arith)
-touch-event v j d S BusReset c = absurd (let z : _≡_ {A = ℕ} 0 1 = cc in omega arith)
+touch-event v j d S (BusReset speed) c = absurd (let z : _≡_ {A = ℕ} 0 1 = cc in omega arith)
 touch-event v j d S (Halt a) c = touch-halt v j d S a (all-in (selected v d) S a j (λ i m. Option·some-injective i j (sym m ∙ c)))
 touch-event v j d S (PacketPassed a) c = touch-pass v j d S a (all-in (selected v d) S a j (λ i m. Option·some-injective i j (sym m ∙ c)))
 touch-event v j d S (Power source) c = absurd (let z : _≡_ {A = ℕ} 0 1 = cc in omega arith)

@@ -18,8 +18,7 @@ use Rattle.descriptors.specs.Interfaces.{grouped, goodInterfaces}
 use Rattle.descriptors.specs.Configuration.{bConfigurationValue, bNumInterfaces, bMaxPower, configurationAttributes, wTotalLength, behind, goodHead, goodDescriptors, goodConfiguration}
 use Rattle.sets.specs.declared.Entry.{Entry}
 use Rattle.sets.specs.Contents.{entries, entriesOf, bodyOf, bodies, isKind, total, count, bodiesAt, before, goodFrame, endToEnd, goodContents}
-use Rattle.sets.specs.Opening.{Board, numberedFrom, goodConfigurations}
-use Rattle.sets.specs.View.{openingOf}
+use Rattle.sets.specs.Opening.{Board, numberedFrom, goodConfigurations, opening}
 use Rattle.sets.proofs.Groups.{Groups, groups}
 use Rattle.listing.specs.Listing.{digits, fields, line, acceptedWord, refusedWord, configurationLines, acceptedLines, listing}
 use Rattle.listing.specs.Listed.{room}
@@ -143,8 +142,8 @@ accepted-length limits b g =
 -- every board's text
 pub listing-length : (b : Board) → length (listing b) ≤ room
 unfolding listing
-listing-length b = go (eqb (openingOf b) 0) refl
+listing-length b = go (eqb (opening fullSpeed b) 0) refl
   where
-    go : (t : Bool) → eqb (openingOf b) 0 ≡ t → length (pick t (acceptedLines (b .set)) (line refusedWord (openingOf b ∷ []))) ≤ room
-    go true p = accepted-length fullSpeed b (groups fullSpeed b (eqb-true (openingOf b) 0 p))
-    go false p = omega (arith, line-length refusedWord (openingOf b ∷ []))
+    go : (t : Bool) → eqb (opening fullSpeed b) 0 ≡ t → length (pick t (acceptedLines (b .set)) (line refusedWord (opening fullSpeed b ∷ []))) ≤ room
+    go true p = accepted-length fullSpeed b (groups fullSpeed b (eqb-true (opening fullSpeed b) 0 p))
+    go false p = omega (arith, line-length refusedWord (opening fullSpeed b ∷ []))

@@ -13,8 +13,7 @@ use Rattle.descriptors.specs.declared.Limits.{Limits}
 use Rattle.descriptors.specs.Limits.{fullSpeed}
 use Rattle.descriptors.specs.Configuration.{goodConfiguration}
 use Rattle.sets.specs.Contents.{bodies}
-use Rattle.sets.specs.Opening.{Board}
-use Rattle.sets.specs.View.{openingOf}
+use Rattle.sets.specs.Opening.{Board, opening}
 use Rattle.sets.proofs.Groups.{groups}
 use Rattle.listing.specs.Listing.{line, refusedWord, acceptedLines, listing}
 use Rattle.writing.specs.Written.{Room, Wrote}
@@ -22,14 +21,14 @@ use Rattle.listing.specs.Listed.{room, Listed}
 use Rattle.listing.proofs.Bound.{good-bodies, listing-length}
 
 -- n is what opening answered
-module _ (b : Board) (n : ℕ) (o : n ≡ openingOf b) where
+module _ (b : Board) (n : ℕ) (o : n ≡ opening fullSpeed b) where
   pub refused : (n ≡ 0 → ⊥) → listing b ≡ line refusedWord (n ∷ [])
   unfolding listing
-  refused p = rw (o, ne-eqb (openingOf b) 0 (λ q. p (o ∙ q)))
+  refused p = rw (o, ne-eqb (opening fullSpeed b) 0 (λ q. p (o ∙ q)))
 
   pub accepted : n ≡ 0 → listing b ≡ acceptedLines (b .set)
   unfolding listing
-  accepted p = rw (eq-eqb (openingOf b) 0 (sym o ∙ p))
+  accepted p = rw (eq-eqb (opening fullSpeed b) 0 (sym o ∙ p))
 
   pub good : n ≡ 0 → (l : Limits) × (every (goodConfiguration l) (bodies 2 (b .set)) ≡ true)
   good p = (fullSpeed, good-bodies fullSpeed (b .set) (groups fullSpeed b (sym o ∙ p) .configurations))

@@ -7,9 +7,9 @@ use Rattle.octets.specs.Sentences.{pick}
 use Rattle.descriptors.specs.Descriptor.{bInterfaceNumber, bAlternateSetting, bNumEndpoints, bEndpointAddress, bmAttributes, transferType, wMaxPacketSize}
 use Rattle.descriptors.specs.Interfaces.{Group}
 use Rattle.descriptors.specs.Configuration.{bConfigurationValue, bNumInterfaces, groupsOf}
+use Rattle.descriptors.specs.Limits.{fullSpeed}
 use Rattle.sets.specs.Contents.{bodies}
-use Rattle.sets.specs.Opening.{Board}
-use Rattle.sets.specs.View.{openingOf}
+use Rattle.sets.specs.Opening.{Board, opening}
 
 -- ---- "in decimal": the last n digits and those before them; a number of two bytes has at most five
 unfoldable pub digits : ℕ → ℕ → List ℕ
@@ -50,6 +50,6 @@ configurationLines body = line (67 ∷ []) (bConfigurationValue body ∷ bNumInt
 abbrev pub acceptedLines : List ℕ → List ℕ
 acceptedLines set = line acceptedWord (length (bodies 2 set) ∷ []) ++ flatMap configurationLines (bodies 2 set)
 
--- "A refused set gives the one line REFUSED, a space and the number."
+-- of a set lent alone. "A refused set gives the one line REFUSED, a space and the number."
 unfoldable pub listing : Board → List ℕ
-listing b = let n = openingOf b in pick (eqb n 0) (acceptedLines (b .set)) (line refusedWord (n ∷ []))
+listing b = let n = opening fullSpeed b in pick (eqb n 0) (acceptedLines (b .set)) (line refusedWord (n ∷ []))

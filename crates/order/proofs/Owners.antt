@@ -136,3 +136,25 @@ module _ {R E A W M : Type 0} {answer : R → E → A} {next : R → E → R} {G
     free-rest = λ k r s e g d o h w. rw (n r e g, n s e d) (P .free-rest k r s e g d o h w);
     whole = P .whole;
   }
+
+  -- an answer together with what everybody sees of the record that the event found
+  pub seen : {B : Type 0} (see : R → B) → ((k : ℕ) (r s : R) → Same k r s → see r ≡ see s)
+      → Owners {A = B × A} (λ r e. (see r, answer r e)) next Good owned who Same rest (λ e a. kind e (a .1)) settle
+  seen see by = record {
+    keeps = P .keeps;
+    self = P .self;
+    turn = P .turn;
+    join = P .join;
+    owned-by = P .owned-by;
+    who-by = P .who-by;
+    reply = λ k r s e g d o w h. λ i. (by k r s h i, P .reply k r s e g d o w h i);
+    local = P .local;
+    apart = P .apart;
+    rests = P .rests;
+    again = P .again;
+    commute = P .commute;
+    free-reply = λ k r s e g d o h w. λ i. (by k r s h i, P .free-reply k r s e g d o h w i);
+    free-local = P .free-local;
+    free-rest = P .free-rest;
+    whole = P .whole;
+  }

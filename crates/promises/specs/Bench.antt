@@ -6,7 +6,7 @@ use lib.ListN.{length, set, replicate}
 use lib.Dec.{eqb}
 use Rattle.octets.specs.Sentences.{pick}
 use Rattle.descriptors.specs.Limits.{fullSpeed}
-use Rattle.sets.specs.Opening.{Board, opening}
+use Rattle.sets.specs.Opening.{Board, lent, opening}
 use Rattle.records.specs.declared.Device.{Device}
 use Rattle.records.specs.Device.{inAddress, inConfigured, zeros, fresh, withWaiting, withAddress, withConfiguration, withEndpoints}
 use Rattle.events.specs.declared.Event.{Event}
@@ -53,7 +53,7 @@ abbrev sent : Event → Values → List ℕ
 sent (Request s) v = pick (eqb (v .number) 0) (packetLengths (length (v .bytes) + v .part .length) (s .wLength) 8) []
 sent Malformed v = []
 sent StatusEnd v = []
-sent BusReset v = []
+sent (BusReset speed) v = []
 sent (Halt n) v = []
 sent (PacketPassed n) v = []
 sent (Power source) v = []
@@ -93,7 +93,7 @@ setup x = setupEvent (bytes 8 x)
 
 -- S with its interface's bLength 0
 abbrev pub stands : Board
-stands = record { set = set (S .set) 47 0; serial = [] }
+stands = lent (set (S .set) 47 0) []
 
 pub record PRow : Type 0 where
   pub asked : Asked

@@ -8,7 +8,8 @@ use Rattle.descriptors.specs.Interfaces.{grouped, endpointsOf, endsAt}
 use Rattle.descriptors.specs.Configuration.{goodDescriptors, goodConfiguration, groupsOf, configurationOf, configurationReferences, cleared}
 use Rattle.sets.specs.Contents.{entriesFrom, goodFrame, endToEnd, goodContents}
 use Rattle.sets.specs.Strings.{words, languages, references, goodStrings}
-use Rattle.sets.specs.Opening.{Board, goodDevices, numberedFrom, goodConfigurations, goodBlock, opening}
+use Rattle.sets.specs.Opening.{Board, lent, goodDevices, numberedFrom, goodConfigurations, goodBlock, opening}
+use Rattle.sets.specs.Pair.{same, qualifies, mirrorsAll, mirrors, openingTwo}
 use Rattle.sets.specs.View.{viewOf}
 use Rattle.records.specs.Image.{fourBytes, bytesOfFour, deviceOf, imageOf}
 use Rattle.records.specs.Fits.{fits}
@@ -51,7 +52,7 @@ laid ps =
     two (4 + length contents) ++ length ps ∷ 0 ∷ contents
 
 abbrev pub board : List Piece → List ℕ → Board
-board ps serial = record { set = laid ps; serial = serial }
+board ps serial = lent (laid ps) serial
 
 -- a configuration body: value, interfaces, its string, attributes, bMaxPower, and the descriptors after the first
 abbrev pub configuration : ℕ → ℕ → ℕ → ℕ → ℕ → List (List ℕ) → List ℕ
@@ -78,12 +79,12 @@ string text = (2 + length text) ∷ 3 ∷ text
 
 -- a statement that says `unfolding computed` computes with all the definitions
 unfoldable pub computed : ℕ
-unfolding every any only first pairs neighbours below from cutAfter descriptorsOf wellCut grouped endpointsOf endsAt goodDescriptors goodConfiguration groupsOf configurationOf configurationReferences cleared entriesFrom goodFrame endToEnd goodContents words languages references goodStrings goodDevices numberedFrom goodConfigurations goodBlock opening viewOf fourBytes bytesOfFour deviceOf imageOf fits refusal getStatus clearFeature setFeature setAddress locate getDescriptor getConfiguration setConfiguration getInterface setInterface request answerSetup statusEnd halt packetPassed step event opened concerns packet digits fields listing flatMap entriesAt
+unfolding every any only first pairs neighbours below from cutAfter descriptorsOf wellCut grouped endpointsOf endsAt goodDescriptors goodConfiguration groupsOf configurationOf configurationReferences cleared entriesFrom goodFrame endToEnd goodContents words languages references goodStrings goodDevices numberedFrom goodConfigurations goodBlock opening same qualifies mirrorsAll mirrors openingTwo viewOf fourBytes bytesOfFour deviceOf imageOf fits refusal getStatus clearFeature setFeature setAddress locate getDescriptor getConfiguration setConfiguration getInterface setInterface request answerSetup statusEnd halt packetPassed step event opened concerns packet digits fields listing flatMap entriesAt
 computed = 0
 
 -- ---- the bench set S, byte for byte as document 01 prints it
 abbrev pub S : Board
-S = record { set = bytes 63 0x3F000200_0100000014001200_0200000026001900_12010002FF00000834127856000100000001_090219000101008032_0904000001FF000000_0705810308000A; serial = [] }
+S = lent (bytes 63 0x3F000200_0100000014001200_0200000026001900_12010002FF00000834127856000100000001_090219000101008032_0904000001FF000000_0705810308000A) []
 
 -- ---- the titrator T: one configuration that can wake the host, interface 0 with two settings (bulk; bulk and interrupt), interface 1 with a
 -- class descriptor and two settings (nothing; isochronous and interrupt), strings 1 and 2 in German and English, string 5 in English alone, serial index 3

@@ -5,9 +5,8 @@ use mathlib.Core.List.{List}
 use lib.ListN.{length}
 use borrow.Author.Tests.{eq-eqb}
 use Rattle.octets.proofs.Sentences.{cases}
-use Rattle.sets.specs.Opening.{Board}
+use Rattle.sets.specs.Opening.{Board, BytesOf}
 use Rattle.sets.specs.View.{accepted}
-use Rattle.octets.specs.Octets.{Bytes}
 use Rattle.records.specs.declared.Device.{Device}
 use Rattle.records.specs.Image.{deviceOf, imageOf}
 use Rattle.records.specs.Fits.{fitsOn}
@@ -22,7 +21,7 @@ unfolding event
 onImage b d e z = rw (eq-eqb (length (imageOf d)) 32 (image-length d (z .sixteen)), device-image d z)
 
 -- a record stays one of the size that the code has, whatever the board and the event
-pub stepSized : (b : Board) → Bytes (b .set) → (d : Device) (e : Event) → Sized d → Sized (step b d e .device)
+pub stepSized : (b : Board) → BytesOf b → (d : Device) (e : Event) → Sized d → Sized (step b d e .device)
 unfolding step
 stepSized b bytes d e z = cases (accepted b)
     (λ p. cases (fitsOn b d) (λ q. stepFits b bytes p d e z q .1) (λ q. rw (p, q) z))
@@ -40,5 +39,5 @@ module _ (b : Board) (image : List ℕ) (e : Event) (f : FitImage b image) where
   pub answersAs : event b image e .answer ≡ step b (deviceOf image) e .answer
   answersAs = ap (λ (r : Reply). r .answer) shown
 
-  pub leavesAs : Bytes (b .set) → deviceOf (event b image e .image) ≡ step b (deviceOf image) e .device
+  pub leavesAs : BytesOf b → deviceOf (event b image e .image) ≡ step b (deviceOf image) e .device
   leavesAs bytes = ap (λ (r : Reply). deviceOf (r .image)) shown ∙ device-image _ (stepSized b bytes (deviceOf image) e (f .sized))

@@ -9,7 +9,7 @@ use lib.Dec.{ltb}
 use borrow.Author.Tests.{ltb-true}
 use Rattle.octets.specs.Sentences.{every}
 use Rattle.octets.proofs.Sentences.{both}
-use Rattle.sets.specs.Opening.{Board}
+use Rattle.sets.specs.Opening.{Board, BytesOf, lent}
 use Rattle.sets.specs.View.{viewOf, accepted}
 use Rattle.records.specs.declared.Device.{Device}
 use Rattle.records.specs.Device.{nothing, zeros, fresh, withWaiting, withEndpoints, Sized}
@@ -42,20 +42,20 @@ octets [] p i = omega arith
 octets (x ∷ l) p zero = ltb-true x 256 (both (ltb x 256) (every (λ x. ltb x 256) l) p .0)
 octets (x ∷ l) p (suc i) = octets l (both (ltb x 256) (every (λ x. ltb x 256) l) p .1) i
 
-pub bytesS : Bytes (S .set)
+pub bytesS : BytesOf S
 unfolding computed
-bytesS = octets (S .set) refl
+bytesS = (octets (S .set) refl, tt)
 
 pub soundS : Sound (S .set) (viewOf S)
-soundS = sound S bytesS acceptedS
+soundS = sound S bytesS acceptedS 0
 
 pub acceptedT : accepted T ≡ true
 unfolding computed
 acceptedT = refl
 
-pub bytesT : Bytes (T .set)
+pub bytesT : BytesOf T
 unfolding computed
-bytesT = octets (T .set) refl
+bytesT = (octets (T .set) refl, tt)
 
 -- ---- records: Default with address 5 waiting, Configured at address 5
 abbrev pub waiting : Device
@@ -87,7 +87,7 @@ pub stillFits : fitsOn S halted ≡ true
 stillFits = rw haltsIt at (stepFits S bytesS acceptedS configured (Halt 0x81) configuredSized configuredFits .0)
 
 -- a record that does not fit is refused, so `fits` is no empty word: a halt where no endpoint stands
-pub unfit : (fitsOn S (withEndpoints zeros 2 0 configured) ≡ false) × (numberOf (step S (withEndpoints zeros 2 0 configured) BusReset .answer) ≡ 8)
+pub unfit : (fitsOn S (withEndpoints zeros 2 0 configured) ≡ false) × (numberOf (step S (withEndpoints zeros 2 0 configured) (BusReset 0) .answer) ≡ 8)
 unfolding computed
 unfit = (refl, refl)
 
@@ -108,7 +108,7 @@ pub keeps9 : (step S waiting (setupEvent []) .answer ≡ Refused 9) × (step S w
 unfolding computed
 keeps9 = (refl, refl)
 
-pub keeps7 : (step (record { set = []; serial = [] }) waiting StatusEnd .answer ≡ Refused 7) × (step (record { set = []; serial = [] }) waiting StatusEnd .device ≡ waiting)
+pub keeps7 : (step (lent [] []) waiting StatusEnd .answer ≡ Refused 7) × (step (lent [] []) waiting StatusEnd .device ≡ waiting)
 unfolding computed
 keeps7 = (refl, refl)
 
@@ -157,10 +157,7 @@ reachedAddress = refl
 
 -- ---- opening: a refused set leaves the fresh record too (S with its interface's bLength 0), and an image that is not 32 bytes stays
 abbrev pub broken : Board
-broken = record {
-  set = bytes 63 0x3F00020001000000140012000200000026001900120100_02FF0000083412785600010000000109021900010100803200040000_01FF0000000705810308000A;
-  serial = [];
-}
+broken = lent (bytes 63 0x3F00020001000000140012000200000026001900120100_02FF0000083412785600010000000109021900010100803200040000_01FF0000000705810308000A) []
 
 pub opensBroken : (opened broken (replicate 32 170) .number ≡ 4) × (opened broken (replicate 32 170) .image ≡ 0 ∷ 0 ∷ 255 ∷ replicate 29 0)
 unfolding computed

@@ -2,29 +2,30 @@
 -- So 8 never follows from the library's own calls. No axiom.
 use Prim.Native.Nat.{ℕ}
 use native.Mathlib.Omega.{arith}
-use mathlib.Core.Path.{_≡_, sym, ap, _∙_}
+use mathlib.Core.Path.{_≡_, refl, sym, ap, _∙_}
 use mathlib.Core.List.{List}
-use mathlib.Core.Bool.{true, false, _||_, false≢true}
+use mathlib.Core.Bool.{true, false, _&&_, false≢true}
 use lib.ListN.{length}
 use lib.Dec.{eqb}
 use borrow.Author.Tests.{eq-eqb}
 use Rattle.octets.proofs.Sentences.{cases}
-use Rattle.sets.specs.Opening.{Board}
-use Rattle.sets.specs.View.{viewOf, accepted}
+use Rattle.sets.specs.Opening.{Board, BytesOf}
+use Rattle.sets.specs.View.{accepted}
 use Rattle.records.specs.declared.Device.{Device}
-use Rattle.records.specs.Device.{fresh, Sized}
+use Rattle.records.specs.Device.{fresh, inTestMode, Sized}
 use Rattle.records.specs.Image.{deviceOf, imageOf}
+use Rattle.records.specs.Current.{viewAt}
 use Rattle.records.specs.Fits.{fitsOn}
 use Rattle.records.proofs.Image.{device-image, image-device, image-length, device-sized}
 use Rattle.events.specs.declared.Event.{Event}
-use Rattle.events.specs.declared.Event.the-variants.{Request, Malformed, StatusEnd, BusReset, Halt, PacketPassed, Power, Suspend, Resume, Wake}
 use Rattle.events.specs.Answer.{numberOf}
 use Rattle.events.specs.Step.{respond, step, event, opened}
 use Rattle.octets.specs.Octets.{Bytes}
 use Rattle.promises.specs.Sound.{sound}
+use Rattle.laws.specs.Parts.{drops}
 use Rattle.laws.proofs.Outcomes.{responded}
-use Rattle.promises.specs.Refusal.{refuses}
-use Rattle.promises.specs.Refusals.{stepNumber}
+use Rattle.promises.specs.Refusal.{allowsFit}
+use Rattle.promises.specs.Refusals.{notOwn, stepNumber}
 use Rattle.laws.proofs.Fitting.{fitting, fitted}
 use Rattle.laws.proofs.Changes.{Fit, freshFits, respondedFits}
 
@@ -44,17 +45,17 @@ pub data Reached (b : Board) : List ℕ → Type 0 where
   afterOpening : (image : List ℕ) → length image ≡ 32 → Reached b (opened b image .image)
   afterEvent : {image : List ℕ} (e : Event) → Reached b image → Reached b (event b image e .image)
 
-module _ (b : Board) (bytes : Bytes (b .set)) (ok : accepted b ≡ true) where
+module _ (b : Board) (bytes : BytesOf b) (ok : accepted b ≡ true) where
   -- ---- over the record
   pub freshFit : (fitsOn b fresh ≡ true) × Sized fresh
-  freshFit = let g = freshFits (b .set) (viewOf b) (sound b bytes ok) in (fitted (viewOf b) fresh (g .fitting), g .sized)
+  freshFit = let g = freshFits b (sound b bytes ok) in (fitted (viewAt b fresh) fresh (g .fitting), g .sized)
 
   pub stepFits : (d : Device) (e : Event) → Sized d → fitsOn b d ≡ true → (fitsOn b (step b d e .device) ≡ true) × Sized (step b d e .device)
   unfolding step
-  stepFits d e z p = rw (ok, p) (fitted (viewOf b) (respond (viewOf b) d e .device) (next .fitting), next .sized)
-    where
-      next : Fit (viewOf b) (respond (viewOf b) d e .device)
-      next = respondedFits (b .set) (viewOf b) (sound b bytes ok) d (record { fitting = fitting (viewOf b) d p; sized = z }) (responded (viewOf b) d e)
+  stepFits d e z p =
+      let left = respond (viewAt b d) d e .device in
+      let next : Fit (viewAt b left) left = respondedFits b (sound b bytes ok) d (record { fitting = fitting (viewAt b d) d p; sized = z }) (responded (viewAt b d) d e) in
+      rw (ok, p) (fitted (viewAt b left) left (next .fitting), next .sized)
 
   -- ---- over images
   pub imageFits : (d : Device) → (fitsOn b d ≡ true) × Sized d → FitImage b (imageOf d)
@@ -72,23 +73,13 @@ module _ (b : Board) (bytes : Bytes (b .set)) (ok : accepted b ≡ true) where
   reachedFits (afterOpening image l) = openedFits image l
   reachedFits (afterEvent {image} e r) = eventFits image e (reachedFits r)
 
-  -- an image that fits gets no 7 and no 8, only 0 and the event's own refusals
-  pub fitNumber : (image : List ℕ) (e : Event) → FitImage b image → (let n = numberOf (event b image e .answer) in (eqb n 0 || refuses e n) ≡ true)
+  -- an image that fits gets no 7 and no 8, only 0 and the event's own refusals, or 17 in a test mode
+  pub fitNumber : (image : List ℕ) (e : Event) → FitImage b image → (let n = numberOf (event b image e .answer) in allowsFit (deviceOf image) e n ≡ true)
   unfolding event
   fitNumber image e f = rw (eq-eqb (length image) 32 (f .long)) (rw (ok, f .fit) at (stepNumber b (deviceOf image) e))
 
--- no event's own refusal is 8
-not-eight : (e : Event) → (eqb 8 0 || refuses e 8) ≡ true → ⊥
-not-eight (Request s) p = false≢true p
-not-eight Malformed p = false≢true p
-not-eight StatusEnd p = false≢true p
-not-eight BusReset p = false≢true p
-not-eight (Halt a) p = false≢true p
-not-eight (PacketPassed a) p = false≢true p
-not-eight (Power source) p = false≢true p
-not-eight Suspend p = false≢true p
-not-eight Resume p = false≢true p
-not-eight Wake p = false≢true p
+never-allowed : (d : Device) (e : Event) → allowsFit d e 8 ≡ true → ⊥
+never-allowed d e p = cases (inTestMode d && drops e) (λ t. false≢true (rw t at p)) (λ t. notOwn 8 refl refl refl refl refl e (rw t at p))
 
 -- on a board that is not accepted every event gets 7
 unaccepted : (b : Board) → accepted b ≡ false → (image : List ℕ) (e : Event) → numberOf (event b image e .answer) ≡ 7
@@ -96,7 +87,7 @@ unfolding event step
 unaccepted b p image e = cases (eqb (length image) 32) (λ q. rw (q, p)) (λ q. rw (q, p))
 
 -- whatever the board, whatever 32 bytes were opened and whatever events came: no event is answered 8
-pub neverEight : (b : Board) → Bytes (b .set) → {image : List ℕ} → Reached b image → (e : Event) → numberOf (event b image e .answer) ≡ 8 → ⊥
+pub neverEight : (b : Board) → BytesOf b → {image : List ℕ} → Reached b image → (e : Event) → numberOf (event b image e .answer) ≡ 8 → ⊥
 neverEight b bytes {image} r e p = cases (accepted b)
-    (λ ok. not-eight e (rw p at (fitNumber b bytes ok image e (reachedFits b bytes ok r))))
+    (λ ok. never-allowed (deviceOf image) e (rw p at (fitNumber b bytes ok image e (reachedFits b bytes ok r))))
     (λ no-board. let q : _≡_ {A = ℕ} 7 8 = sym (unaccepted b no-board image e) ∙ p in omega arith)

@@ -48,12 +48,12 @@ power =
     -- in Default GET_STATUS stays refused
     on T fresh (Power 1 ∷ status ∷ []) (done [] ∷ refused 11 ∷ []) (withPower 1 fresh) ∷
     -- "Bus reset keeps it"
-    on T configured (Power 1 ∷ BusReset ∷ []) (done [] ∷ done [] ∷ []) (withPower 1 fresh) ∷
+    on T configured (Power 1 ∷ BusReset 0 ∷ []) (done [] ∷ done [] ∷ []) (withPower 1 fresh) ∷
     -- "the power event leaves every other byte": an address goes on waiting
     on S (withWaiting 5 fresh) (Power 1 ∷ StatusEnd ∷ []) (done [] ∷ done [] ∷ []) (withPower 1 addressed) ∷
     -- "a value above 1 gets 16", and a record with one does not fit
     on S (withWaiting 5 fresh) (Power 2 ∷ Power 255 ∷ []) (refused 16 ∷ refused 16 ∷ []) (withWaiting 5 fresh) ∷
-    on S (withPower 2 fresh) (Power 2 ∷ BusReset ∷ []) (refused 8 ∷ refused 8 ∷ []) (withPower 2 fresh) ∷ []
+    on S (withPower 2 fresh) (Power 2 ∷ BusReset 0 ∷ []) (refused 8 ∷ refused 8 ∷ []) (withPower 2 fresh) ∷ []
 
 -- ---- L6: T lists German, then English; S lists none
 -- a part of the serial block
@@ -82,7 +82,7 @@ sleep =
     -- "Suspend sets it; resume, bus reset .. clear it", in every state
     on T fresh (Suspend ∷ Suspend ∷ []) (done [] ∷ done [] ∷ []) (asleep fresh) ∷
     on T configured (Suspend ∷ Resume ∷ Resume ∷ []) (done [] ∷ done [] ∷ done [] ∷ []) configured ∷
-    on T (asleep (withPower 1 configured)) (BusReset ∷ []) (done [] ∷ []) (withPower 1 fresh) ∷
+    on T (asleep (withPower 1 configured)) (BusReset 0 ∷ []) (done [] ∷ []) (withPower 1 fresh) ∷
     -- "any setup past 7 to 9", refused or not; a setup of 7 bytes does not
     on T (asleep configured) (status ∷ []) (done (0 ∷ 0 ∷ []) ∷ []) configured ∷
     on T (asleep (withWaiting 9 addressed)) (setup 0x8006000600000A00 ∷ []) (refused 13 ∷ []) addressed ∷

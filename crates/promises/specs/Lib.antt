@@ -13,6 +13,10 @@ pub mod Keeps
 pub mod Images
 pub mod Inhabited
 pub mod Selected
+pub mod Before
+pub mod OneSet
+pub mod Pairs
+pub mod TestMode
 pub mod Rearranged
 pub mod Order
 pub mod InhabitedOrder

@@ -3,19 +3,19 @@
 use Prim.Native.Nat.{ℕ, suc}
 use native.Mathlib.Omega.{arith}
 use mathlib.Core.Path.{_≡_, refl, sym, ap, _∙_}
-use mathlib.Core.Bool.{Bool, true, not}
+use mathlib.Core.Bool.{Bool, true, false, not}
 use mathlib.Core.List.{List, [], _∷_, map}
 use mathlib.Core.Option.{some, Option·map}
 use lib.ListN.{getElem?}
 use Rattle.octets.specs.Sentences.{every, only, isSome}
 use lib.Dec.{eqb}
 use Rattle.octets.proofs.Sentences.{both, every-alike}
-use Rattle.sets.specs.Opening.{Board}
+use Rattle.sets.specs.Opening.{Board, BytesOf}
 use Rattle.sets.specs.View.{accepted}
 use Rattle.records.specs.declared.Device.{Device}
 use Rattle.records.specs.Fits.{fitsOn}
 use Rattle.records.specs.Image.{deviceOf, imageOf}
-use Rattle.records.specs.Device.{Sized}
+use Rattle.records.specs.Device.{testWaits, Sized}
 use Rattle.events.specs.declared.Answer.{Answer}
 use Rattle.events.specs.declared.Event.{Event}
 use Rattle.events.specs.declared.Outcome.{Outcome}
@@ -28,13 +28,12 @@ use Rattle.order.specs.Places.{Permuted}
 use Rattle.order.proofs.Places.{shuffle-of, own-places, places-own}
 use Rattle.order.specs.Strike.{strike, left, FairRun}
 use Rattle.order.specs.Owners.{Owners, others, Idle}
-use Rattle.order.proofs.Owners.{along, ordered, ordered-places, unnoticed-by}
+use Rattle.order.proofs.Owners.{along, seen, ordered, ordered-places, unnoticed-by}
 use Rattle.order.proofs.Beside.{fair-run}
-use Rattle.octets.specs.Octets.{Bytes}
 use Rattle.promises.specs.Sound.{sound}
 use Rattle.promises.specs.Keeps.{FitImage, stepFits}
 use Rattle.promises.specs.Images.{onImage}
-use Rattle.laws.specs.Parts.{Good, Same, rest, owned, who, kind, settle}
+use Rattle.laws.specs.Parts.{Good, Shared, shared, Same, rest, owned, who, drops, kind, settle}
 use Rattle.laws.proofs.Locality.{respondOn, concerns-by, idle, locality}
 use Rattle.promises.specs.Rearranged.{Concerned, isThis, Rearranged, answerOf, nextOf, after, answered, heard, Values, valuesOf, imageAnswer, imageNext, imageAfter, imageAnswered, imageHeard}
 use Rattle.laws.proofs.Picking.{own-is, all-of, of-all, every-log, only-map, map-at, mapped-at}
@@ -61,9 +60,10 @@ struckFor b = others (owned b) (who b)
 abbrev pub Fair : Board → Device → Event → Type 0
 Fair b = Idle (answerOf b) rest kind settle
 
--- "the premise that no struck event arrived while suspended" (L12)
-abbrev pub Awake : Device → Event → Type 0
-Awake d e = d .suspended ≡ 0
+-- "the premise that no struck event arrived while suspended" (L12); and no struck setup, which would drop it, arrived while a test mode waited (L7):
+-- of "no struck setup may lie between a test mode request and the next status end" the part that is needed
+abbrev pub Quiet : Device → Event → Type 0
+Quiet d e = (d .suspended ≡ 0) × (drops e ≡ true → testWaits d ≡ false)
 
 -- every event left of a run gets the answer that it got; what interface k can tell, and the rest, end the same
 abbrev pub Unnoticed : Board → ℕ → Device → List Event → Type 0
@@ -73,7 +73,7 @@ Unnoticed b k d xs = (let kept = strike (nextOf b) (struckFor b k) d xs in
     × (rest (after b d xs) ≡ rest (after b d kept)))
 
 -- ---- for one accepted set and serial block
-module _ (b : Board) (bytes : Bytes (b .set)) (ok : accepted b ≡ true) where
+module _ (b : Board) (bytes : BytesOf b) (ok : accepted b ≡ true) where
   -- at a record that fits, an event is answered by its own rules
   steps : (d : Device) (e : Event) → Good b d → step b d e ≡ respondOn b d e
   unfolding step
@@ -89,12 +89,17 @@ module _ (b : Board) (bytes : Bytes (b .set)) (ok : accepted b ≡ true) where
       (λ d e g. ap (λ (o : Outcome). o .answer) (steps d e g))
       (λ d e g. ap (λ (o : Outcome). o .device) (steps d e g))
 
-  -- an event concerns throughout a run whom it concerns at its start
+  -- the same with byte 7 of the record that the event found, which chooses the set that a part is of (L7)
+  pub stepLocalityAt : Owners {A = ℕ × Answer} (λ d e. (d .speed, answerOf b d e)) (nextOf b) (Good b) (owned b) (who b) (Same b) rest (λ e a. kind e (a .1)) settle
+  stepLocalityAt = seen stepLocality (λ d. d .speed) (λ k r s h. ap (λ (x : Shared). x .speed) (h .firm))
+
+  -- an event that concerns an interface leaves the shared fields; so an event concerns throughout a run whom it concerns at its start
+  pub sharedStay : (d : Device) (e : Event) → Good b d → owned b d e ≡ true → shared (step b d e .device) ≡ shared d
+  sharedStay d e g o = stepLocality .apart (suc (who b d e)) d e g o (λ p. omega arith) .firm
+
   concerns-next : (d : Device) (e f : Event) → Good b d → owned b d e ≡ true
       → concernsOn b (step b d e .device) f ≡ concernsOn b d f
-  concerns-next d e f g o =
-      let unseen = stepLocality .apart (suc (who b d e)) d e g o (λ p. omega arith) in
-      concerns-by b (step b d e .device) d f (unseen .firm)
+  concerns-next d e f g o = concerns-by b (step b d e .device) d f (sharedStay d e g o)
 
   pub concernsThroughout : (d : Device) (xs : List Event) → Good b d → Concerned b d xs
       → (f : Event) → concernsOn b (after b d xs) f ≡ concernsOn b d f
@@ -130,10 +135,10 @@ module _ (b : Board) (bytes : Bytes (b .set)) (ok : accepted b ≡ true) where
     pub unnoticedFair : (k : ℕ) (xs : List Event) → FairRun (nextOf b) (struckFor b k) (Fair b) d xs → Unnoticed b k d xs
     unnoticedFair k xs fair = unnoticed-by stepLocality k d (sized, fit) xs fair
 
-    -- a run is, where no struck event arrives while suspended
-    pub unnoticed : (k : ℕ) (xs : List Event) → FairRun (nextOf b) (struckFor b k) Awake d xs → Unnoticed b k d xs
-    unnoticed k xs awake = unnoticedFair k xs (fair-run (nextOf b) (struckFor b k) Awake (Fair b) (Good b) keeps
-        (λ r e g p z. idle b r e (answerOf b r e) (g .1) z (both (owned b r e) (not (eqb (who b r e) k)) p .0)) d (sized, fit) xs awake)
+    -- a run is, where no struck event arrives while suspended, and no struck setup while a test mode waits
+    pub unnoticed : (k : ℕ) (xs : List Event) → FairRun (nextOf b) (struckFor b k) Quiet d xs → Unnoticed b k d xs
+    unnoticed k xs quiet = unnoticedFair k xs (fair-run (nextOf b) (struckFor b k) Quiet (Fair b) (Good b) keeps
+        (λ r e g p z. idle b r e (answerOf b r e) (g .1) (z .0) (z .1) (both (owned b r e) (not (eqb (who b r e) k)) p .0)) d (sized, fit) xs quiet)
 
   -- ---- demand 3 on the 32 bytes that C hands over
   module _ (image : List ℕ) (f : FitImage b image) where

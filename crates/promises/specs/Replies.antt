@@ -1,7 +1,7 @@
 -- No reply is longer than its setup asked for, and an accepted set's bMaxPacketSize0 is a size that can be cut: so every reply can be. No axiom.
 use Prim.Native.Nat.{ℕ, _+_, _≤_}
 use native.Mathlib.Omega.{arith}
-use mathlib.Core.Path.{_≡_, refl, _∙_}
+use mathlib.Core.Path.{_≡_, refl, sym, _∙_}
 use mathlib.Core.List.{List, [], _∷_}
 use mathlib.Core.Bool.{Bool, true, false, _&&_, _||_, false≢true}
 use mathlib.Core.Option.{Option, some, none}
@@ -10,18 +10,21 @@ use lib.Dec.{eqb, leb}
 use borrow.Author.Tests.{eq-eqb, eqb-true, leb-true, le-leb}
 use Rattle.octets.specs.Octets.{byte}
 use Rattle.octets.specs.Sentences.{pick, _⇒_, any, every}
-use Rattle.octets.proofs.Sentences.{cases, if-then, both, joined, conjunct}
+use Rattle.octets.proofs.Sentences.{cases, if-then, both, joined, conjunct, or-right}
 use Rattle.descriptors.specs.declared.Endpoint.{Endpoint}
 use Rattle.descriptors.specs.Configuration.{hasInterface, hasSetting, canHalt}
-use Rattle.descriptors.specs.Limits.{fullSpeed, doubled}
+use Rattle.descriptors.specs.Limits.{doubled}
+use Rattle.descriptors.specs.declared.Limits.{Limits}
+use Rattle.descriptors.proofs.HighSpeed.{control-64}
 use Rattle.sets.specs.declared.Entry.{Entry}
 use Rattle.sets.specs.Contents.{bodyOf, entriesOf}
 use Rattle.sets.specs.Device.{bMaxPacketSize0, goodDevice, goodDeviceEntries, headBody, deviceBody}
-use Rattle.sets.specs.Opening.{Board, goodDevices, opening}
-use Rattle.sets.specs.View.{View, viewOf, accepted, wakes}
+use Rattle.sets.specs.Opening.{Board, goodDevices}
+use Rattle.sets.specs.View.{View, openingOf, accepted, wakes}
 use Rattle.records.specs.declared.Device.{Device}
-use Rattle.records.specs.Device.{settled}
-use Rattle.records.specs.Current.{selected, endpointAt}
+use Rattle.records.specs.Device.{atFullSpeed, atHighSpeed, inTestMode, settled}
+use Rattle.records.specs.Current.{setFor, setAt, boardFor, viewAt, selected, endpointAt}
+use Rattle.records.proofs.InUse.{rowFor, opensFor}
 use Rattle.records.specs.Image.{deviceOf}
 use Rattle.records.specs.Fits.{fitsOn}
 use Rattle.requests.specs.declared.Setup.{Setup}
@@ -33,8 +36,8 @@ use Rattle.events.specs.declared.facts.Located.{Located}
 use Rattle.events.specs.declared.facts.Located.the-variants.{Body, Serial, Nowhere}
 use Rattle.events.specs.declared.Outcome.{Outcome}
 use Rattle.events.specs.Answer.{numberOf, bytesOf, partOf, refused}
-use Rattle.events.specs.Requests.{byRecipient, isEndpointZero, deviceFeature, interfaceFeature, endpointFeature, endpointStatus, haltFeature, clearHalt, setHalt, locate, describe, getStatus, clearFeature, setFeature, setAddress, getDescriptor, getConfiguration, setConfiguration, getInterface, setInterface}
-use Rattle.events.specs.Step.{request, answerSetup, step, event, setupEvent}
+use Rattle.events.specs.Requests.{byRecipient, isEndpointZero, deviceFeature, namesTestMode, testSelector, setDeviceFeature, interfaceFeature, endpointFeature, endpointStatus, haltFeature, clearHalt, setHalt, locate, describe, getStatus, clearFeature, setFeature, setAddress, getDescriptor, getConfiguration, setConfiguration, getInterface, setInterface}
+use Rattle.events.specs.Step.{request, stateFor, withIndex, setupFor, refusalFor, answerSetup, step, event, setupEvent}
 use Rattle.packets.specs.Packets.{canCut}
 use Rattle.sets.proofs.Groups.{groups}
 use Rattle.laws.proofs.Outcomes.{ruled, chosen}
@@ -70,9 +73,15 @@ module _ (v : View) (d : Device) (s : Setup) where
       at none = no 13
       at (some e) = omega arith
 
-  feature : (change : Device → ℕ → Device) (on : ℕ) → Fine (byRecipient s (deviceFeature on v d s) (interfaceFeature v d s) (endpointFeature change v d s))
-  feature change on = chosen Fine (eqb (recipient s) 0)
-      (λ e. chosen Fine (eqb (s .wValue) 1 && wakes v) (λ e. omega arith) (λ e. no 14))
+  of-device : (on : ℕ) → Fine (deviceFeature on v d s)
+  of-device on = chosen Fine (eqb (s .wValue) 1 && wakes v) (λ e. omega arith) (λ e. no 14)
+
+  test-mode : Fine (setDeviceFeature v d s)
+  test-mode = chosen Fine (namesTestMode (v .paired) s)
+      (λ e. chosen Fine (eqb (d .speed) atHighSpeed && leb 1 (testSelector s) && leb (testSelector s) 5) (λ e. omega arith) (λ e. no 14)) (λ e. of-device 1)
+
+  feature : (change : Device → ℕ → Device) (device : Outcome) → Fine device → Fine (byRecipient s device (interfaceFeature v d s) (endpointFeature change v d s))
+  feature change device fine = chosen Fine (eqb (recipient s) 0) (λ e. fine)
       (λ e. chosen Fine (eqb (recipient s) 1)
       (λ e. chosen Fine (hasInterface (selected v d) (s .wIndex)) (λ e. no 14) (λ e. no 13))
       (λ e. chosen Fine (isEndpointZero (s .wIndex)) (λ e. no 14) (λ e. at (endpointAt v d (s .wIndex)))))
@@ -95,18 +104,18 @@ module _ (v : View) (d : Device) (s : Setup) where
   configuration = chosen Fine (eqb (s .wValue) 0) (λ e. omega arith)
       (λ e. chosen Fine (any (λ c. eqb (c .value) (s .wValue)) (v .configurations)) (λ e. omega arith) (λ e. no 13))
 
-  within : (state : ℕ) → refusal state s ≡ 0 → Fine (request v d s)
+  within : (state index : ℕ) → refusal state (withIndex index s) ≡ 0 → Fine (request v d s)
   unfolding every request clearFeature setFeature setAddress getConfiguration getInterface setInterface
-  within state p =
-      chosen Fine (eqb (s .bRequest) 0x00) (λ e. status (asked 0 2 refl state s p (eqb-true (s .bRequest) 0 e)))
-      (λ e. chosen Fine (eqb (s .bRequest) 0x01) (λ e. feature clearHalt 0)
-      (λ e. chosen Fine (eqb (s .bRequest) 0x03) (λ e. feature setHalt 1)
+  within state index p =
+      chosen Fine (eqb (s .bRequest) 0x00) (λ e. status (asked 0 2 refl state (withIndex index s) p (eqb-true (s .bRequest) 0 e)))
+      (λ e. chosen Fine (eqb (s .bRequest) 0x01) (λ e. feature clearHalt (deviceFeature 0 v d s) (of-device 0))
+      (λ e. chosen Fine (eqb (s .bRequest) 0x03) (λ e. feature setHalt (setDeviceFeature v d s) test-mode)
       (λ e. chosen Fine (eqb (s .bRequest) 0x05) (λ e. omega arith)
       (λ e. chosen Fine (eqb (s .bRequest) 0x06) (λ e. descriptor)
-      (λ e. chosen Fine (eqb (s .bRequest) 0x08) (λ e. let l = asked 8 1 refl state s p (eqb-true (s .bRequest) 8 e) in omega arith)
+      (λ e. chosen Fine (eqb (s .bRequest) 0x08) (λ e. let l = asked 8 1 refl state (withIndex index s) p (eqb-true (s .bRequest) 8 e) in omega arith)
       (λ e. chosen Fine (eqb (s .bRequest) 0x09) (λ e. configuration)
       (λ e. chosen Fine (eqb (s .bRequest) 0x0A)
-      (λ e. chosen Fine (hasInterface (selected v d) (s .wIndex)) (λ f. let l = asked 10 1 refl state s p (eqb-true (s .bRequest) 10 e) in omega arith) (λ f. no 13))
+      (λ e. chosen Fine (hasInterface (selected v d) (s .wIndex)) (λ f. let l = asked 10 1 refl state (withIndex index s) p (eqb-true (s .bRequest) 10 e) in omega arith) (λ f. no 13))
       (λ e. chosen Fine (hasSetting (selected v d) (s .wIndex) (s .wValue)) (λ e. omega arith) (λ e. no 13)))))))))
 
 -- every answer to a setup, on every board and record
@@ -114,32 +123,44 @@ pub replyWithin : (b : Board) (d : Device) (s : Setup) → Within (s .wLength) (
 unfolding step answerSetup
 replyWithin b d s = chosen (Within (s .wLength)) (accepted b)
     (λ p. chosen (Within (s .wLength)) (fitsOn b d)
-    (λ q. chosen (Within (s .wLength)) (eqb (refusal (d .state) s) 0)
-    (λ r. within (viewOf b) (settled d) s (d .state) (eqb-true _ 0 r)) (λ r. omega arith))
+    (λ q. chosen (Within (s .wLength)) (inTestMode d) (λ t. omega arith)
+    (λ t. let two = viewAt b d .paired in chosen (Within (s .wLength)) (eqb (refusalFor two d s) 0)
+    (λ r. within (viewAt b d) (settled d) s (stateFor two d s) (setupFor two s .wIndex) (eqb-true _ 0 r)) (λ r. omega arith)))
     (λ q. omega arith))
     (λ p. omega arith)
 
--- the device descriptor of an accepted set
-goodDeviceOf : (set : List ℕ) (es : List Entry) → goodDeviceEntries fullSpeed set es ≡ true
-    → goodDevice fullSpeed (length (entriesOf 2 set)) (headBody set es) ≡ true
-goodDeviceOf set [] p = absurd (false≢true p)
-goodDeviceOf set (e ∷ []) p = both (eqb (e .index) 0 && eqb (e .language) 0) (goodDevice fullSpeed (length (entriesOf 2 set)) (bodyOf set e)) p .1
-goodDeviceOf set (e ∷ f ∷ es) p = absurd (false≢true p)
+-- the device descriptor of a set that opens
+goodDeviceOf : (limits : Limits) (set : List ℕ) (es : List Entry) → goodDeviceEntries limits set es ≡ true
+    → goodDevice limits (length (entriesOf 2 set)) (headBody set es) ≡ true
+goodDeviceOf limits set [] p = absurd (false≢true p)
+goodDeviceOf limits set (e ∷ []) p = both (eqb (e .index) 0 && eqb (e .language) 0) (goodDevice limits (length (entriesOf 2 set)) (bodyOf set e)) p .1
+goodDeviceOf limits set (e ∷ f ∷ es) p = absurd (false≢true p)
 
--- "bMaxPacketSize0 is 8, 16, 32 or 64": the sizes that can be cut
-pub sizeCuts : (b : Board) → accepted b ≡ true → (r w : ℕ) → r ≤ w → canCut r w (bMaxPacketSize0 (deviceBody (b .set))) ≡ true
+-- "bMaxPacketSize0 is 8, 16, 32 or 64", at high speed 64: the sizes that can be cut
+abbrev cuttable : ℕ → Bool
+cuttable p = eqb p 8 || eqb p 16 || eqb p 32 || eqb p 64
+
+of-row : (high : Option (List ℕ)) (speed p : ℕ) → doubled (rowFor high speed .control) p ≡ true → cuttable p ≡ true
+of-row none speed p q = both (cuttable p) (leb p 64) q .0
+of-row (some set) speed p q = cases (eqb speed atFullSpeed)
+    (λ e. both (cuttable p) (leb p 64) (rw e at q) .0)
+    (λ e. or-right (eqb p 8 || eqb p 16 || eqb p 32) (sym (control-64 p) ∙ (rw e at q)))
+
+-- of the set in use
+pub sizeCuts : (b : Board) → accepted b ≡ true → (speed r w : ℕ) → r ≤ w → canCut r w (bMaxPacketSize0 (deviceBody (setFor b speed))) ≡ true
 unfolding goodDevices
-sizeCuts b ok r w l =
-    let device = deviceBody (b .set) in
-    let good = goodDeviceOf (b .set) (entriesOf 1 (b .set)) (groups fullSpeed b (eqb-true (opening fullSpeed b) 0 ok) .devices) in
-    let size = conjunct 3 (eqb (length device) 18 ∷ eqb (byte device 0) 18 ∷ eqb (byte device 1) 1 ∷ doubled (fullSpeed .control) (bMaxPacketSize0 device) ∷ _ ∷ _ ∷ _ ∷ _ ∷ []) good in
-    let p = bMaxPacketSize0 device in
-    joined (both (eqb p 8 || eqb p 16 || eqb p 32 || eqb p 64) (leb p 64) size .0) (le-leb r w l)
+sizeCuts b ok speed r w l =
+    let row = rowFor (b .high) speed in
+    let set = setFor b speed in
+    let device = deviceBody set in
+    let good = goodDeviceOf row set (entriesOf 1 set) (groups row (boardFor b speed) (opensFor b speed (eqb-true (openingOf b) 0 ok)) .devices) in
+    let size = conjunct 3 (eqb (length device) 18 ∷ eqb (byte device 0) 18 ∷ eqb (byte device 1) 1 ∷ doubled (row .control) (bMaxPacketSize0 device) ∷ _ ∷ _ ∷ _ ∷ _ ∷ []) good in
+    joined (of-row (b .high) speed (bMaxPacketSize0 device) size) (le-leb r w l)
 
--- so every answer to a setup of an accepted board can be cut into packets of its bMaxPacketSize0
+-- so every answer to a setup of an accepted board can be cut into packets of the bMaxPacketSize0 of the set in use
 pub replyCuts : (b : Board) (d : Device) (s : Setup) → accepted b ≡ true → (let a = step b d (Request s) .answer in
-    canCut (length (bytesOf a) + partOf a .length) (s .wLength) (bMaxPacketSize0 (deviceBody (b .set))) ≡ true)
-replyCuts b d s ok = sizeCuts b ok _ (s .wLength) (replyWithin b d s)
+    canCut (length (bytesOf a) + partOf a .length) (s .wLength) (bMaxPacketSize0 (deviceBody (setAt b d))) ≡ true)
+replyCuts b d s ok = sizeCuts b ok (d .speed) _ (s .wLength) (replyWithin b d s)
 
 -- ---- on images
 -- no answer to a setup's bytes, of any length, is longer than their wLength

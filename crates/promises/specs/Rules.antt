@@ -5,7 +5,7 @@ use mathlib.Core.List.{List, [], _∷_, _++_, map}
 use lib.ListN.{set, take, replicate}
 use Rattle.octets.specs.Sentences.{upTo}
 use Rattle.descriptors.specs.Limits.{fullSpeed}
-use Rattle.sets.specs.Opening.{Board, opening}
+use Rattle.sets.specs.Opening.{Board, lent, opening}
 use Rattle.promises.specs.Examples.{computed, Piece, piece, board, configuration, interface, endpoint, device, string, S, titratorDevice, titratorConfiguration, titratorStrings, titratorSerial, T}
 
 -- a board, and the number under which it opens
@@ -20,7 +20,7 @@ b opens n = record { board = b; number = n }
 -- ---- S and T with a change
 -- S with one byte changed
 abbrev S-at : ℕ → ℕ → Board
-S-at k x = record { set = set (S .set) k x; serial = [] }
+S-at k x = lent (set (S .set) k x) []
 
 -- S with another device descriptor, with another configuration body, with other descriptors, with another endpoint
 abbrev S-device : List ℕ → Board
@@ -72,9 +72,9 @@ frame : List Example
 frame =
     S opens 0 ∷
     -- "at least 4 bytes"
-    record { set = []; serial = [] } opens 1 ∷ record { set = 3 ∷ 0 ∷ 0 ∷ []; serial = [] } opens 1 ∷
+    lent [] [] opens 1 ∷ lent (3 ∷ 0 ∷ 0 ∷ []) [] opens 1 ∷
     -- "total equals the slice's length"
-    S-at 0 62 opens 1 ∷ S-at 0 64 opens 1 ∷ S-at 1 1 opens 1 ∷ record { set = take 62 (S .set); serial = [] } opens 1 ∷
+    S-at 0 62 opens 1 ∷ S-at 0 64 opens 1 ∷ S-at 1 1 opens 1 ∷ lent (take 62 (S .set)) [] opens 1 ∷
     -- "n in 1–64"
     S-at 2 0 opens 1 ∷ entries 64 opens 0 ∷ entries 65 opens 1 ∷
     -- "byte 3 zero"
@@ -211,7 +211,7 @@ strings =
 serials : List Example
 serials =
     -- "empty when iSerialNumber is 0"
-    record { set = S .set; serial = string (49 ∷ 0 ∷ []) } opens 6 ∷
+    lent (S .set) (string (49 ∷ 0 ∷ [])) opens 6 ∷
     -- "else of even length 4–254, first byte its length, second byte 3"
     T-serial [] opens 6 ∷ T-serial (2 ∷ 3 ∷ []) opens 6 ∷ T-serial (5 ∷ 3 ∷ 49 ∷ 0 ∷ 50 ∷ []) opens 6 ∷ T-serial (string (replicate 252 0)) opens 0 ∷ T-serial (string (replicate 254 0)) opens 6 ∷
     T-serial (6 ∷ 3 ∷ 49 ∷ 0 ∷ []) opens 6 ∷ T-serial (4 ∷ 2 ∷ 49 ∷ 0 ∷ []) opens 6 ∷ []

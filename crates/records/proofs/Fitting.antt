@@ -15,7 +15,7 @@ use Rattle.records.specs.Current.{selected, currentEndpoints}
 use Rattle.records.specs.Fits.{inRange, goodWaiting, goodState, fits}
 
 pub fitting : (v : View) (d : Device) {range waiting state alternates halts toggles waking : Bool} {allowed : ℕ}
-    → range ≡ inRange d → waiting ≡ goodWaiting d → state ≡ goodState v d
+    → range ≡ inRange (v .paired) d → waiting ≡ goodWaiting d → state ≡ goodState v d
     → alternates ≡ below 16 (goodAlternate (selected v d) (d .alternates))
     → allowed ≡ bitsOf (only canHalt (currentEndpoints v d))
     → halts ≡ below 32 (λ k. bit (d .halts) k ⇒ bit allowed k)

@@ -1,8 +1,10 @@
 -- The device record's states, the fresh record, and records that differ in one field (document 01, "The device record").
-use Prim.Native.Nat.{ℕ, _^_, _<_}
+use Prim.Native.Nat.{ℕ, _+_, _-_, _*_, _^_, _<_}
 use mathlib.Core.Path.{_≡_}
+use mathlib.Core.Bool.{Bool, _&&_}
 use mathlib.Core.List.{List}
 use lib.ListN.{length, replicate}
+use lib.Dec.{leb}
 use Rattle.records.specs.declared.Device.{Device}
 
 -- "0 state (0 Default, 1 Address, 2 Configured)"
@@ -18,6 +20,13 @@ inConfigured = 2
 -- "waiting address (255: none)"
 abbrev pub nothing : ℕ
 nothing = 255
+
+-- "record byte 7 says which is in use (0 full, 1 high)" (L7)
+abbrev pub atFullSpeed : ℕ
+atFullSpeed = 0
+
+abbrev pub atHighSpeed : ℕ
+atHighSpeed = 1
 
 abbrev pub zeros : List ℕ
 zeros = replicate 16 0
@@ -36,9 +45,30 @@ withWakeup w d = record { state = d .state; address = d .address; waiting = d .w
 abbrev pub withPower : ℕ → Device → Device
 withPower p d = record { state = d .state; address = d .address; waiting = d .waiting; configuration = d .configuration; wakeup = d .wakeup; power = p; suspended = d .suspended; speed = d .speed; alternates = d .alternates; halts = d .halts; toggles = d .toggles }
 
--- a bus reset leads to the fresh record, but "Bus reset keeps it", the power source (L2)
-abbrev pub afterReset : Device → Device
-afterReset d = withPower (d .power) fresh
+abbrev pub withSpeed : ℕ → Device → Device
+withSpeed s d = record { state = d .state; address = d .address; waiting = d .waiting; configuration = d .configuration; wakeup = d .wakeup; power = d .power; suspended = d .suspended; speed = s; alternates = d .alternates; halts = d .halts; toggles = d .toggles }
+
+-- a bus reset leads to the fresh record, but "Bus reset keeps it", the power source (L2), and byte 7 is "given by the bus reset event" (L7)
+abbrev pub afterReset : ℕ → Device → Device
+afterReset speed d = withSpeed speed (withPower (d .power) fresh)
+
+-- ---- test mode (L7)
+-- "It waits for the status end as 128 plus the selector in byte 2"; "a selector of 1–5"
+abbrev pub testWaiting : ℕ → ℕ
+testWaiting selector = 128 + selector
+
+abbrev pub testWaits : Device → Bool
+testWaits d = leb (testWaiting 1) (d .waiting) && leb (d .waiting) (testWaiting 5)
+
+-- "Once entered, byte 7 is 1 plus 16 times the selector", and nothing waits any more
+abbrev pub testEntered : ℕ → ℕ
+testEntered selector = atHighSpeed + 16 * selector
+
+abbrev pub inTestMode : Device → Bool
+inTestMode d = leb 2 (d .speed)
+
+abbrev pub enterTestMode : Device → Device
+enterTestMode d = withSpeed (testEntered (d .waiting - testWaiting 0)) (withWaiting nothing d)
 
 -- "Record byte 6 becomes suspended (0 or 1)" (L12)
 abbrev pub withSuspended : ℕ → Device → Device
@@ -48,7 +78,8 @@ withSuspended on d = record { state = d .state; address = d .address; waiting = 
 abbrev pub awake : Device → Device
 awake d = withSuspended 0 d
 
--- what a setup settles, past 7 to 9: it "first drops any waiting address", and it clears byte 6 (L12). The step, the refusals and the order of events cite this
+-- what a setup settles, past 7 to 9: it "first drops any waiting address", a test mode "is dropped as a waiting address is" (L7), and it clears
+-- byte 6 (L12). The step, the refusals and the order of events cite this
 abbrev pub settled : Device → Device
 settled d = awake (withWaiting nothing d)
 

@@ -6,14 +6,15 @@ ghost use lib.ListN.{length};
 ghost use Rattle.descriptors.specs.declared.survey.Asked.{Asked};
 ghost use Rattle.descriptors.specs.Survey.{Surveys};
 ghost use Rattle.sets.specs.View.{View, hasValue, wakes};
-ghost use Rattle.records.specs.Device.{fresh};
+ghost use Rattle.records.specs.Device.{fresh, testWaits};
 ghost use Rattle.records.specs.Image.{fourBytes, bytesOfFour, deviceOf, imageOf};
 ghost use Rattle.records.specs.Change.{settingsAfter, changed, kept};
 ghost use Rattle.records.specs.Current.{selected};
 ghost use Rattle.records.specs.Fits.{inRange, goodWaiting, goodState, fits};
 
 // In the order of its 32-byte image. state: 0 Default, 1 Address, 2 Configured; waiting: the address that the next status end
-// applies, 255 for none; power: 0 bus, 1 own supply; suspended: 0 or 1; speed is zero; bit e of halts and toggles is OUT endpoint e, bit 16 + e is IN.
+// applies, or 128 plus the selector of the test mode that it enters, 255 for none; power: 0 bus, 1 own supply; suspended: 0 or 1; speed: 0 full, 1
+// high, and 1 plus 16 times the selector of an entered test mode; bit e of halts and toggles is OUT endpoint e, bit 16 + e is IN.
 #[repr(C)]
 pub struct Device {
     pub state: u8,
@@ -195,22 +196,32 @@ pub fn store(device: Device, image: &mut [u8])
     store_four(device.toggles, &mut image[28..32]);
 }
 
-// The ranges of the state, of wakeup and of bytes 5 to 7.
-fn in_range(device: Device) -> bool
-    ensures { λ r. ⌜ r ≡ inRange device ⌝ }
+// The ranges of the state, of wakeup and of bytes 5 to 7; `paired`: two sets are lent.
+fn in_range(paired: bool, device: Device) -> bool
+    ensures { λ r. ⌜ r ≡ inRange paired device ⌝ }
 {
+    let speed = device.speed;
     (device.state <= 2)
         & (device.wakeup <= 1)
         & (device.power <= 1)
         & (device.suspended <= 1)
-        & (device.speed == 0)
+        & ((speed == 0) | (paired & (speed % 16 == 1) & (speed <= 81)))
 }
 
-// Nothing waits, or an address.
+// A test mode waits: 128 plus its selector.
+fn test_waits(device: Device) -> bool
+    ensures { λ r. ⌜ r ≡ testWaits device ⌝ }
+{
+    (129 <= device.waiting) & (device.waiting <= 133)
+}
+
+// Nothing waits; or an address, before a test mode is entered; or a test mode, at high speed.
 fn good_waiting(device: Device) -> bool
     ensures { λ r. ⌜ r ≡ goodWaiting device ⌝ }
 {
-    (device.waiting <= 127) | (device.waiting == 255)
+    (device.waiting == 255)
+        | ((device.waiting <= 127) & !(2 <= device.speed))
+        | (test_waits(device) & (device.speed == 1))
 }
 
 // What each state asks of the address, the configuration and what waits; `there`: the set has a configuration with the record's value.
@@ -220,18 +231,18 @@ fn good_state(there: bool, device: Device) -> bool
     let in_use = (1 <= device.address) & (device.address <= 127);
     (!(device.state == 0) | ((device.address == 0) & (device.configuration == 0)))
         & (!(device.state == 1) | (in_use & (device.configuration == 0)))
-        & (!(device.state == 2) | (in_use & there & (device.waiting == 255)))
+        & (!(device.state == 2) | (in_use & there & ((device.waiting == 255) | test_waits(device))))
 }
 
 // Whether a record fits. `survey` is the selected configuration's, of no descriptors if none is; `there`: the set has a configuration with the
-// record's value; `waking`: some configuration supports remote wakeup.
-pub fn fits(survey: Survey, there: bool, waking: bool, device: Device) -> bool
+// record's value; `waking`: some configuration supports remote wakeup; `paired`: two sets are lent.
+pub fn fits(survey: Survey, there: bool, waking: bool, paired: bool, device: Device) -> bool
     ensures { λ r. ⌜ ((v : View) (a : Asked) → Surveys (selected v device) (device .alternates) a survey
         → there ≡ hasValue (record { 0 = device .configuration }) (v .configurations)
-        → waking ≡ wakes v → r ≡ fits v device) ⌝ }
+        → waking ≡ wakes v → paired ≡ v .paired → r ≡ fits v device) ⌝ }
 {
     let alternates = device.alternates;
-    in_range(device)
+    in_range(paired, device)
         & good_waiting(device)
         & good_state(there, device)
         & descriptors::survey::alternates_exist(survey.existing, survey.current, alternates)

@@ -8,7 +8,8 @@ use lib.Dec.{eqb, ltb}
 use Rattle.octets.specs.Octets.{word}
 use Rattle.octets.specs.Sentences.{pick}
 use Rattle.descriptors.specs.declared.Limits.{Limits}
-use Rattle.sets.specs.Opening.{Board, opening}
+use Rattle.sets.specs.Opening.{opening}
+pub use Rattle.sets.specs.Opening.{lent}
 use Rattle.pieces.specs.Pieces.{ends, pieces}
 use Rattle.pieces.specs.Sorted.{sorted}
 use Rattle.pieces.specs.Laid.{laid}
@@ -16,10 +17,6 @@ use Rattle.pieces.specs.Laid.{laid}
 -- "have the set written .., sorted, with offsets filled in": the set of a stream of pieces
 abbrev pub setOf : List ℕ → List ℕ
 setOf stream = laid (sorted (pieces stream))
-
--- the set and the serial block that are lent
-abbrev pub lent : List ℕ → List ℕ → Board
-lent set serial = record { set = set; serial = serial }
 
 -- "with the serial block given, the opener accepts"
 abbrev pub opensAs : Limits → List ℕ → List ℕ → Bool

@@ -1,4 +1,5 @@
 pub mod Acceptance
+pub mod Pair
 pub mod Bodies
 pub mod Bounds
 pub mod Configurations

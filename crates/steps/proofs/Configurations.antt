@@ -12,7 +12,6 @@ use Rattle.octets.specs.Bit.{bit}
 use Rattle.octets.specs.Sentences.{pick, every, any, first, pairs}
 use Rattle.octets.proofs.Sentences.{both, conjunct, every-map, every-member, any-member, first-some}
 use Rattle.descriptors.specs.declared.Limits.{Limits}
-use Rattle.descriptors.specs.Limits.{fullSpeed}
 use Rattle.descriptors.specs.Cut.{cut, cutAfter, descriptorsOf, wellCut}
 use Rattle.descriptors.specs.Interfaces.{grouped, endpointsOf}
 use Rattle.descriptors.specs.Configuration.{Configuration, hasInterface, bConfigurationValue, goodDescriptors, goodConfiguration, groupsOf, configurationOf}
@@ -21,9 +20,9 @@ use Rattle.sets.specs.declared.Entry.{Entry}
 use Rattle.sets.specs.declared.EntryFound.{EntryFound}
 use Rattle.sets.specs.declared.EntryFound.the-variants.{At, Nothing}
 use Rattle.sets.specs.Contents.{bodyOf, bodies, entriesOf}
-use Rattle.sets.specs.Opening.{Board, numberedFrom, goodConfigurations}
+use Rattle.sets.specs.Opening.{Board, numberedFrom, goodConfigurations, opening}
 use Rattle.sets.specs.Found.{found, valued, configurationFound}
-use Rattle.sets.specs.View.{byValue, openingOf}
+use Rattle.sets.specs.View.{byValue}
 use Rattle.octets.specs.Octets.{Bytes}
 use Rattle.sets.proofs.Groups.{Groups, groups}
 use Rattle.sets.proofs.Bodies.{bytes-part, soundConfiguration}
@@ -99,5 +98,5 @@ module _ (limits : Limits) (b : Board) (h : Bytes (b .set)) (g : Groups limits b
       go Nothing q = none-usable
       go (At e) q = entry-usable e (first-some (valued (b .set) value) (entriesOf 2 (b .set)) (found-some (first (valued (b .set) value) (entriesOf 2 (b .set))) q) .0)
 
-pub usable : (b : Board) → Bytes (b .set) → openingOf b ≡ 0 → (value : ℕ) → Usable (selectedBody (b .set) value)
-usable b h p = in-groups fullSpeed b h (groups fullSpeed b p)
+pub usable : (limits : Limits) (b : Board) → Bytes (b .set) → opening limits b ≡ 0 → (value : ℕ) → Usable (selectedBody (b .set) value)
+usable limits b h p = in-groups limits b h (groups limits b p)

@@ -10,12 +10,12 @@ use lib.Seq.{take-take, drop-drop}
 use lib.Dec.{eqb, leb}
 use borrow.Author.Tests.{eq-eqb, ne-eqb, eqb-true, leb-true}
 use Rattle.octets.specs.Octets.{byte, part}
-use Rattle.octets.specs.Sentences.{pick, _⇒_, every, any, first, pairs}
+use Rattle.octets.specs.Sentences.{pick, _⇒_, every, any, first, pairs, isSome}
 use Rattle.octets.proofs.Sentences.{cases, both, if-then, conjunct, every-map, every-member, only-member, first-some}
 use Rattle.octets.proofs.Counting.{at-member}
 use Rattle.descriptors.specs.declared.Limits.{Limits}
 use Rattle.descriptors.specs.Cut.{cut, descriptorsOf, wellCut}
-use Rattle.descriptors.specs.Limits.{named, fullSpeed}
+use Rattle.descriptors.specs.Limits.{named}
 use Rattle.descriptors.specs.Descriptor.{bDescriptorType, isInterface, isEndpoint, goodEndpoint, goodDescriptor}
 use Rattle.descriptors.specs.Interfaces.{grouped, goodInterfaces}
 use Rattle.descriptors.specs.declared.survey.Asked.{Asked}
@@ -29,7 +29,7 @@ use Rattle.sets.specs.declared.Entry.{Entry}
 use Rattle.sets.specs.declared.EntryFound.{EntryFound}
 use Rattle.sets.specs.declared.EntryFound.the-variants.{At, Nothing}
 use Rattle.sets.specs.Contents.{total, count, bodiesAt, bodyOf, isKind, bodies, entries, entriesOf, goodFrame}
-use Rattle.sets.specs.Opening.{Board, numberedFrom, goodConfigurations}
+use Rattle.sets.specs.Opening.{Board, numberedFrom, goodConfigurations, opening}
 use Rattle.sets.specs.Found.{found, valued, canWake, isFound}
 use Rattle.sets.specs.View.{View, viewOf, hasValue, wakes, openingOf, accepted}
 use Rattle.sets.proofs.Groups.{Groups, groups, inside}
@@ -37,14 +37,16 @@ use Rattle.sets.proofs.Bodies.{mapped}
 use Rattle.sets.proofs.Lookups.{value-there, wakes-found}
 use Rattle.records.specs.declared.Device.{Device}
 use Rattle.records.specs.Device.{inConfigured}
-use Rattle.records.specs.Current.{selected}
-use Rattle.records.specs.Fits.{fits}
+use Rattle.records.specs.Image.{deviceOf}
+use Rattle.records.specs.Current.{setFor, setAt, boardFor, selected}
+use Rattle.records.specs.Fits.{fits, fitsOn}
+use Rattle.records.proofs.InUse.{rowFor, opensFor}
 use Rattle.events.specs.declared.Answer.the-variants.{Refused}
-use Rattle.events.specs.Answer.{ofSet, partOf}
-use Rattle.events.specs.Places.{Inside}
-use Rattle.steps.specs.Gathering.{bodyFound, selectedBody, standing, beginning}
-use Rattle.steps.proofs.Steps.{is-selected}
-use Rattle.steps.specs.Endpoint.{selectedEntry, inSet, endpointsIn, endpointDescriptors, endpointPart, endpoint}
+use Rattle.events.specs.Answer.{partOf}
+use Rattle.events.specs.Places.{InsideAt}
+use Rattle.steps.specs.Gathering.{viewIn, endpointIn, endpointOnIn, bodyFound, selectedBody, standing, beginning}
+use Rattle.steps.proofs.Configurations.{selected-by-value}
+use Rattle.steps.specs.Endpoint.{selectedEntry, inSet, endpointsIn, endpointDescriptors, endpointPart, endpoint, endpointOn}
 
 -- ---- a descriptor of a body, as a part of the set
 part-in : (e : Entry) (l : List DescriptorAt) (k : ℕ) → endpointPart (getElem? (map (inSet e) l) k) ≡ standing (At e) (foundAt (getElem? l k))
@@ -61,25 +63,33 @@ module _ (set : List ℕ) (d : Device) (k : ℕ) where
       nowhere (some p) = refl
   stands-in (some e) = part-in e (currentDescriptors (d .alternates) (bodyFound set (At e))) k
 
--- ---- the answer, by its order of refusals
-module _ (b : Board) (d : Device) (k : ℕ) where
-  pub set-refused : accepted b ≡ false → endpoint b d k ≡ Refused 7
-  unfolding endpoint
-  set-refused p = rw p
+-- ---- the answer is that of the set in use
+pub endpoint-in : (b : Board) (d : Device) (k : ℕ) → endpoint b d k ≡ endpointIn (openingOf b) (viewIn (isSome (b .high)) (setAt b d) (b .serial)) (setAt b d) d k
+unfolding endpoint viewOf
+endpoint-in b d k = refl
 
-  module _ (p : accepted b ≡ true) where
-    pub record-refused : fits (viewOf b) d ≡ false → endpoint b d k ≡ Refused 8
-    unfolding endpoint
-    record-refused q = rw (p, q)
+pub endpoint-on-in : (b : Board) (image : List ℕ) (k : ℕ) → (let set = setFor b (deviceOf image .speed) in
+    endpointOn b image k ≡ endpointOnIn (openingOf b) (viewIn (isSome (b .high)) set (b .serial)) set image k)
+unfolding endpointOn endpoint viewOf
+endpoint-on-in b image k = refl
 
-    pub none-elsewhere : fits (viewOf b) d ≡ true → (d .state ≡ inConfigured → ⊥) → endpoint b d k ≡ Refused 16
-    unfolding endpoint endpointDescriptors
-    none-elsewhere q n = rw (p, q, ne-eqb (d .state) inConfigured n)
+-- by its order of refusals
+module _ (number : ℕ) (v : View) (set : List ℕ) (d : Device) (k : ℕ) where
+  pub set-refused : (number ≡ 0 → ⊥) → endpointIn number v set d k ≡ Refused 7
+  set-refused p = rw (ne-eqb number 0 p)
 
-    pub answers : fits (viewOf b) d ≡ true → d .state ≡ inConfigured
-        → endpoint b d k ≡ standing (found (selectedEntry (b .set) d)) (foundAt (getElem? (currentDescriptors (d .alternates) (selectedBody (b .set) (d .configuration))) k))
-    unfolding endpoint endpointDescriptors
-    answers q n = rw (p, q, eq-eqb (d .state) inConfigured n) (stands-in (b .set) d k (selectedEntry (b .set) d))
+  module _ (p : number ≡ 0) where
+    pub record-refused : fits v d ≡ false → endpointIn number v set d k ≡ Refused 8
+    record-refused q = rw (eq-eqb number 0 p, q)
+
+    pub none-elsewhere : fits v d ≡ true → (d .state ≡ inConfigured → ⊥) → endpointIn number v set d k ≡ Refused 16
+    unfolding endpointDescriptors
+    none-elsewhere q n = rw (eq-eqb number 0 p, q, ne-eqb (d .state) inConfigured n)
+
+    pub answers : fits v d ≡ true → d .state ≡ inConfigured
+        → endpointIn number v set d k ≡ standing (found (selectedEntry set d)) (foundAt (getElem? (currentDescriptors (d .alternates) (selectedBody set (d .configuration))) k))
+    unfolding endpointDescriptors
+    answers q n = rw (eq-eqb number 0 p, q, eq-eqb (d .state) inConfigured n) (stands-in set d k (selectedEntry set d))
 
 -- ---- a body of an accepted set is short
 module _ (alternates body : List ℕ) (well : wellCut (cut body) ≡ true) (k : ℕ) where
@@ -90,11 +100,11 @@ module _ (alternates body : List ℕ) (well : wellCut (cut body) ≡ true) (k : 
       go none q = omega arith
       go (some p) q = let l = lies alternates body well p (at-member (currentDescriptors alternates body) k q) .inside in omega (arith, l)
 
-pub body-short : (b : Board) → openingOf b ≡ 0 → (value : ℕ) → length (selectedBody (b .set) value) ≤ 16384
+pub body-short : (limits : Limits) (b : Board) → opening limits b ≡ 0 → (value : ℕ) → length (selectedBody (b .set) value) ≤ 16384
 unfolding goodFrame
-body-short b p value =
+body-short limits b p value =
     let set = b .set in
-    let short = leb-true (length set) 16384 (conjunct 1 (leb 4 (length set) ∷ leb (length set) 16384 ∷ eqb (total set) (length set) ∷ leb 1 (count set) ∷ leb (count set) 64 ∷ eqb (byte set 3) 0 ∷ leb (bodiesAt set) (total set) ∷ []) (groups fullSpeed b p .frame)) in
+    let short = leb-true (length set) 16384 (conjunct 1 (leb 4 (length set) ∷ leb (length set) 16384 ∷ eqb (total set) (length set) ∷ leb 1 (count set) ∷ leb (count set) 64 ∷ eqb (byte set 3) 0 ∷ leb (bodiesAt set) (total set) ∷ []) (groups limits b p .frame)) in
     go short (found (first (valued set value) (entriesOf 2 set)))
   where
     go : length (b .set) ≤ 16384 → (f : EntryFound) → length (bodyFound (b .set) f) ≤ 16384
@@ -102,25 +112,24 @@ body-short b p value =
     go h (At e) = rw (length-take, length-drop) (omega arith)
 
 -- ---- what was gathered tells whether the record fits
-module _ (b : Board) (d : Device) {entry : EntryFound} {body : List ℕ} (e : entry ≡ found (selectedEntry (b .set) d)) (l : body ≡ bodyFound (b .set) entry) where
-  pub selected-body : body ≡ selectedBody (b .set) (d .configuration)
-  selected-body = l ∙ ap (bodyFound (b .set)) e
+module _ (paired : Bool) (set serial : List ℕ) (d : Device) {entry : EntryFound} {body : List ℕ} (e : entry ≡ found (selectedEntry set d)) (l : body ≡ bodyFound set entry) where
+  pub selected-body : body ≡ selectedBody set (d .configuration)
+  selected-body = l ∙ ap (bodyFound set) e
 
   pub fitting : {survey : Survey} {asked : Asked} {there waking fit : Bool}
-      → Surveys (configurationOf body) (d .alternates) asked survey → there ≡ isFound entry → waking ≡ any canWake (bodies 2 (b .set))
-      → ((v : View) (a : Asked) → Surveys (selected v d) (d .alternates) a survey → there ≡ hasValue (record { 0 = d .configuration }) (v .configurations) → waking ≡ wakes v → fit ≡ fits v d)
-      → fit ≡ fits (viewOf b) d
-  unfolding viewOf
+      → Surveys (configurationOf body) (d .alternates) asked survey → there ≡ isFound entry → waking ≡ any canWake (bodies 2 set)
+      → ((v : View) (a : Asked) → Surveys (selected v d) (d .alternates) a survey → there ≡ hasValue (record { 0 = d .configuration }) (v .configurations) → waking ≡ wakes v → paired ≡ v .paired → fit ≡ fits v d)
+      → fit ≡ fits (viewIn paired set serial) d
   fitting {asked = asked} s t w told =
-      told (viewOf b) asked (rw (is-selected b d selected-body) at s) (rw (t, e, value-there (b .set) (d .configuration))) (w ∙ sym (wakes-found (b .set)))
+      told (viewIn paired set serial) asked (rw (ap configurationOf selected-body ∙ selected-by-value set (d .configuration)) at s) (rw (t, e, value-there set (d .configuration))) (w ∙ sym (wakes-found set)) refl
 
 -- ---- each of them is an endpoint descriptor that obeys the rules, and lies in the set where it is said to lie
-pub record Stands (set : List ℕ) (p : DescriptorAt) : Type 0 where
+pub record Stands (limits : Limits) (set : List ℕ) (p : DescriptorAt) : Type 0 where
   pub inside : p .offset + length (p .bytes) ≤ length set
   pub shown : part set (p .offset) (length (p .bytes)) ≡ p .bytes
   pub long : byte (p .bytes) 0 ≡ length (p .bytes)
   pub kind : isEndpoint (p .bytes) ≡ true
-  pub good : goodEndpoint fullSpeed (p .bytes) ≡ true
+  pub good : goodEndpoint limits (p .bytes) ≡ true
 
 -- a part of a part
 within : (n at size : ℕ) (l : List ℕ) → at + size ≤ n → part (take n l) at size ≡ part l at size
@@ -137,70 +146,61 @@ unfolding goodDescriptors
 each-good limits size [] p = absurd (false≢true p)
 each-good limits size (d ∷ ds) p = conjunct 1 (goodHead size d ∷ every (goodDescriptor limits) ds ∷ goodInterfaces (bNumInterfaces d) (grouped ds) ∷ []) p
 
-module _ (b : Board) (opens : openingOf b ≡ 0) (d : Device) where
-  g : Groups fullSpeed b
-  g = groups fullSpeed b opens
+module _ (limits : Limits) (b : Board) (opens : opening limits b ≡ 0) (d : Device) where
+  g : Groups limits b
+  g = groups limits b opens
 
   -- the body of a configuration's entry obeys the rules
-  entry-good : (e : Entry) → List·Memᴰ e (entriesOf 2 (b .set)) → goodConfiguration fullSpeed (bodyOf (b .set) e) ≡ true
+  entry-good : (e : Entry) → List·Memᴰ e (entriesOf 2 (b .set)) → goodConfiguration limits (bodyOf (b .set) e) ≡ true
   unfolding goodConfigurations
   entry-good e m =
       let set = b .set in
-      let rules = numberedFrom 0 (entriesOf 2 set) ∷ every (goodConfiguration fullSpeed) (bodies 2 set) ∷ every (λ x. leb 1 (bConfigurationValue x)) (bodies 2 set)
+      let rules = numberedFrom 0 (entriesOf 2 set) ∷ every (goodConfiguration limits) (bodies 2 set) ∷ every (λ x. leb 1 (bConfigurationValue x)) (bodies 2 set)
       ∷ pairs (λ x y. not (eqb (bConfigurationValue x) (bConfigurationValue y))) (bodies 2 set) ∷ [] in
-      every-member (λ e. goodConfiguration fullSpeed (bodyOf set e)) (sym (every-map (goodConfiguration fullSpeed) (bodyOf set) (entriesOf 2 set)) ∙ conjunct 1 rules (g .configurations)) m
+      every-member (λ e. goodConfiguration limits (bodyOf set e)) (sym (every-map (goodConfiguration limits) (bodyOf set) (entriesOf 2 set)) ∙ conjunct 1 rules (g .configurations)) m
 
-  in-entry : (e : Entry) → List·Memᴰ e (entriesOf 2 (b .set)) → (q : DescriptorAt) → List·Memᴰ q (currentDescriptors (d .alternates) (bodyOf (b .set) e)) → Stands (b .set) (inSet e q)
+  in-entry : (e : Entry) → List·Memᴰ e (entriesOf 2 (b .set)) → (q : DescriptorAt) → List·Memᴰ q (currentDescriptors (d .alternates) (bodyOf (b .set) e)) → Stands limits (b .set) (inSet e q)
   unfolding goodConfiguration
   in-entry e m q n =
       let set = b .set in
       let body = bodyOf set e in
-      let (well, rules) = both (wellCut (cut body)) (goodDescriptors fullSpeed (length body) (descriptorsOf (cut body))) (entry-good e m) in
+      let (well, rules) = both (wellCut (cut body)) (goodDescriptors limits (length body) (descriptorsOf (cut body))) (entry-good e m) in
       let lie = lies (d .alternates) body well q n in
-      let fit = inside fullSpeed b g e (only-member (isKind 2) (entries set) m .0) in
+      let fit = inside limits b g e (only-member (isKind 2) (entries set) m .0) in
       let size : length body ≤ e .length = rw (length-take, length-drop) (omega arith) in
       let l = q .bytes in
       let (k, t) = from-member (d .alternates) false (byte body 0) (behind (descriptorsOf (cut body))) q n in
-      let each = every-member (goodDescriptor fullSpeed) (each-good fullSpeed (length body) (descriptorsOf (cut body)) rules) k in
+      let each = every-member (goodDescriptor limits) (each-good limits (length body) (descriptorsOf (cut body)) rules) k in
       record {
         inside = omega (arith, lie .inside, fit, size);
         shown = sym (part-part set (e .offset) (e .length) (q .offset) (length l) (omega (arith, lie .inside, size))) ∙ lie .shown;
         long = lie .long;
         kind = t;
-        good = if-then (isEndpoint l) (goodEndpoint fullSpeed l) (conjunct 2 (not (named (fullSpeed .refused) (bDescriptorType l)) ∷ (isInterface l ⇒ leb 9 (length l)) ∷ (isEndpoint l ⇒ goodEndpoint fullSpeed l) ∷ []) each) t;
+        good = if-then (isEndpoint l) (goodEndpoint limits l) (conjunct 2 (not (named (limits .refused) (bDescriptorType l)) ∷ (isInterface l ⇒ leb 9 (length l)) ∷ (isEndpoint l ⇒ goodEndpoint limits l) ∷ []) each) t;
       }
 
-  pub stands : (p : DescriptorAt) → List·Memᴰ p (endpointDescriptors (b .set) d) → Stands (b .set) p
+  pub stands : (p : DescriptorAt) → List·Memᴰ p (endpointDescriptors (b .set) d) → Stands limits (b .set) p
   unfolding endpointDescriptors
   stands p m = go (eqb (d .state) inConfigured) (selectedEntry (b .set) d) refl m
     where
-      go : (t : Bool) (o : Option Entry) → selectedEntry (b .set) d ≡ o → List·Memᴰ p (pick t (endpointsIn (b .set) d o) []) → Stands (b .set) p
+      go : (t : Bool) (o : Option Entry) → selectedEntry (b .set) d ≡ o → List·Memᴰ p (pick t (endpointsIn (b .set) d o) []) → Stands limits (b .set) p
       go false o e n = absurd (List·Memᴰ·not-nil n)
       go true none e n = absurd (List·Memᴰ·not-nil n)
       go true (some x) e n =
           let (q, k, i) = mapped (inSet x) (currentDescriptors (d .alternates) (bodyOf (b .set) x)) n in
           rw i (in-entry x (first-some (λ x. eqb (bConfigurationValue (bodyOf (b .set) x)) (d .configuration)) (entriesOf 2 (b .set)) e .0) q k)
 
--- ---- so an answer's part lies in the set
-module _ (b : Board) where
-  in-set : (o : Option DescriptorAt) → ((p : DescriptorAt) → o ≡ some p → Stands (b .set) p) → Inside (b .set) (b .serial) (partOf (endpointPart o))
-  in-set none h = omega arith
-  in-set (some p) h = h p refl .inside
+-- ---- so an answer's part lies in the set in use
+module _ (b : Board) (d : Device) (k : ℕ) where
+  in-set : (limits : Limits) (o : Option DescriptorAt) → ((p : DescriptorAt) → o ≡ some p → Stands limits (setAt b d) p) → InsideAt b (d .speed) (partOf (endpointPart o))
+  in-set limits none h = omega arith
+  in-set limits (some p) h = h p refl .inside
 
-  pub endpoint-inside : (d : Device) (k : ℕ) → Inside (b .set) (b .serial) (partOf (endpoint b d k))
+  pub endpoint-inside : InsideAt b (d .speed) (partOf (endpoint b d k))
   unfolding endpoint
-  endpoint-inside d k = cases (accepted b)
-      (λ p. cases (fits (viewOf b) d)
-      (λ q. rw (p, q) (in-set (getElem? (endpointDescriptors (b .set) d) k) (λ x e. stands b (eqb-true (openingOf b) 0 p) d x (at-member (endpointDescriptors (b .set) d) k e))))
+  endpoint-inside = cases (accepted b)
+      (λ p. cases (fitsOn b d)
+      (λ q. rw (p, q) (in-set (rowFor (b .high) (d .speed)) (getElem? (endpointDescriptors (setAt b d) d) k)
+      (λ x e. stands (rowFor (b .high) (d .speed)) (boardFor b (d .speed)) (opensFor b (d .speed) (eqb-true (openingOf b) 0 p)) d x (at-member (endpointDescriptors (setAt b d) d) k e))))
       (λ q. rw (p, q) (omega arith)))
       (λ p. rw p (omega arith))
-
-  pub endpoint-of-set : (d : Device) (k : ℕ) → partOf (endpoint b d k) .block ≡ ofSet
-  unfolding endpoint
-  endpoint-of-set d k = cases (accepted b)
-      (λ p. cases (fits (viewOf b) d) (λ q. rw (p, q) (go (getElem? (endpointDescriptors (b .set) d) k))) (λ q. rw (p, q)))
-      (λ p. rw p)
-    where
-      go : (o : Option DescriptorAt) → partOf (endpointPart o) .block ≡ ofSet
-      go none = refl
-      go (some p) = refl

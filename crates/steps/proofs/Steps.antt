@@ -1,48 +1,57 @@
 -- The step by its order of refusals, and what it knows past them. No axiom.
 use Prim.Native.Nat.{ℕ, _<_}
 use native.Mathlib.Omega.{arith}
-use mathlib.Core.Path.{_≡_, ap, _∙_}
+use mathlib.Core.Path.{_≡_, refl, ap, _∙_}
 use mathlib.Core.Bool.{true, false}
 use mathlib.Core.List.{List, [], _∷_}
 use lib.Dec.{eqb, leb}
-use borrow.Author.Tests.{leb-true}
-use Rattle.octets.specs.Sentences.{_⇒_}
+use borrow.Author.Tests.{eq-eqb, ne-eqb, leb-true}
+use Rattle.octets.specs.Sentences.{_⇒_, isSome}
 use Rattle.octets.proofs.Sentences.{conjunct}
 use Rattle.descriptors.specs.Configuration.{configurationOf}
 use Rattle.sets.specs.Opening.{Board}
-use Rattle.sets.specs.View.{View, viewOf, wakes, accepted}
+use Rattle.sets.specs.View.{View, viewOf, wakes, openingOf}
 use Rattle.records.specs.declared.Device.{Device}
-use Rattle.records.specs.Current.{selected, currentEndpoints}
-use Rattle.records.specs.Fits.{inRange, goodWaiting, goodState, goodAlternates, standsAt, fits}
+use Rattle.records.specs.Image.{deviceOf}
+use Rattle.records.specs.Current.{setFor, selected, currentEndpoints}
+use Rattle.records.specs.Fits.{goodSpeed, inRange, goodWaiting, goodState, goodAlternates, standsAt, fits}
 use Rattle.events.specs.declared.Event.{Event}
 use Rattle.events.specs.Answer.{refused}
-use Rattle.events.specs.Step.{respond, step}
-use Rattle.steps.specs.Gathering.{selectedBody}
+use Rattle.events.specs.Step.{respond, step, event}
+use Rattle.steps.specs.Gathering.{viewIn, stepIn, eventIn, selectedBody}
 use Rattle.steps.proofs.Configurations.{selected-by-value}
 
-module _ (b : Board) (d : Device) (e : Event) where
-  pub set-refused : accepted b ≡ false → step b d e ≡ refused 7 d
-  unfolding step
-  set-refused p = rw p
+-- the step is that of the set in use
+pub step-in : (b : Board) (d : Device) (e : Event) → step b d e ≡ stepIn (openingOf b) (viewIn (isSome (b .high)) (setFor b (d .speed)) (b .serial)) d e
+unfolding step viewOf
+step-in b d e = refl
 
-  pub record-refused : accepted b ≡ true → fits (viewOf b) d ≡ false → step b d e ≡ refused 8 d
-  unfolding step
-  record-refused p q = rw (p, q)
+pub event-in : (b : Board) (image : List ℕ) (e : Event) → event b image e ≡ eventIn (openingOf b) (viewIn (isSome (b .high)) (setFor b (deviceOf image .speed)) (b .serial)) image e
+unfolding event step viewOf
+event-in b image e = refl
 
-  pub responds : accepted b ≡ true → fits (viewOf b) d ≡ true → step b d e ≡ respond (viewOf b) d e
-  unfolding step
-  responds p q = rw (p, q)
+module _ (number : ℕ) (v : View) (d : Device) (e : Event) where
+  pub set-refused : (number ≡ 0 → ⊥) → stepIn number v d e ≡ refused 7 d
+  set-refused p = rw (ne-eqb number 0 p)
+
+  module _ (p : number ≡ 0) where
+    pub record-refused : fits v d ≡ false → stepIn number v d e ≡ refused 8 d
+    record-refused q = rw (eq-eqb number 0 p, q)
+
+    pub responds : fits v d ≡ true → stepIn number v d e ≡ respond v d e
+    responds q = rw (eq-eqb number 0 p, q)
 
 -- the body that was looked up is the selected configuration's
 pub is-selected : (b : Board) (d : Device) {body : List ℕ} → body ≡ selectedBody (b .set) (d .configuration) → configurationOf body ≡ selected (viewOf b) d
 unfolding viewOf
 is-selected b d p = ap configurationOf p ∙ selected-by-value (b .set) (d .configuration)
 
--- a record that fits has a wakeup and a power source of 0 or 1
-pub bits-small : (v : View) (d : Device) → fits v d ≡ true → (d .wakeup < 2) × (d .power < 2)
+-- what a record that fits has: a wakeup and a power source of 0 or 1, and what may wait
+pub at-work : (v : View) (d : Device) → fits v d ≡ true → (d .wakeup < 2) × ((d .power < 2) × (goodWaiting d ≡ true))
 unfolding fits
-bits-small v d p =
+at-work v d p =
     let es = currentEndpoints v d in
-    let range = conjunct 0 (inRange d ∷ goodWaiting d ∷ goodState v d ∷ goodAlternates (selected v d) d ∷ standsAt es (d .halts) ∷ standsAt es (d .toggles) ∷ (eqb (d .wakeup) 1 ⇒ wakes v) ∷ []) p in
-    let ranges = leb (d .state) 2 ∷ leb (d .wakeup) 1 ∷ leb (d .power) 1 ∷ leb (d .suspended) 1 ∷ eqb (d .speed) 0 ∷ [] in
-    (omega (arith, leb-true (d .wakeup) 1 (conjunct 1 ranges range)), omega (arith, leb-true (d .power) 1 (conjunct 2 ranges range)))
+    let rules = inRange (v .paired) d ∷ goodWaiting d ∷ goodState v d ∷ goodAlternates (selected v d) d ∷ standsAt es (d .halts) ∷ standsAt es (d .toggles) ∷ (eqb (d .wakeup) 1 ⇒ wakes v) ∷ [] in
+    let range = conjunct 0 rules p in
+    let ranges = leb (d .state) 2 ∷ leb (d .wakeup) 1 ∷ leb (d .power) 1 ∷ leb (d .suspended) 1 ∷ goodSpeed (v .paired) (d .speed) ∷ [] in
+    (omega (arith, leb-true (d .wakeup) 1 (conjunct 1 ranges range)), (omega (arith, leb-true (d .power) 1 (conjunct 2 ranges range)), conjunct 1 rules p))

@@ -1,4 +1,4 @@
--- What hk_endpoint answers: "the number-th endpoint descriptor of the current settings, from 0", as a part of the set; "7, 8, or 16 where there is
+-- What hk_endpoint answers: "the number-th endpoint descriptor of the current settings, from 0", as a part of the set in use; "7, 8, or 16 where there is
 -- no such endpoint (a query, so it drops nothing)".
 use Prim.Native.Nat.{ℕ, _+_}
 use mathlib.Core.List.{List, [], map}
@@ -15,6 +15,7 @@ use Rattle.sets.specs.View.{accepted}
 use Rattle.records.specs.declared.Device.{Device}
 use Rattle.records.specs.Device.{inConfigured}
 use Rattle.records.specs.Image.{deviceOf}
+use Rattle.records.specs.Current.{setAt}
 use Rattle.records.specs.Fits.{fitsOn}
 use Rattle.events.specs.declared.Answer.{Answer}
 use Rattle.events.specs.declared.Answer.the-variants.{SetPart, Refused}
@@ -41,7 +42,7 @@ endpointPart (some p) = SetPart (p .offset) (length (p .bytes))
 
 -- "Order: 7, 8, then .. 16"
 unfoldable pub endpoint : Board → Device → ℕ → Answer
-endpoint b d k = pick (accepted b) (pick (fitsOn b d) (endpointPart (getElem? (endpointDescriptors (b .set) d) k)) (Refused 8)) (Refused 7)
+endpoint b d k = pick (accepted b) (pick (fitsOn b d) (endpointPart (getElem? (endpointDescriptors (setAt b d) d) k)) (Refused 8)) (Refused 7)
 
 -- on images of any length: 7 comes before 8
 unfoldable pub endpointOn : Board → List ℕ → ℕ → Answer

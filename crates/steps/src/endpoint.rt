@@ -10,10 +10,7 @@ use sets::EntryFound;
 use sets::configuration;
 ghost use mathlib.Core.Path.{_≡_};
 ghost use Prim.Native.Nat.{_≤_};
-ghost use Rattle.sets.specs.Opening.{lent};
-ghost use Rattle.sets.specs.View.{openingOf};
-ghost use Rattle.steps.specs.Gathering.{beginning, standing};
-ghost use Rattle.steps.specs.Endpoint.{endpoint};
+ghost use Rattle.steps.specs.Gathering.{Openable, viewIn, endpointIn, beginning, standing};
 
 // A descriptor that was found in an entry's body, as a part of the set.
 fn part_of(entry: EntryFound, found: DescriptorFound) -> Answer
@@ -32,10 +29,18 @@ fn part_of(entry: EntryFound, found: DescriptorFound) -> Answer
     }
 }
 
-// The one with this number, on a board that was checked: `opening` is what opening gives. It is asked before this frame stands, to spare the stack.
-pub fn endpoint(opening: u8, set: &[u8], serial: &[u8], device: Device, number: u8) -> Answer
-    requires { ⌜ opening ≡ openingOf (lent (now set) (now serial)) ⌝ }
-    ensures { λ r. ⌜ r ≡ endpoint (lent (now (set .entry)) (now (serial .entry))) device number ⌝ }
+// The one with this number, on a board that was checked: `opening` is what opening gives, `set` is the set in use, one of two if `paired`. Opening
+// is asked before this frame stands, to spare the stack.
+pub fn endpoint(
+    opening: u8,
+    paired: bool,
+    set: &[u8],
+    serial: &[u8],
+    device: Device,
+    number: u8,
+) -> Answer
+    requires { ⌜ (opening ≡ 0 → Openable (now set) (now serial)) ⌝ }
+    ensures { λ r. ⌜ r ≡ endpointIn opening (viewIn paired (now (set .entry)) (now (serial .entry))) (now (set .entry)) device number ⌝ }
 {
     if opening != 0 {
         return Answer::Refused(7);
@@ -53,6 +58,7 @@ pub fn endpoint(opening: u8, set: &[u8], serial: &[u8], device: Device, number: 
         survey,
         facts::is_found(selected),
         configuration::wakes(set),
+        paired,
         device,
     ) {
         return Answer::Refused(8);

@@ -11,18 +11,17 @@ use sets::EntryFound;
 use sets::configuration;
 use sets::contents;
 ghost use mathlib.Core.Path.{_≡_};
-ghost use mathlib.Core.Bool.{false};
+ghost use mathlib.Core.Bool.{Bool, false};
 ghost use mathlib.Core.List.{List};
 ghost use Prim.Native.Nat.{ℕ, _<_};
 ghost use lib.Dec.{ltb};
 ghost use Rattle.octets.specs.Bit.{bit};
 ghost use Rattle.octets.specs.Sentences.{pick};
-ghost use Rattle.sets.specs.Opening.{lent};
 ghost use Rattle.sets.specs.Found.{isFound};
-ghost use Rattle.sets.specs.View.{viewOf, openingOf, hasValue};
+ghost use Rattle.sets.specs.View.{hasValue};
 ghost use Rattle.events.specs.Requests.{languageFor, locateString, locate};
 ghost use Rattle.events.specs.Facts.{naming, questionOf, Tells};
-ghost use Rattle.steps.specs.Gathering.{configurationsIn, bodyFound, located};
+ghost use Rattle.steps.specs.Gathering.{configurationsIn, Openable, viewIn, bodyFound, located};
 
 // The question of a function event, or of one that asks nothing.
 fn naming(address: u8) -> Setup
@@ -45,7 +44,7 @@ fn question_of(event: Event) -> Setup
         Event::Request(setup) => setup,
         Event::Malformed => naming(0),
         Event::StatusEnd => naming(0),
-        Event::BusReset => naming(0),
+        Event::BusReset(_) => naming(0),
         Event::Halt(address) => naming(address),
         Event::PacketPassed(address) => naming(address),
         Event::Power(_) => naming(0),
@@ -109,7 +108,7 @@ fn has_asked(set: &[u8], setup: Setup) -> bool
 
 // The language in which a string is given: string 0 is given for any, and the first listed one stands in for one that is not listed.
 fn language_for(set: &[u8], index: u8, asked: u16) -> u16
-    ensures { λ r. ⌜ ((serial : List ℕ) → r ≡ languageFor (viewOf (lent (now (set .entry)) serial)) index asked) ⌝ }
+    ensures { λ r. ⌜ ((paired : Bool) (serial : List ℕ) → r ≡ languageFor (viewIn paired (now (set .entry)) serial) index asked) ⌝ }
 {
     if index == 0 {
         return 0;
@@ -122,7 +121,7 @@ fn language_for(set: &[u8], index: u8, asked: u16) -> u16
 
 // Where the string with an index lies, in a language.
 fn locate_string(set: &[u8], serial: &[u8], index: u8, language: u16) -> Located
-    ensures { λ r. ⌜ r ≡ locateString (viewOf (lent (now (set .entry)) (now (serial .entry)))) index language ⌝ }
+    ensures { λ r. ⌜ ((paired : Bool) → r ≡ locateString (viewIn paired (now (set .entry)) (now (serial .entry))) index language) ⌝ }
 {
     if (1 <= index) & (index == sets::device::serial_index(set)) {
         if sets::string::language_listed(set, language) {
@@ -135,9 +134,10 @@ fn locate_string(set: &[u8], serial: &[u8], index: u8, language: u16) -> Located
     place(contents::find_entry(set, 3, index, language))
 }
 
-// Where the descriptor lies that GET_DESCRIPTOR asks for: a configuration by its index, a device or a string by its entry.
+// Where the descriptor lies that GET_DESCRIPTOR asks for: a configuration by its index, another type by its entry. In a set that is lent alone there
+// is no entry of type 6 or 7.
 fn locate(set: &[u8], serial: &[u8], setup: Setup) -> Located
-    ensures { λ r. ⌜ (setup .bRequest ≡ 0x06 → r ≡ locate (viewOf (lent (now (set .entry)) (now (serial .entry)))) setup) ⌝ }
+    ensures { λ r. ⌜ ((paired : Bool) → setup .bRequest ≡ 0x06 → r ≡ locate (viewIn paired (now (set .entry)) (now (serial .entry))) setup) ⌝ }
 {
     let kind = (setup.wValue / 256) as u8;
     let index = (setup.wValue % 256) as u8;
@@ -150,16 +150,16 @@ fn locate(set: &[u8], serial: &[u8], setup: Setup) -> Located
     if kind == 2 {
         return place(configuration::by_index(set, ConfigurationIndex(index)));
     }
-    if kind == 1 {
-        return place(contents::find_entry(set, 1, index, 0));
+    if (kind == 1) | (kind == 6) | (kind == 7) {
+        return place(contents::find_entry(set, kind, index, 0));
     }
     Located::Nowhere
 }
 
-// The facts: one lookup of the selected configuration and one walk through it; what only one request asks is looked up for it alone.
-pub fn gather(set: &[u8], serial: &[u8], device: Device, event: Event) -> Facts
-    requires { ⌜ openingOf (lent (now set) (now serial)) ≡ 0 ⌝ }
-    ensures { λ r. ⌜ Tells (viewOf (lent (now (set .entry)) (now (serial .entry)))) device (questionOf event) r ⌝ }
+// The facts of the set in use, one of two or lent alone: one lookup of the selected configuration and one walk through it; what only one request asks is looked up for it alone.
+pub fn gather(paired: bool, set: &[u8], serial: &[u8], device: Device, event: Event) -> Facts
+    requires { ⌜ Openable (now set) (now serial) ⌝ }
+    ensures { λ r. ⌜ Tells (viewIn paired (now (set .entry)) (now (serial .entry))) device (questionOf event) r ⌝ }
 {
     let question = question_of(event);
     let selected = configuration::by_value(set, ConfigurationValue(device.configuration));
@@ -173,6 +173,7 @@ pub fn gather(set: &[u8], serial: &[u8], device: Device, event: Event) -> Facts
     };
     let survey = survey::walk(body, alternates, asked);
     Facts {
+        paired,
         configured: is_found(selected),
         waking: configuration::wakes(set),
         interface: is_among(survey.existing, index),

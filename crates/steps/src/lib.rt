@@ -1,4 +1,4 @@
-// The step of a device: the set and the serial block that are lent are checked, then the record, and then the event is answered.
+// The step of a device: the set or the two sets and the serial block that are lent are checked, then the record, and then the event is answered.
 use events::Answer;
 use events::Event;
 use events::Outcome;
@@ -6,11 +6,14 @@ use events::reaction;
 use events::reaction::Reaction;
 use records::Device;
 ghost use mathlib.Core.Path.{_≡_};
+ghost use lib.Dec.{eqb};
+ghost use Rattle.octets.specs.Sentences.{pick};
 ghost use Rattle.sets.specs.Opening.{lent};
 ghost use Rattle.sets.specs.View.{openingOf};
 ghost use Rattle.events.specs.Answer.{gives};
 ghost use Rattle.events.specs.Facts.{outcomeOf};
 ghost use Rattle.events.specs.Step.{step};
+ghost use Rattle.steps.specs.Gathering.{Openable, viewIn, stepIn};
 
 pub mod endpoint;
 pub mod facts;
@@ -22,28 +25,48 @@ pub fn opening(set: &[u8], serial: &[u8]) -> u8
     sets::opening(set, serial, descriptors::full_speed())
 }
 
-// The reaction to an event on a board that was checked: `number` is what opening gives. It is asked before this frame stands, to spare the stack.
-pub fn react(number: u8, set: &[u8], serial: &[u8], device: Device, event: Event) -> Reaction
-    requires { ⌜ number ≡ openingOf (lent (now set) (now serial)) ⌝ }
-    ensures { λ r. ⌜ outcomeOf r device ≡ step (lent (now (set .entry)) (now (serial .entry))) device event ⌝ }
+// The set in use, of two: byte 7 of the record says which. It is no copy.
+pub fn in_use<'a>(full: &'a [u8], high: &'a [u8], speed: u8) -> &'a [u8]
+    ensures bytes { λ r. ⌜ now r ≡ pick (eqb speed 0) (now (full .entry)) (now (high .entry)) ⌝ }
+    ensures block { λ r. ⌜ r .ptr .0 ≡ pick (eqb speed 0) ((full .entry) .ptr .0) ((high .entry) .ptr .0) ⌝ }
+    ensures offset { λ r. ⌜ r .ptr .1 ≡ pick (eqb speed 0) ((full .entry) .ptr .1) ((high .entry) .ptr .1) ⌝ }
+{
+    if speed == 0 {
+        return full;
+    }
+    high
+}
+
+// The reaction to an event on a board that was checked: `number` is what opening gives, `set` is the set in use, one of two if `paired`. Opening
+// is asked before this frame stands, to spare the stack.
+pub fn react(
+    number: u8,
+    paired: bool,
+    set: &[u8],
+    serial: &[u8],
+    device: Device,
+    event: Event,
+) -> Reaction
+    requires { ⌜ (number ≡ 0 → Openable (now set) (now serial)) ⌝ }
+    ensures { λ r. ⌜ outcomeOf r device ≡ stepIn number (viewIn paired (now (set .entry)) (now (serial .entry))) device event ⌝ }
 {
     if number != 0 {
         return reaction::refused(7, device);
     }
-    let known = facts::gather(set, serial, device, event);
+    let known = facts::gather(paired, set, serial, device, event);
     let survey = known.survey;
-    if !records::fits(survey, known.configured, known.waking, device) {
+    if !records::fits(survey, known.configured, known.waking, paired, device) {
         return reaction::refused(8, device);
     }
     events::respond::respond(known, device, event)
 }
 
-// The same, with the record that is left.
+// The step on a board that lends one set and was checked.
 pub fn step_opened(number: u8, set: &[u8], serial: &[u8], device: Device, event: Event) -> Outcome
     requires { ⌜ number ≡ openingOf (lent (now set) (now serial)) ⌝ }
     ensures { λ r. ⌜ r ≡ step (lent (now (set .entry)) (now (serial .entry))) device event ⌝ }
 {
-    let reaction = react(number, set, serial, device, event);
+    let reaction = react(number, false, set, serial, device, event);
     let answer = reaction.answer;
     let next = reaction.next;
     Outcome {

@@ -23,11 +23,10 @@ use Rattle.sets.specs.Opening.{lent, opening}
 use Rattle.sets.specs.Found.{isAt}
 use Rattle.sets.specs.View.{View, viewOf, entryByIndex, accepted}
 use Rattle.records.specs.declared.Device.{Device}
-use Rattle.records.specs.Device.{settled}
+use Rattle.records.specs.Device.{inTestMode, settled}
 use Rattle.records.specs.Image.{deviceOf, imageOf}
 use Rattle.records.specs.Fits.{fits, fitsOn}
 use Rattle.requests.specs.declared.Setup.{Setup}
-use Rattle.requests.specs.Table.{refusal}
 use Rattle.events.specs.declared.Answer.the-variants.{Refused}
 use Rattle.events.specs.declared.Event.{Event}
 use Rattle.events.specs.declared.Event.the-variants.{Request, Malformed, StatusEnd, BusReset, Halt, PacketPassed, Power, Suspend, Resume, Wake}
@@ -36,35 +35,35 @@ use Rattle.events.specs.declared.facts.Located.the-variants.{Body, Serial, Nowh
 use Rattle.events.specs.declared.Outcome.{Outcome}
 use Rattle.events.specs.Answer.{partOf, refused}
 use Rattle.events.specs.Places.{bytesIn}
-use Rattle.events.specs.Requests.{isEntry, bodyAt, languageFor, locateString, locate, describe, getStatus, clearFeature, setFeature, setAddress, getDescriptor, getConfiguration, setConfiguration, getInterface, setInterface}
-use Rattle.events.specs.Step.{request, answerSetup, halt, packetPassed, respond, step, Reply, replyOf, event}
+use Rattle.events.specs.Requests.{isEntry, bodyAt, byIndex, languageFor, locateString, locate, describe, getStatus, clearFeature, setFeature, setAddress, getDescriptor, getConfiguration, setConfiguration, getInterface, setInterface}
+use Rattle.events.specs.Step.{request, refusalFor, answerSetup, halt, packetPassed, respond, step, Reply, replyOf, event}
 use Rattle.pieces.proofs.InPieces.{same-bodies}
 use Rattle.keeping.specs.Keeping.{named, namedString, zeroStays}
 use Rattle.trimming.specs.Trim.{trimmed}
 use Rattle.trimming.specs.Asked.{bodyIn, bodyUnder, left}
-use Rattle.laws.proofs.Outcomes.{Answered, reads, fromSet, fromSerial, changes, refusedWith, Responded, answers, leaves, becomes, refuses, responded}
+use Rattle.laws.proofs.Outcomes.{Answered, reads, fromSet, fromSerial, changes, refusedWith, inTest, Responded, answers, leaves, becomes, refuses, responded}
 use Rattle.trim_laws.specs.Requests.{asksDropped, SaysSame}
 use Rattle.trim_laws.proofs.Again.{alike, same-bytes}
 use Rattle.trim_laws.proofs.Buffer.{same-configured, same-serial, same-languages}
 use Rattle.trim_laws.proofs.Opens.{opens-again}
 
--- ---- what is read of the configurations alone
+-- ---- what is read of the configurations, and of whether two sets are lent, alone
 -- a view with nothing else
-abbrev bare : List Configuration → View
-bare cs = record { entries = []; languages = []; serialIndex = 0; serialLength = 0; configurations = cs }
+abbrev bare : View → View
+bare v = record { entries = []; languages = []; serialIndex = 0; serialLength = 0; configurations = v .configurations; paired = v .paired }
 
-fits-bare : (v : View) (d : Device) → fits v d ≡ fits (bare (v .configurations)) d
+fits-bare : (v : View) (d : Device) → fits v d ≡ fits (bare v) d
 unfolding fits
 fits-bare v d = refl
 
-fits-alike : (v w : View) → v .configurations ≡ w .configurations → (d : Device) → fits v d ≡ fits w d
-fits-alike v w e d = fits-bare v d ∙ ap (λ (cs : List Configuration). fits (bare cs) d) e ∙ sym (fits-bare w d)
+fits-alike : (v w : View) → bare v ≡ bare w → (d : Device) → fits v d ≡ fits w d
+fits-alike v w e d = fits-bare v d ∙ ap (λ (x : View). fits x d) e ∙ sym (fits-bare w d)
 
 abbrev getsDescriptor : Event → Bool
 getsDescriptor (Request s) = eqb (s .bRequest) 0x06
 getsDescriptor Malformed = false
 getsDescriptor StatusEnd = false
-getsDescriptor BusReset = false
+getsDescriptor (BusReset speed) = false
 getsDescriptor (Halt a) = false
 getsDescriptor (PacketPassed a) = false
 getsDescriptor (Power source) = false
@@ -72,17 +71,18 @@ getsDescriptor Suspend = false
 getsDescriptor Resume = false
 getsDescriptor Wake = false
 
-request-bare : (v : View) (d : Device) (s : Setup) → eqb (s .bRequest) 0x06 ≡ false → request v d s ≡ request (bare (v .configurations)) d s
+request-bare : (v : View) (d : Device) (s : Setup) → eqb (s .bRequest) 0x06 ≡ false → request v d s ≡ request (bare v) d s
 unfolding request getStatus clearFeature setFeature setAddress getConfiguration setConfiguration getInterface setInterface
 request-bare v d s h = rw h
 
-respond-bare : (v : View) (d : Device) (e : Event) → getsDescriptor e ≡ false → respond v d e ≡ respond (bare (v .configurations)) d e
+respond-bare : (v : View) (d : Device) (e : Event) → getsDescriptor e ≡ false → respond v d e ≡ respond (bare v) d e
 unfolding answerSetup halt packetPassed
 respond-bare v d (Request s) h =
-    ap (λ (o : Outcome). pick (eqb (refusal (d .state) s) 0) o (refused (refusal (d .state) s) (settled d))) (request-bare v (settled d) s h)
+    let n = refusalFor (v .paired) d s in
+    ap (λ (o : Outcome). pick (inTestMode d) (refused 17 (settled d)) (pick (eqb n 0) o (refused n (settled d)))) (request-bare v (settled d) s h)
 respond-bare v d Malformed h = refl
 respond-bare v d StatusEnd h = refl
-respond-bare v d BusReset h = refl
+respond-bare v d (BusReset speed) h = refl
 respond-bare v d (Halt a) h = refl
 respond-bare v d (PacketPassed a) h = refl
 respond-bare v d (Power source) h = refl
@@ -92,29 +92,30 @@ respond-bare v d Wake h = refl
 
 -- without entries no part lies in the set, so what is shown hangs on the serial block alone
 module _ (set other serial : List ℕ) where
-  answered-alike : {v : View} {d : Device} {o : Outcome} → Answered v d o → v .entries ≡ [] → bytesIn set serial (partOf (o .answer)) ≡ bytesIn other serial (partOf (o .answer))
+  answered-alike : {v : View} {d : Device} {o : Outcome} → Answered v d o → v .entries ≡ [] → bytesIn set set serial (partOf (o .answer)) ≡ bytesIn other other serial (partOf (o .answer))
   answered-alike (reads a n p) q = rw p
   answered-alike (fromSet e asked m) q = absurd (List·Memᴰ·not-nil (rw q at m))
   answered-alike (fromSerial asked) q = refl
   answered-alike (changes c) q = refl
   answered-alike (refusedWith n a b) q = refl
+  answered-alike (inTest t) q = refl
 
-  shown-alike : {v : View} {d : Device} {e : Event} {o : Outcome} → Responded v d e o → v .entries ≡ [] → bytesIn set serial (partOf (o .answer)) ≡ bytesIn other serial (partOf (o .answer))
+  shown-alike : {v : View} {d : Device} {e : Event} {o : Outcome} → Responded v d e o → v .entries ≡ [] → bytesIn set set serial (partOf (o .answer)) ≡ bytesIn other other serial (partOf (o .answer))
   shown-alike (answers a) q = answered-alike a q
   shown-alike leaves q = refl
   shown-alike (becomes c) q = refl
   shown-alike (refuses r) q = refl
 
   -- the same outcome, from two sets, without a part in either
-  same-outcome : (x y z : Outcome) → x ≡ z → y ≡ z → bytesIn set serial (partOf (z .answer)) ≡ bytesIn other serial (partOf (z .answer)) → SaysSame set other serial (x .answer) (y .answer) × (x .device ≡ y .device)
+  same-outcome : (x y z : Outcome) → x ≡ z → y ≡ z → bytesIn set set serial (partOf (z .answer)) ≡ bytesIn other other serial (partOf (z .answer)) → SaysSame set other serial (x .answer) (y .answer) × (x .device ≡ y .device)
   same-outcome x y z p q h = rw (p, q) (record { number = refl; bytes = refl; shown = h }, refl)
 
-  plain-alike : (v w : View) → v .configurations ≡ w .configurations → (d : Device) (e : Event) → getsDescriptor e ≡ false
+  plain-alike : (v w : View) → bare v ≡ bare w → (d : Device) (e : Event) → getsDescriptor e ≡ false
       → SaysSame set other serial (respond v d e .answer) (respond w d e .answer) × (respond v d e .device ≡ respond w d e .device)
   plain-alike v w c d e h =
-      same-outcome (respond v d e) (respond w d e) (respond (bare (w .configurations)) d e)
-      (respond-bare v d e h ∙ ap (λ (cs : List Configuration). respond (bare cs) d e) c) (respond-bare w d e h)
-      (shown-alike (responded (bare (w .configurations)) d e) refl)
+      same-outcome (respond v d e) (respond w d e) (respond (bare w) d e)
+      (respond-bare v d e h ∙ ap (λ (x : View). respond x d e) c) (respond-bare w d e h)
+      (shown-alike (responded (bare w) d e) refl)
 
 -- ---- GET_DESCRIPTOR
 -- "never more than wLength bytes, from the start of the body"
@@ -163,9 +164,9 @@ module _ (set serial : List ℕ) where
   abbrev w : View
   w = viewOf (lent (trimmed set) serial)
 
-  same-view : v .configurations ≡ w .configurations
+  same-view : bare v ≡ bare w
   unfolding viewOf
-  same-view = sym (same-configured set)
+  same-view = ap (λ (cs : List Configuration). record { entries = []; languages = []; serialIndex = 0; serialLength = 0; configurations = cs; paired = false }) (sym (same-configured set))
 
   abbrev SameAt : Located → Located → Type 0
   SameAt l m = SameBytes set (trimmed set) l m
@@ -231,7 +232,10 @@ module _ (set serial : List ℕ) where
   locate-alike s h =
       both-ways (eqb (s .wValue / 256) 3) (λ p. string-alike (s .wValue % 256) (s .wIndex) (not-false (left set 3 (s .wValue % 256)) (rw p at h)))
       (λ p. both-ways (eqb (s .wValue / 256) 2) (λ p. configuration-alike (s .wValue % 256))
-      (λ p. both-ways (eqb (s .wValue / 256) 1) (λ p. entry-alike 1 (s .wValue % 256) 0 refl) (λ p. nowhere)))
+      (λ q. both-ways (byIndex (s .wValue / 256)) (λ r. entry-alike (s .wValue / 256) (s .wValue % 256) 0 (stays-by p)) (λ r. nowhere)))
+    where
+      stays-by : eqb (s .wValue / 256) 3 ≡ false → left set (s .wValue / 256) (s .wValue % 256) ≡ true
+      stays-by p = rw p
 
   abbrev Alike : Outcome → Outcome → Type 0
   Alike x y = SaysSame set (trimmed set) serial (x .answer) (y .answer) × (x .device ≡ y .device)
@@ -247,7 +251,7 @@ module _ (set serial : List ℕ) where
       rest false b p = p
 
   answer-alike : (d : Device) (e : Event) → asksDropped set e ≡ false → Alike (respond v d e) (respond w d e)
-  unfolding answerSetup
+  unfolding answerSetup viewOf
   answer-alike d e h = cases (getsDescriptor e) (λ c. asked d e h c) (λ c. plain-alike set (trimmed set) serial v w same-view d e c)
     where
       past : (n : ℕ) (d : Device) (s : Setup) → asksDropped set (Request s) ≡ false → eqb (s .bRequest) 0x06 ≡ true → (b : Bool)
@@ -255,11 +259,17 @@ module _ (set serial : List ℕ) where
       past n d s h c true = setup-alike (settled d) s h c
       past n d s h c false = (record { number = refl; bytes = refl; shown = refl }, refl)
 
+      entered : (d : Device) (s : Setup) → asksDropped set (Request s) ≡ false → eqb (s .bRequest) 0x06 ≡ true → (t : Bool)
+          → Alike (pick t (refused 17 (settled d)) (pick (eqb (refusalFor false d s) 0) (request v (settled d) s) (refused (refusalFor false d s) (settled d))))
+          (pick t (refused 17 (settled d)) (pick (eqb (refusalFor false d s) 0) (request w (settled d) s) (refused (refusalFor false d s) (settled d))))
+      entered d s h c true = (record { number = refl; bytes = refl; shown = refl }, refl)
+      entered d s h c false = past (refusalFor false d s) d s h c (eqb (refusalFor false d s) 0)
+
       asked : (d : Device) (e : Event) → asksDropped set e ≡ false → getsDescriptor e ≡ true → Alike (respond v d e) (respond w d e)
-      asked d (Request s) h c = past (refusal (d .state) s) d s h c (eqb (refusal (d .state) s) 0)
+      asked d (Request s) h c = entered d s h c (inTestMode d)
       asked d Malformed h c = never c refl
       asked d StatusEnd h c = never c refl
-      asked d BusReset h c = never c refl
+      asked d (BusReset speed) h c = never c refl
       asked d (Halt a) h c = never c refl
       asked d (PacketPassed a) h c = never c refl
       asked d (Power source) h c = never c refl

@@ -17,7 +17,7 @@ abbrev pub asksDropped : List ℕ → Event → Bool
 asksDropped set (Request s) = eqb (s .bRequest) 0x06 && eqb (s .wValue / 256) 3 && not (left set 3 (s .wValue % 256))
 asksDropped set Malformed = false
 asksDropped set StatusEnd = false
-asksDropped set BusReset = false
+asksDropped set (BusReset speed) = false
 asksDropped set (Halt a) = false
 asksDropped set (PacketPassed a) = false
 asksDropped set (Power source) = false
@@ -29,4 +29,4 @@ asksDropped set Wake = false
 pub record SaysSame (set other serial : List ℕ) (x y : Answer) : Type 0 where
   pub number : numberOf x ≡ numberOf y
   pub bytes : bytesOf x ≡ bytesOf y
-  pub shown : bytesIn set serial (partOf x) ≡ bytesIn other serial (partOf y)
+  pub shown : bytesIn set set serial (partOf x) ≡ bytesIn other other serial (partOf y)

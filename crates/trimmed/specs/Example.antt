@@ -44,7 +44,7 @@ notDropped = refl
 
 pub answeredAlike : SaysSame (T .set) (trimmed (T .set)) (T .serial)
     (step T configured (setupEvent askTwo) .answer) (step (lent (trimmed (T .set)) (T .serial)) configured (setupEvent askTwo) .answer)
-answeredAlike = sameStep (T .set) (T .serial) bytesT acceptedT configured (setupEvent askTwo) notDropped .0
+answeredAlike = sameStep (T .set) (T .serial) (bytesT .0) acceptedT configured (setupEvent askTwo) notDropped .0
 
 -- string 5 is dropped: it was given, and is refused after
 abbrev pub askFive : List ℕ

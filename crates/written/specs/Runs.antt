@@ -29,12 +29,12 @@ writtenBoard stream serial = lent (setOf stream) serial
 module _ (stream serial : List ℕ) (room : ℕ) (bytes : Bytes stream) (w : writing fullSpeed stream serial room ≡ 0) where
   -- demand 2: every image reached from power-on fits
   pub writtenFits : {image : List ℕ} → Reached (writtenBoard stream serial) image → FitImage (writtenBoard stream serial) image
-  writtenFits = reachedFits (writtenBoard stream serial) (writtenBytes fullSpeed stream serial room bytes w) (opens fullSpeed stream serial room w)
+  writtenFits = reachedFits (writtenBoard stream serial) (writtenBytes fullSpeed stream serial room bytes w, tt) (opens fullSpeed stream serial room w)
 
   -- demand 3: the order of two interfaces' events does not matter
   pub writtenOrder : (d : Device) → Sized d → fits (viewOf (writtenBoard stream serial)) d ≡ true → (xs ys : List Event) → Rearranged (writtenBoard stream serial) d xs ys
       → (after (writtenBoard stream serial) d xs ≡ after (writtenBoard stream serial) d ys) × ((k : ℕ) → heard (writtenBoard stream serial) d k xs ≡ heard (writtenBoard stream serial) d k ys)
-  writtenOrder = order (writtenBoard stream serial) (writtenBytes fullSpeed stream serial room bytes w) (opens fullSpeed stream serial room w)
+  writtenOrder = order (writtenBoard stream serial) (writtenBytes fullSpeed stream serial room bytes w, tt) (opens fullSpeed stream serial room w)
 
 -- ---- a run: the titrator T, written from its pieces, the last first
 abbrev pub titratorStream : List ℕ

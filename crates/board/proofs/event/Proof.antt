@@ -1,62 +1,29 @@
--- `board::event` meets its contract, by the image's length. No axiom.
+-- `board::event` meets its contract: the one set is in use. No axiom.
+use Prim.Native.Nat.{ℕ}
 use mathlib.Core.Path.{sym, ap, _∙_}
-use Rattle.records.specs.declared.Device.{Device}
-use Rattle.records.specs.Image.{imageOf}
-use Rattle.events.specs.declared.Outcome.{Outcome}
-use Rattle.events.specs.Step.{Reply, step, event}
-use Rattle.sets.specs.Opening.{lent}
-use Rattle.board.proofs.Lengths.{event-short, event-refused, event-whole}
+use mathlib.Core.Bool.{false}
 use borrow.Author.Needs.{needs}
+use Rattle.descriptors.specs.Limits.{fullSpeed}
+use Rattle.sets.specs.Opening.{lent}
+use Rattle.events.specs.Step.{Reply}
+use Rattle.steps.specs.Gathering.{viewIn, eventIn}
+use Rattle.steps.proofs.Steps.{event-in}
 use Rattle.board.proofs.event.Statement.{statement}
 use Rattle.board.proofs.event.Tie as tie
 
-returns : tie.Need-returns
-returns c =
-    let q = event-short _ _ _ (c .before .if1 .taken) _ (c .before .before .before .before .before .pre) (c .if2 .taken) in
-    (ap (λ (r : Reply). r .answer) (sym q), ap (λ (r : Reply). r .image) (sym q))
-
-returns-2 : tie.Need-returns-2
-returns-2 c =
-    let q = event-refused _ _ _ (c .before .if1 .taken) _ (c .before .before .before .before .before .pre) (c .if2 .left) in
-    (ap (λ (r : Reply). r .answer) (sym q), ap (λ (r : Reply). r .image) (sym q))
-
-load-requires : tie.Need-load-requires
-load-requires c κs = search needs
-
-react-requires : tie.Need-react-requires
-react-requires c κs = search needs
-
-changed-requires : tie.Need-changed-requires
-changed-requires c κs = search needs
-
-store-requires : tie.Need-store-requires
-store-requires c κs = search needs
+happen-requires : tie.Need-happen-requires
+happen-requires c κs = λ z. (fullSpeed, sym (c .before .before .before .before .pre) ∙ z)
 
 same-length : tie.Need-same-length
 same-length c = search needs
 
-returns-3 : tie.Need-returns-3
-returns-3 c =
-    let start = c .before .before .before .before .before .before .before .before .before in
-    let a = start .before .before .before .before .args in
-    let b = lent (a .set .now) (a .serial .now) in
-    let s = c .before .before .before .before .before .before .react .ensures
-    ∙ ap (λ (d : Device). step b d (a .what)) (c .before .before .before .before .before .before .before .load .ensures) in
-    let q = event-whole b (a .image .now) (a .what) (start .if1 .left) in (
-      ap (λ (o : Outcome). o .answer) s ∙ ap (λ (r : Reply). r .answer) (sym q),
-      c .before .before .store .ensures ∙ ap imageOf (c .before .before .before .before .changed .ensures) ∙ ap (λ (o : Outcome). imageOf (o .device)) s
-          ∙ ap (λ (r : Reply). r .image) (sym q),
-    )
+returns : tie.Need-returns
+returns c =
+    let start = c .before .before .before .before .before .before .before in
+    let a = start .args in
+    let q = ap (λ (n : ℕ). eventIn n (viewIn false (a .set .now) (a .serial .now)) (a .image .now) (a .what)) (start .pre) ∙ sym (event-in (lent (a .set .now) (a .serial .now)) (a .image .now) (a .what)) in
+    let e = c .before .before .happen .ensures in
+    (e .0 ∙ ap (λ (r : Reply). r .answer) q, e .1 ∙ ap (λ (r : Reply). r .image) q)
 
 pub event-spec : {M : Type 1} → statement M
-event-spec =
-    tie.close
-    (tie.spec
-    returns
-    returns-2
-    load-requires
-    react-requires
-    changed-requires
-    store-requires
-    same-length
-    returns-3)
+event-spec = tie.close (tie.spec happen-requires same-length returns)

@@ -62,7 +62,7 @@ use Rattle.steps.proofs.step_lent.Symbol as step-lent-def
 use Rattle.steps.proofs.step_lent.Symbol.{name as #step-lent}
 use Rattle.steps.proofs.step_lent.Met as step-lent-thm
 use Rattle.promises.specs.Refusals.{stepInside}
-use Rattle.board.specs.Exports.{spotOf, Hands, numbered, AnswersRecordEvent}
+use Rattle.board.specs.Exports.{spotOf, spots, Hands, numbered, AnswersRecordEvent}
 use Rattle.board.proofs.numbers.event_of as event-of
 use Rattle.board.proofs.numbers.event_of.Symbol as event-of-def
 use Rattle.board.proofs.numbers.event_of.Symbol.{name as #event-of}
@@ -263,13 +263,13 @@ module _ {M : Type 1} (𝓤 : URA M) (H : Heap 𝓤) (At : Atoms 𝓤) (W : Give
     a₃ = (set, (serial, (r, (bytes, (count, (part, tt))))))
 
     -- the part lies inside its slice
-    inside : (e : Event) (w : Device) → gives r w ≡ step board (device .now) e → Inside (set .now) (serial .now) (partOf r)
-    inside e w is = subst (λ (o : Outcome). Inside (set .now) (serial .now) (partOf (o .answer))) (sym is) (stepInside board (device .now) e)
+    inside : (e : Event) (w : Device) → gives r w ≡ step board (device .now) e → Inside (set .now) (set .now) (serial .now) (partOf r)
+    inside e w is = subst (λ (o : Outcome). Inside (set .now) (set .now) (serial .now) (partOf (o .answer))) (sym is) (stepInside board (device .now) e)
 
     abbrev to-hand : HandOut 𝓤 H At at-mem run .Ghost
     to-hand = ((κs₃, (q₀, (q₃, (q₄, (q₅, tt)))), bounds, a₃, (slice-mach set ∷ [], (slice-mach serial ∷ [], (u ∷ [], (ptr-mach bytes ∷ [], (ptr-mach count ∷ [], (ptr-mach part ∷ [], tt))))))), tt)
 
-    goes-hand : Inside (set .now) (serial .now) (partOf r) → ent 𝓤 (sep 𝓤 (sem 𝓤 H At (A.the-row .own r (u ∷ []))) (sep 𝓤 (At .lft κ₀ q₀) (mean 𝓤 H At Ask₃))) (HandOut 𝓤 H At at-mem run .pre to-hand)
+    goes-hand : Inside (set .now) (set .now) (serial .now) (partOf r) → ent 𝓤 (sep 𝓤 (sem 𝓤 H At (A.the-row .own r (u ∷ []))) (sep 𝓤 (At .lft κ₀ q₀) (mean 𝓤 H At Ask₃))) (HandOut 𝓤 H At at-mem run .pre to-hand)
     goes-hand within =
         qed W (‵ (A.the-row .own r (u ∷ [])) ∷ ‵ (flft κ₀ q₀) ∷ Ask₃ ∷ []) ∵ says ! within $ move ! (2 ∷ []) $ split ! $ move ! (3 ∷ 0 ∷ []) $ join ! $ move ! (1 ∷ []) $ fsplit3 ! $
         -- [set; serial; outs; the tokens; the answer]
@@ -280,7 +280,7 @@ module _ {M : Type 1} (𝓤 : URA M) (H : Heap 𝓤) (At : Atoms 𝓤) (W : Give
 
     -- what it says of its last values
     abbrev Says : ℕ → List ℕ × (ℕ × (Bytes × Unit {0})) → Type 0
-    Says n ws = Hands board (spotOf (set .ptr)) (spotOf (serial .ptr)) r n (ws .0) (ws .1 .0) (ws .1 .1 .0 .now) (spotOf (ws .1 .1 .0 .ptr))
+    Says n ws = (speed : ℕ) → Hands board speed (spots (spotOf (set .ptr)) (spotOf (serial .ptr))) r n (ws .0) (ws .1 .0) (ws .1 .1 .0 .now) (spotOf (ws .1 .1 .0 .ptr))
 
     abbrev Post : Val → SProp 𝓤
     Post = walkOf 𝓤 H At whole.ended stayed (whole.clauses 𝓤 H At at-mem run) .post ((κs, qs, bounds, a, at), tt)
@@ -302,10 +302,10 @@ module _ {M : Type 1} (𝓤 : URA M) (H : Heap 𝓤) (At : Atoms 𝓤) (W : Give
         move ! (2 ∷ 1 ∷ []) $ join ! $ move ! (4 ∷ 0 ∷ []) $ join ! $ move ! (1 ∷ 0 ∷ []) $ join ! $ done !))
       where
         ends : (e : Event) (w : Device) → e ≡ event₀ → gives r w ≡ step board (device .now) e → (n : ℕ) (ws : List ℕ × (ℕ × (Bytes × Unit {0}))) → Says n ws
-            → AnswersRecordEvent board (spotOf (set .ptr)) (spotOf (serial .ptr)) (device .now) event₀ n w (ws .0) (ws .1 .0) (ws .1 .1 .0 .now) (spotOf (ws .1 .1 .0 .ptr))
+            → AnswersRecordEvent board (spots (spotOf (set .ptr)) (spotOf (serial .ptr))) (device .now) event₀ n w (ws .0) (ws .1 .0) (ws .1 .1 .0 .now) (spotOf (ws .1 .1 .0 .ptr))
         ends e w e₁ e₂ n ws handed =
             let is : gives r w ≡ step board (device .now) event₀ = e₂ ∙ ap (step board (device .now)) e₁ in
-            record { leaves = ap (λ (o : Outcome). o .device) is; answers = subst (λ (o : Outcome). Hands board (spotOf (set .ptr)) (spotOf (serial .ptr)) (o .answer) n (ws .0) (ws .1 .0) (ws .1 .1 .0 .now) (spotOf (ws .1 .1 .0 .ptr))) is handed }
+            record { leaves = ap (λ (o : Outcome). o .device) is; answers = subst (λ (o : Outcome). Hands board (device .now .speed) (spots (spotOf (set .ptr)) (spotOf (serial .ptr))) (o .answer) n (ws .0) (ws .1 .0) (ws .1 .1 .0 .now) (spotOf (ws .1 .1 .0 .ptr))) is (handed (device .now .speed)) }
 
   module _ (C : Calls 𝓤 H) (Λ : Loops 𝓤 H) (fm : FmC 𝓤 H (W .laws) C) (bounds : AllOutlive 6 (whole.signature .outlives) κs)
       (known-opening : Triple 𝓤 (C #opening) (Opening 𝓤 H At at-mem run)) (known-event : Triple 𝓤 (C #event-of) (EventOf 𝓤 H At at-mem run)) (known-lent : Triple 𝓤 (C #step-lent) (Lent 𝓤 H At at-mem run)) (known-hand : Triple 𝓤 (C #hand-out) (HandOut 𝓤 H At at-mem run)) where

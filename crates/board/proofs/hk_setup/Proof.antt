@@ -1,5 +1,6 @@
 -- `board::hk_setup` meets its contract: the event's answer, handed out. No axiom.
 use mathlib.Core.Path.{_≡_, ap, _∙_}
+use Rattle.records.specs.Image.{deviceOf}
 use Rattle.events.specs.declared.Event.{Event}
 use Rattle.events.specs.Step.{event, setupEvent}
 use Rattle.promises.specs.Refusals.{eventInside}
@@ -36,7 +37,7 @@ returns c =
     let e : was .event .result ≡ event b (a .image .now) (setupEvent (a .setup .now)) .answer = was .event .ensures .0 ∙ ap (λ (x : Event). event b (a .image .now) x .answer) w in
     record {
       leaves = was .event .ensures .1 ∙ ap (λ (x : Event). event b (a .image .now) x .image) w;
-      answers = rw e at (c .hand-out .ensures);
+      answers = rw e at (c .hand-out .ensures (deviceOf (a .image .now) .speed));
     }
 
 pub hk-setup-spec : {M : Type 1} → statement M

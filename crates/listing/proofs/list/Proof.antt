@@ -1,7 +1,7 @@
 -- `listing::list` meets its contract, refused or accepted. No axiom.
 use mathlib.Core.Path.{_≡_, _∙_}
-use Rattle.sets.specs.Opening.{lent}
-use Rattle.sets.specs.View.{openingOf}
+use Rattle.sets.specs.Opening.{lent, opening}
+use Rattle.descriptors.specs.Limits.{fullSpeed}
 use Rattle.listing.proofs.Listed.{refused, accepted, good, enough, listed}
 use borrow.Author.Needs.{needs}
 use Rattle.listing.proofs.list.Statement.{statement}
@@ -13,7 +13,7 @@ full-speed-requires c κs = search needs
 opening-requires : tie.Need-opening-requires
 opening-requires c κs = search needs
 
-opened : (c : tie.After-opening) → c .opening .result ≡ openingOf (lent (c .before .before .before .before .before .args .set .now) (c .before .before .before .before .before .args .serial .now))
+opened : (c : tie.After-opening) → c .opening .result ≡ opening fullSpeed (lent (c .before .before .before .before .before .args .set .now) (c .before .before .before .before .before .args .serial .now))
 opened c = c .opening .ensures ∙ rw (c .before .full-speed .ensures)
 
 cast-number : tie.Need-cast-number

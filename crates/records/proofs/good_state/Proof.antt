@@ -1,9 +1,13 @@
 -- `records::good_state` meets its contract: the same tests. No axiom.
+use borrow.Author.Needs.{needs}
 use Rattle.records.proofs.good_state.Statement.{statement}
 use Rattle.records.proofs.good_state.Tie as tie
 
+test-waits-requires : tie.Need-test-waits-requires
+test-waits-requires c κs = search needs
+
 returns : tie.Need-returns
-returns c = λ v e. rw e
+returns c = λ v e. rw (e, c .test-waits .ensures)
 
 pub good-state-spec : {M : Type 1} → statement M
-good-state-spec = tie.close (tie.spec returns)
+good-state-spec = tie.close (tie.spec test-waits-requires returns)

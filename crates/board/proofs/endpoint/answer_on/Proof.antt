@@ -1,18 +1,21 @@
 -- `board::endpoint::answer_on` meets its contract, by the image's length. No axiom.
 use mathlib.Core.Path.{sym, ap, _∙_}
 use borrow.Author.Needs.{needs}
-use Rattle.sets.specs.Opening.{lent}
 use Rattle.records.specs.declared.Device.{Device}
-use Rattle.steps.specs.Endpoint.{endpoint}
+use Rattle.steps.specs.Gathering.{viewIn, endpointIn}
 use Rattle.board.proofs.EndpointImages.{short, refused, whole}
 use Rattle.board.proofs.endpoint.answer_on.Statement.{statement}
 use Rattle.board.proofs.endpoint.answer_on.Tie as tie
 
 returns : tie.Need-returns
-returns c = sym (short _ _ _ (c .before .if1 .taken) _ (c .before .before .before .before .before .pre) (c .if2 .taken))
+returns c =
+    let a = c .before .before .before .before .before .args in
+    sym (short (a .opening) (viewIn (a .paired) (a .set .now) (a .serial .now)) (a .set .now) (a .image .now) (a .number) (c .before .if1 .taken) (c .if2 .taken))
 
 returns-2 : tie.Need-returns-2
-returns-2 c = sym (refused _ _ _ (c .before .if1 .taken) _ (c .before .before .before .before .before .pre) (c .if2 .left))
+returns-2 c =
+    let a = c .before .before .before .before .before .args in
+    sym (refused (a .opening) (viewIn (a .paired) (a .set .now) (a .serial .now)) (a .set .now) (a .image .now) (a .number) (c .before .if1 .taken) (c .if2 .left))
 
 load-requires : tie.Need-load-requires
 load-requires c κs = search needs
@@ -23,8 +26,8 @@ endpoint-requires c κs = search needs
 returns-3 : tie.Need-returns-3
 returns-3 c =
     let a = c .before .before .before .before .before .before .args in
-    let b = lent (a .set .now) (a .serial .now) in
-    c .endpoint .ensures ∙ ap (λ (d : Device). endpoint b d (a .number)) (c .before .load .ensures) ∙ sym (whole b (a .image .now) (a .number) (c .before .before .if1 .left))
+    let v = viewIn (a .paired) (a .set .now) (a .serial .now) in
+    c .endpoint .ensures ∙ ap (λ (d : Device). endpointIn (a .opening) v (a .set .now) d (a .number)) (c .before .load .ensures) ∙ sym (whole (a .opening) v (a .set .now) (a .image .now) (a .number) (c .before .before .if1 .left))
 
 pub answer-on-spec : {M : Type 1} → statement M
 answer-on-spec = tie.close (tie.spec returns returns-2 load-requires endpoint-requires returns-3)

@@ -1,28 +1,13 @@
--- `board::numbers::hand_out` meets its contract: by what the answer hands out. No axiom.
+-- `board::numbers::hand_out` meets its contract: the one set is in use. No axiom.
 use borrow.Author.Needs.{needs}
-use Rattle.board.proofs.Lengths.{two-bytes}
 use Rattle.board.proofs.numbers.hand_out.Statement.{statement}
 use Rattle.board.proofs.numbers.hand_out.Tie as tie
 
-bytes-of-requires : tie.Need-bytes-of-requires
-bytes-of-requires c κs = search needs
-
-part-requires : tie.Need-part-requires
-part-requires c κs = search needs
-
-number-requires : tie.Need-number-requires
-number-requires c κs = search needs
+hand-out-of-requires : tie.Need-hand-out-of-requires
+hand-out-of-requires c κs = search needs
 
 returns : tie.Need-returns
-returns c = let here = c .before .part .ensures in
-    let handed = c .before .before .before .bytes-of .ensures in
-    record {
-      number = c .number .ensures;
-      hands = rw handed (two-bytes (c .before .before .before .before .before .before .args .answer));
-      counts = rw handed;
-      shows = here .0;
-      lies = rw (here .1 .0, here .1 .1);
-    }
+returns c = λ speed. let h = c .hand-out-of .ensures in record { number = h .number; hands = h .hands; counts = h .counts; shows = h .shows; lies = h .lies }
 
 pub hand-out-spec : {M : Type 1} → statement M
-hand-out-spec = tie.close (tie.spec bytes-of-requires part-requires number-requires returns)
+hand-out-spec = tie.close (tie.spec hand-out-of-requires returns)

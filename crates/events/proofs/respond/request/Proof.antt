@@ -6,7 +6,6 @@ use mathlib.Core.Path.{_≡_, ap}
 use Prim.Native.Nat.{ℕ}
 use Rattle.events.specs.Step.{request}
 use Rattle.octets.proofs.Sentences.{or-left, or-right}
-use Rattle.events.proofs.Rows.{one-byte}
 use Rattle.events.proofs.respond.request.Tie as tie
 use Rattle.events.proofs.respond.request.Statement.{statement}
 
@@ -24,7 +23,7 @@ set-feature-requires : tie.Need-set-feature-requires
 set-feature-requires c κs = search needs
 
 set-address-requires : tie.Need-set-address-requires
-set-address-requires c κs = one-byte _ _ (c .before .pre .1 .1) (or-left _ (eq-eqb _ _ (c .match .keys4)))
+set-address-requires c κs = c .before .pre .1 .1 (or-left _ (eq-eqb _ _ (c .match .keys4)))
 
 get-descriptor-requires : tie.Need-get-descriptor-requires
 get-descriptor-requires c κs = search needs
@@ -33,7 +32,7 @@ get-configuration-requires : tie.Need-get-configuration-requires
 get-configuration-requires c κs = search needs
 
 set-configuration-requires : tie.Need-set-configuration-requires
-set-configuration-requires c κs = one-byte _ _ (c .before .pre .1 .1) (or-right (eqb (c .before .args .setup .bRequest) 5) (eq-eqb _ _ (c .match .keys7)))
+set-configuration-requires c κs = c .before .pre .1 .1 (or-right (eqb (c .before .args .setup .bRequest) 5) (eq-eqb _ _ (c .match .keys7)))
 
 get-interface-requires : tie.Need-get-interface-requires
 get-interface-requires c κs = search needs
@@ -67,7 +66,7 @@ returns-6 c = λ v t. let x = tests (c .before .match .keys6) in rw (x 0x00, x 0
 
 returns-7 : tie.Need-returns-7
 unfolding request
-returns-7 c = λ v t. let x = tests (c .before .match .keys7) in rw (x 0x00, x 0x01, x 0x03, x 0x05, x 0x06, x 0x08, x 0x09) (c .set-configuration .ensures v (t .configuration (c .before .match .keys7) (one-byte _ _ (c .before .before .pre .1 .1) (or-right (eqb (c .before .before .args .setup .bRequest) 5) (eq-eqb _ _ (c .before .match .keys7))))))
+returns-7 c = λ v t. let x = tests (c .before .match .keys7) in rw (x 0x00, x 0x01, x 0x03, x 0x05, x 0x06, x 0x08, x 0x09) (c .set-configuration .ensures v (t .configuration (c .before .match .keys7) (c .before .before .pre .1 .1 (or-right (eqb (c .before .before .args .setup .bRequest) 5) (eq-eqb _ _ (c .before .match .keys7))))))
 
 returns-8 : tie.Need-returns-8
 unfolding request

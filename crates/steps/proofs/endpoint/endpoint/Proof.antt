@@ -1,14 +1,14 @@
 -- `steps::endpoint::endpoint` meets its contract: by the order of refusals. No axiom.
 use native.Mathlib.Omega.{arith}
 use Prim.Native.Nat.{_≤_}
-use mathlib.Core.Path.{_≡_, sym, ap, _∙_}
+use mathlib.Core.Path.{_≡_, sym, _∙_}
 use mathlib.Core.Bool.{true}
 use lib.ListN.{length}
-use lib.Dec.{eqb}
 use borrow.Author.Needs.{needs}
-use borrow.Author.Tests.{not-true, not-false, eq-eqb, ne-eqb}
+use borrow.Author.Tests.{not-true, not-false}
 use Rattle.descriptors.specs.Cut.{cut, wellCut}
 use Rattle.sets.specs.Opening.{lent}
+use Rattle.steps.specs.Gathering.{viewIn}
 use Rattle.steps.proofs.Configurations.{usable}
 use Rattle.steps.proofs.EndpointParts.{set-refused, record-refused, none-elsewhere, answers, begins-inside, body-short, selected-body, fitting}
 use Rattle.steps.proofs.endpoint.endpoint.Statement.{statement}
@@ -17,7 +17,7 @@ use Rattle.steps.proofs.endpoint.endpoint.Tie as tie
 returns : tie.Need-returns
 returns c =
     let a = c .before .before .before .args in
-    sym (set-refused (lent (a .set .now) (a .serial .now)) (a .device) (a .number) (ap (λ n. eqb n 0) (sym (c .before .before .before .pre)) ∙ ne-eqb _ _ (c .if1 .taken)))
+    sym (set-refused (a .opening) (viewIn (a .paired) (a .set .now) (a .serial .now)) (a .set .now) (a .device) (a .number) (c .if1 .taken))
 
 by-value-requires : tie.Need-by-value-requires
 by-value-requires c κs = search needs
@@ -30,7 +30,7 @@ walk-requires c κs =
     let start = c .before .before .before .before .before .before in
     let a = start .args in
     let b = lent (a .set .now) (a .serial .now) in
-    rw (selected-body b (a .device) (c .before .before .by-value .ensures) (c .before .body-found .ensures)) (usable b (λ i. omega (arith, c .before .before .before .before .before .shared-slice-known .given i)) (sym (start .pre) ∙ c .before .before .before .if1 .left) (a .device .configuration) .whole)
+    rw (selected-body (a .paired) (a .set .now) (a .serial .now) (a .device) (c .before .before .by-value .ensures) (c .before .body-found .ensures)) (usable (start .pre (c .before .before .before .if1 .left) .0) b (λ i. omega (arith, c .before .before .before .before .before .shared-slice-known .given i)) (start .pre (c .before .before .before .if1 .left) .1) (a .device .configuration) .whole)
 
 is-found-requires : tie.Need-is-found-requires
 is-found-requires c κs = search needs
@@ -44,52 +44,52 @@ fits-requires c κs = search needs
 returns-2 : tie.Need-returns-2
 returns-2 c =
     let a = c .before .before .before .before .before .before .before .before .before .before .before .args in
-    let b = lent (a .set .now) (a .serial .now) in
+    let v = viewIn (a .paired) (a .set .now) (a .serial .now) in
     let entry = c .before .before .before .before .before .before .before .by-value .ensures in
     let body = c .before .before .before .before .before .before .body-found .ensures in
-    let opens = eq-eqb _ _ (sym (c .before .before .before .before .before .before .before .before .before .before .before .pre) ∙ c .before .before .before .before .before .before .before .before .if1 .left) in
-    let fit = fitting b (a .device) entry body (c .before .before .before .before .walk .ensures) (c .before .before .before .is-found .ensures) (c .before .before .wakes .ensures) (c .before .fits2 .ensures) in
-    sym (record-refused b (a .device) (a .number) opens (sym fit ∙ not-true _ (c .if2 .taken)))
+    let opens = c .before .before .before .before .before .before .before .before .if1 .left in
+    let fit = fitting (a .paired) (a .set .now) (a .serial .now) (a .device) entry body (c .before .before .before .before .walk .ensures) (c .before .before .before .is-found .ensures) (c .before .before .wakes .ensures) (c .before .fits2 .ensures) in
+    sym (record-refused (a .opening) v (a .set .now) (a .device) (a .number) opens (sym fit ∙ not-true _ (c .if2 .taken)))
 
 returns-3 : tie.Need-returns-3
 returns-3 c =
     let a = c .before .before .before .before .before .before .before .before .before .before .before .before .before .args in
-    let b = lent (a .set .now) (a .serial .now) in
+    let v = viewIn (a .paired) (a .set .now) (a .serial .now) in
     let entry = c .before .before .before .before .before .before .before .before .before .by-value .ensures in
     let body = c .before .before .before .before .before .before .before .before .body-found .ensures in
-    let opens = eq-eqb _ _ (sym (c .before .before .before .before .before .before .before .before .before .before .before .before .before .pre) ∙ c .before .before .before .before .before .before .before .before .before .before .if1 .left) in
-    let fit = fitting b (a .device) entry body (c .before .before .before .before .before .before .walk .ensures) (c .before .before .before .before .before .is-found .ensures) (c .before .before .before .before .wakes .ensures) (c .before .before .before .fits2 .ensures) in
-    sym (none-elsewhere b (a .device) (a .number) opens (sym fit ∙ not-false _ (c .before .before .if2 .left)) (c .if3 .taken))
+    let opens = c .before .before .before .before .before .before .before .before .before .before .if1 .left in
+    let fit = fitting (a .paired) (a .set .now) (a .serial .now) (a .device) entry body (c .before .before .before .before .before .before .walk .ensures) (c .before .before .before .before .before .is-found .ensures) (c .before .before .before .before .wakes .ensures) (c .before .before .before .fits2 .ensures) in
+    sym (none-elsewhere (a .opening) v (a .set .now) (a .device) (a .number) opens (sym fit ∙ not-false _ (c .before .before .if2 .left)) (c .if3 .taken))
 
 find-requires : tie.Need-find-requires
 find-requires c κs =
     let start = c .before .before .before .before .before .before .before .before .before .before .before .before .before in
     let a = start .args in
     let b = lent (a .set .now) (a .serial .now) in
-    rw (selected-body b (a .device) (c .before .before .before .before .before .before .before .before .before .by-value .ensures) (c .before .before .before .before .before .before .before .before .body-found .ensures)) (usable b (λ i. omega (arith, c .before .before .before .before .before .before .before .before .before .before .before .before .shared-slice-known .given i)) (sym (start .pre) ∙ c .before .before .before .before .before .before .before .before .before .before .if1 .left) (a .device .configuration) .whole)
+    rw (selected-body (a .paired) (a .set .now) (a .serial .now) (a .device) (c .before .before .before .before .before .before .before .before .before .by-value .ensures) (c .before .before .before .before .before .before .before .before .body-found .ensures)) (usable (start .pre (c .before .before .before .before .before .before .before .before .before .before .if1 .left) .0) b (λ i. omega (arith, c .before .before .before .before .before .before .before .before .before .before .before .before .shared-slice-known .given i)) (start .pre (c .before .before .before .before .before .before .before .before .before .before .if1 .left) .1) (a .device .configuration) .whole)
 
 part-of-requires : tie.Need-part-of-requires
 part-of-requires c κs =
     let start = c .before .before .before .before .before .before .before .before .before .before .before .before .before .before in
     let a = start .args in
     let b = lent (a .set .now) (a .serial .now) in
-    let opens = sym (start .pre) ∙ c .before .before .before .before .before .before .before .before .before .before .before .if1 .left in
+    let opens = start .pre (c .before .before .before .before .before .before .before .before .before .before .before .if1 .left) in
     let body = c .before .before .before .before .before .before .before .before .before .body-found .result .now in
-    let same = selected-body b (a .device) (c .before .before .before .before .before .before .before .before .before .before .by-value .ensures) (c .before .before .before .before .before .before .before .before .before .body-found .ensures) in
-    let well : wellCut (cut body) ≡ true = rw same (usable b (λ i. omega (arith, c .before .before .before .before .before .before .before .before .before .before .before .before .before .shared-slice-known .given i)) opens (a .device .configuration) .whole) in
-    let short : length body ≤ 16384 = rw same (body-short b opens (a .device .configuration)) in
+    let same = selected-body (a .paired) (a .set .now) (a .serial .now) (a .device) (c .before .before .before .before .before .before .before .before .before .before .by-value .ensures) (c .before .before .before .before .before .before .before .before .before .body-found .ensures) in
+    let well : wellCut (cut body) ≡ true = rw same (usable (opens .0) b (λ i. omega (arith, c .before .before .before .before .before .before .before .before .before .before .before .before .before .shared-slice-known .given i)) (opens .1) (a .device .configuration) .whole) in
+    let short : length body ≤ 16384 = rw same (body-short (opens .0) b (opens .1) (a .device .configuration)) in
     rw (c .find .ensures) (omega (arith, short, begins-inside (a .device .alternates) body well (a .number)))
 
 returns-4 : tie.Need-returns-4
 returns-4 c =
     let a = c .before .before .before .before .before .before .before .before .before .before .before .before .before .before .before .args in
-    let b = lent (a .set .now) (a .serial .now) in
+    let v = viewIn (a .paired) (a .set .now) (a .serial .now) in
     let entry = c .before .before .before .before .before .before .before .before .before .before .before .by-value .ensures in
     let body = c .before .before .before .before .before .before .before .before .before .before .body-found .ensures in
-    let opens = eq-eqb _ _ (sym (c .before .before .before .before .before .before .before .before .before .before .before .before .before .before .before .pre) ∙ c .before .before .before .before .before .before .before .before .before .before .before .before .if1 .left) in
-    let fit = fitting b (a .device) entry body (c .before .before .before .before .before .before .before .before .walk .ensures) (c .before .before .before .before .before .before .before .is-found .ensures) (c .before .before .before .before .before .before .wakes .ensures) (c .before .before .before .before .before .fits2 .ensures) in
-    let same = selected-body b (a .device) entry body in
-    c .part-of .ensures ∙ rw (c .before .find .ensures, same, entry) (sym (answers b (a .device) (a .number) opens (sym fit ∙ not-false _ (c .before .before .before .before .if2 .left)) (c .before .before .if3 .left)))
+    let opens = c .before .before .before .before .before .before .before .before .before .before .before .before .if1 .left in
+    let fit = fitting (a .paired) (a .set .now) (a .serial .now) (a .device) entry body (c .before .before .before .before .before .before .before .before .walk .ensures) (c .before .before .before .before .before .before .before .is-found .ensures) (c .before .before .before .before .before .before .wakes .ensures) (c .before .before .before .before .before .fits2 .ensures) in
+    let same = selected-body (a .paired) (a .set .now) (a .serial .now) (a .device) entry body in
+    c .part-of .ensures ∙ rw (c .before .find .ensures, same, entry) (sym (answers (a .opening) v (a .set .now) (a .device) (a .number) opens (sym fit ∙ not-false _ (c .before .before .before .before .if2 .left)) (c .before .before .if3 .left)))
 
 pub endpoint-spec : {M : Type 1} → statement M
 endpoint-spec =

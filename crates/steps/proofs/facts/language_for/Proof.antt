@@ -1,26 +1,23 @@
 -- `steps::facts::language_for` meets its contract: by the index, and by the languages listed. No axiom.
 use borrow.Author.Needs.{needs}
 use borrow.Author.Tests.{eq-eqb, ne-eqb}
-use Rattle.sets.specs.View.{viewOf}
 use Rattle.steps.proofs.facts.language_for.Statement.{statement}
 use Rattle.steps.proofs.facts.language_for.Tie as tie
 
 returns : tie.Need-returns
-returns c = λ serial. rw (eq-eqb _ _ (c .if1 .taken))
+returns c = λ paired serial. rw (eq-eqb _ _ (c .if1 .taken))
 
 language-listed-requires : tie.Need-language-listed-requires
 language-listed-requires c κs = search needs
 
 returns-2 : tie.Need-returns-2
-unfolding viewOf
-returns-2 c = λ serial. rw (ne-eqb _ _ (c .before .before .if1 .left), ← c .before .language-listed .ensures, c .if2 .taken)
+returns-2 c = λ paired serial. rw (ne-eqb _ _ (c .before .before .if1 .left), ← c .before .language-listed .ensures, c .if2 .taken)
 
 first-language-requires : tie.Need-first-language-requires
 first-language-requires c κs = search needs
 
 returns-3 : tie.Need-returns-3
-unfolding viewOf
-returns-3 c = λ serial. rw (c .first-language .ensures, ne-eqb _ _ (c .before .before .before .if1 .left), ← c .before .before .language-listed .ensures, c .before .if2 .left)
+returns-3 c = λ paired serial. rw (c .first-language .ensures, ne-eqb _ _ (c .before .before .before .if1 .left), ← c .before .before .language-listed .ensures, c .before .if2 .left)
 
 pub language-for-spec : {M : Type 1} → statement M
 language-for-spec = tie.close (tie.spec returns language-listed-requires returns-2 first-language-requires returns-3)

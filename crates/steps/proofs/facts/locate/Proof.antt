@@ -1,7 +1,6 @@
 -- `steps::facts::locate` meets its contract: by the type. No axiom.
 use borrow.Author.Tests.{eq-eqb, ne-eqb}
 use borrow.Author.Needs.{needs}
-use Rattle.sets.specs.View.{viewOf}
 use Rattle.events.specs.Requests.{locate}
 use Rattle.steps.proofs.Configurations.{located-found}
 use Rattle.steps.proofs.facts.locate.Tie as tie
@@ -14,8 +13,8 @@ cast-index : tie.Need-cast-index
 cast-index c = search needs
 
 returns : tie.Need-returns
-unfolding viewOf locate
-returns c = λ p. absurd (c .if1 .taken p)
+unfolding locate
+returns c = λ paired p. absurd (c .if1 .taken p)
 
 language-for-requires : tie.Need-language-for-requires
 language-for-requires c κs = search needs
@@ -24,10 +23,10 @@ locate-string-requires : tie.Need-locate-string-requires
 locate-string-requires c κs = search needs
 
 returns-2 : tie.Need-returns-2
-unfolding viewOf locate
+unfolding locate
 returns-2 c =
     let a = c .before .before .before .before .before .before .before .before .before .args in
-    λ p. rw (c .locate-string .ensures, c .before .language-for .ensures (a .serial .now), eq-eqb _ _ (c .before .before .if2 .taken))
+    λ paired p. rw (c .locate-string .ensures paired, c .before .language-for .ensures paired (a .serial .now), eq-eqb _ _ (c .before .before .if2 .taken))
 
 by-index-requires : tie.Need-by-index-requires
 by-index-requires c κs = search needs
@@ -36,8 +35,8 @@ place-requires : tie.Need-place-requires
 place-requires c κs = search needs
 
 returns-3 : tie.Need-returns-3
-unfolding viewOf locate
-returns-3 c = λ p. rw (c .place .ensures, c .before .by-index .ensures, ne-eqb _ _ (c .before .before .before .if2 .left), eq-eqb _ _ (c .before .before .if3 .taken), located-found)
+unfolding locate
+returns-3 c = λ paired p. rw (c .place .ensures, c .before .by-index .ensures, ne-eqb _ _ (c .before .before .before .if2 .left), eq-eqb _ _ (c .before .before .if3 .taken), located-found)
 
 find-entry-requires : tie.Need-find-entry-requires
 find-entry-requires c κs = search needs
@@ -46,12 +45,12 @@ place-requires-2 : tie.Need-place-requires-2
 place-requires-2 c κs = search needs
 
 returns-4 : tie.Need-returns-4
-unfolding viewOf locate
-returns-4 c = λ p. rw (c .place2 .ensures, c .before .find-entry .ensures, ne-eqb _ _ (c .before .before .before .before .if2 .left), ne-eqb _ _ (c .before .before .before .if3 .left), eq-eqb _ _ (c .before .before .if4 .taken), located-found)
+unfolding locate
+returns-4 c = λ paired p. rw (c .place2 .ensures, c .before .find-entry .ensures, ne-eqb _ _ (c .before .before .before .before .if2 .left), ne-eqb _ _ (c .before .before .before .if3 .left), c .before .before .if4 .taken, located-found)
 
 returns-5 : tie.Need-returns-5
-unfolding viewOf locate
-returns-5 c = λ p. rw (ne-eqb _ _ (c .before .before .if2 .left), ne-eqb _ _ (c .before .if3 .left), ne-eqb _ _ (c .if4 .left))
+unfolding locate
+returns-5 c = λ paired p. rw (ne-eqb _ _ (c .before .before .if2 .left), ne-eqb _ _ (c .before .if3 .left), c .if4 .left)
 
 pub locate-spec : {M : Type 1} → statement M
 locate-spec =

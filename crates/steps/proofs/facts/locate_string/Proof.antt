@@ -2,7 +2,6 @@
 use borrow.Author.Needs.{needs}
 use Rattle.events.specs.Requests.{isEntry}
 use Rattle.octets.specs.Sentences.{first}
-use Rattle.sets.specs.View.{viewOf}
 use Rattle.sets.specs.Contents.{entries}
 use Rattle.steps.proofs.Configurations.{located-found}
 use Rattle.steps.proofs.facts.locate_string.Tie as tie
@@ -15,12 +14,10 @@ language-listed-requires : tie.Need-language-listed-requires
 language-listed-requires c κs = search needs
 
 returns : tie.Need-returns
-unfolding viewOf
-returns c = rw (← c .before .before .before .serial-index .ensures, c .before .before .if1 .taken, ← c .before .language-listed .ensures, c .if2 .taken)
+returns c = λ paired. rw (← c .before .before .before .serial-index .ensures, c .before .before .if1 .taken, ← c .before .language-listed .ensures, c .if2 .taken)
 
 returns-2 : tie.Need-returns-2
-unfolding viewOf
-returns-2 c = rw (← c .before .before .before .serial-index .ensures, c .before .before .if1 .taken, ← c .before .language-listed .ensures, c .if2 .left)
+returns-2 c = λ paired. rw (← c .before .before .before .serial-index .ensures, c .before .before .if1 .taken, ← c .before .language-listed .ensures, c .if2 .left)
 
 find-entry-requires : tie.Need-find-entry-requires
 find-entry-requires c κs = search needs
@@ -29,9 +26,8 @@ place-requires : tie.Need-place-requires
 place-requires c κs = search needs
 
 returns-3 : tie.Need-returns-3
-unfolding viewOf
 returns-3 c = let a = c .before .before .before .before .before .before .args in
-    rw (c .place .ensures, c .before .find-entry .ensures, ← c .before .before .before .serial-index .ensures, c .before .before .if1 .left, located-found (first (isEntry 3 (a .index) (a .language)) (entries (a .set .now))))
+    λ paired. rw (c .place .ensures, c .before .find-entry .ensures, ← c .before .before .before .serial-index .ensures, c .before .before .if1 .left, located-found (first (isEntry 3 (a .index) (a .language)) (entries (a .set .now))))
 
 pub locate-string-spec : {M : Type 1} → statement M
 locate-string-spec =

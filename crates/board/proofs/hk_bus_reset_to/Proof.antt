@@ -1,0 +1,27 @@
+-- `board::hk_bus_reset_to` meets its contract: the event's number, and the image that it leaves. No axiom.
+use mathlib.Core.Path.{ap, _∙_}
+use Rattle.events.specs.Answer.{numberOf}
+use borrow.Author.Needs.{needs}
+use Rattle.board.proofs.hk_bus_reset_to.Statement.{statement}
+use Rattle.board.proofs.hk_bus_reset_to.Tie as tie
+
+opening-requires : tie.Need-opening-requires
+opening-requires c κs = search needs
+
+event-requires : tie.Need-event-requires
+event-requires c κs = search needs
+
+number-requires : tie.Need-number-requires
+number-requires c κs = search needs
+
+same-length : tie.Need-same-length
+same-length c = search needs
+
+returns : tie.Need-returns
+returns c =
+    let e = c .before .before .before .event .ensures in
+    record { number = c .number .ensures ∙ ap numberOf (e .0); leaves = e .1 }
+
+pub hk-bus-reset-to-spec : {M : Type 1} → statement M
+hk-bus-reset-to-spec =
+    tie.close (tie.spec opening-requires event-requires number-requires same-length returns)

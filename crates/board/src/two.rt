@@ -1,0 +1,64 @@
+// A board that lends two sets, one for each speed, and one serial block. Both sets are opened, one after the other, before the event's frame stands.
+use crate::endpoint;
+use crate::numbers;
+use events::reply;
+ghost use Rattle.sets.specs.Opening.{lentTwo};
+ghost use Rattle.board.specs.Exports.{Opens, spotOf, spotsTwo, numbered, AnswersImage, GivesEndpoint};
+
+// Opens two sets with their serial block: the image becomes the fresh record, whether they are accepted or not.
+#[no_mangle]
+pub extern "C" fn hk_two_open(full: &[u8], high: &[u8], serial: &[u8], image: &mut [u8]) -> u8
+    ensures { λ r. ⌜ Opens (lentTwo (now (full .entry)) (now (high .entry)) (now (serial .entry))) (now (image .entry)) r (now (image .exit)) ⌝ }
+{
+    if image.len() != 32 {
+        return 8;
+    }
+    records::store(records::fresh(), image);
+    pairs::opening_two(full, high, serial)
+}
+
+// Any event, by its number: its number; the bytes handed back and how many count; the part of the set in use or the serial block.
+#[no_mangle]
+pub extern "C" fn hk_two_event<'a>(
+    full: &'a [u8],
+    high: &'a [u8],
+    serial: &'a [u8],
+    image: &mut [u8],
+    kind: u8,
+    value: u8,
+    setup: &[u8],
+    bytes: &mut [u8; 2],
+    count: &mut u8,
+    part: &mut &'a [u8],
+) -> u8
+    ensures { λ r. ⌜ AnswersImage (lentTwo (now (full .entry)) (now (high .entry)) (now (serial .entry)))
+        (spotsTwo (spotOf ((full .entry) .ptr)) (spotOf ((high .entry) .ptr)) (spotOf ((serial .entry) .ptr))) (now (image .entry)) (numbered kind value (now (setup .entry)))
+        r (now (image .exit)) (now (bytes .exit)) (now (count .exit)) (now (now (part .exit))) (spotOf ((now (part .exit)) .ptr)) ⌝ }
+{
+    let number = pairs::opening_two(full, high, serial);
+    let set = steps::in_use(full, high, octets::peek(image, 7));
+    let what = numbers::event_of(kind, value, setup);
+    let answer = crate::happen(number, true, set, serial, image, what);
+    numbers::hand_out_of(full, set, serial, answer, bytes, count, part)
+}
+
+// Endpoint descriptor `number` of the current settings, from 0 on: a part of the set in use, and no copy.
+#[no_mangle]
+pub extern "C" fn hk_two_endpoint<'a>(
+    full: &'a [u8],
+    high: &'a [u8],
+    serial: &'a [u8],
+    image: &[u8],
+    number: u8,
+    descriptor: &mut &'a [u8],
+) -> u8
+    ensures { λ r. ⌜ GivesEndpoint (lentTwo (now (full .entry)) (now (high .entry)) (now (serial .entry)))
+        (spotsTwo (spotOf ((full .entry) .ptr)) (spotOf ((high .entry) .ptr)) (spotOf ((serial .entry) .ptr))) (now (image .entry)) number
+        r (now (now (descriptor .exit))) (spotOf ((now (descriptor .exit)) .ptr)) ⌝ }
+{
+    let opening = pairs::opening_two(full, high, serial);
+    let set = steps::in_use(full, high, octets::peek(image, 7));
+    let answer = endpoint::answer_on(opening, true, set, serial, image, number);
+    *descriptor = reply::part(full, set, serial, answer);
+    reply::number(answer)
+}

@@ -1,0 +1,40 @@
+-- `events::standard::set_test_mode` meets its contract: by the speed and the selector. No axiom.
+use native.Mathlib.Omega.{arith}
+use Prim.Native.Nat.{_/_}
+use mathlib.Core.Bool.{_&&_}
+use lib.Dec.{eqb, leb}
+use borrow.Author.Needs.{needs}
+use borrow.Author.Tests.{leb-true}
+use Rattle.octets.proofs.Sentences.{both}
+use Rattle.events.proofs.standard.set_test_mode.Statement.{statement}
+use Rattle.events.proofs.standard.set_test_mode.Tie as tie
+
+kept-requires : tie.Need-kept-requires
+kept-requires c κs = search needs
+
+cast-next : tie.Need-cast-next
+cast-next c = search needs
+
+add-next : tie.Need-add-next
+add-next c =
+    let w = c .before .before .before .before .args .setup .wIndex in
+    let d = c .before .before .before .before .args .device .speed in
+    let small = leb-true (w / 256) 5 (both (eqb d 1 && leb 1 (w / 256)) (leb (w / 256) 5) (c .before .if1 .taken) .1) in
+    omega (arith, small)
+
+done-requires : tie.Need-done-requires
+done-requires c κs = search needs
+
+returns : tie.Need-returns
+returns c = rw (c .done .ensures, c .before .kept .ensures, c .before .before .if1 .taken)
+
+refused-requires : tie.Need-refused-requires
+refused-requires c κs = search needs
+
+returns-2 : tie.Need-returns-2
+returns-2 c = rw (c .refused .ensures, c .before .if1 .left)
+
+pub set-test-mode-spec : {M : Type 1} → statement M
+set-test-mode-spec =
+    tie.close
+    (tie.spec kept-requires cast-next add-next done-requires returns refused-requires returns-2)
