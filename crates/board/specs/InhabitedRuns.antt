@@ -19,7 +19,7 @@ use Rattle.board.specs.Exports.{Opens, Spot, Spots, spots}
 use Rattle.board.specs.Runs.{Call, setup, tell, statusEnd, halt, packetPassed, Given, number, handed, Runs, runs, decided, Refuses, refusals, NotEight, Throughout, neverEightAfter}
 use Rattle.board.specs.Order.{concernsThis, Reordered, told, orderAfterOpening}
 use Rattle.board.specs.Places.{whom, orderPlaces}
-use Rattle.board.specs.Unnoticed.{kept, keptOf, Alike, unnoticed}
+use Rattle.board.specs.Unnoticed.{kept, keptOf, Alike, unnoticedByPage}
 
 -- ---- any 32 bytes, opened; then SET_ADDRESS 5, its status end, SET_CONFIGURATION 1
 abbrev pub start : List ℕ
@@ -118,4 +118,4 @@ pub unnoticedByOne : {gs others : List Given} {last other : List ℕ} → (r : R
     → Runs T lie freshImage leftRun others other
     → (keptOf T lie 1 r ≡ told leftRun others) × Alike T lie 1 last other
 unfolding computed
-unnoticedByOne r = unnoticed T lie 1 bytesT {start = start} refl opens r (λ p. (refl, λ q. refl), (λ p. (refl, λ q. refl), (λ p. (refl, λ q. refl), (λ p. (refl, λ q. refl), (λ p. (refl, λ q. refl), (λ p. (refl, λ q. refl), tt))))))
+unnoticedByOne r = unnoticedByPage T lie 1 bytesT {start = start} refl opens r (λ p. (refl, λ q. refl), (λ p. (refl, λ q. refl), (λ p. (refl, λ q. refl), (λ p. (refl, λ q. refl), (λ p. (refl, λ q. refl), (λ p. (refl, λ q. refl), tt))))))

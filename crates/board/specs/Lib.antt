@@ -10,6 +10,7 @@ pub mod Places
 pub mod Unnoticed
 pub mod Records
 pub mod InhabitedRuns
+pub mod InhabitedTwo
 pub mod Idle
 pub mod InhabitedExports
 pub mod Makers

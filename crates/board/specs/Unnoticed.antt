@@ -3,12 +3,13 @@
 use Prim.Native.Nat.{ℕ}
 use mathlib.Core.Path.{_≡_, refl, sym, ap, _∙_}
 use mathlib.Core.List.{List, [], _∷_}
-use mathlib.Core.Bool.{Bool, true, not}
+use mathlib.Core.Bool.{Bool, true, false, not, false≢true}
 use lib.ListN.{length}
 use lib.Dec.{eqb}
 use Rattle.octets.proofs.Sentences.{both}
 use Rattle.sets.specs.Opening.{Board, BytesOf}
 use Rattle.sets.specs.View.{accepted}
+use Rattle.records.specs.Device.{testWaits}
 use Rattle.records.specs.Image.{deviceOf}
 use Rattle.records.specs.Current.{viewAt}
 use Rattle.order.specs.Run.{keep, answers, log}
@@ -22,11 +23,18 @@ use Rattle.laws.specs.Parts.{Same, rest, owned, who}
 use Rattle.laws.proofs.Same.{self}
 use Rattle.laws.proofs.Locality.{idle}
 use Rattle.promises.specs.Rearranged.{valuesOf, answerOf}
+use Rattle.promises.specs.Refusal.{freshImage}
+use Rattle.promises.specs.Struck.{PageRun, pageQuiet}
 use Rattle.promises.specs.Order.{stepLocalityAt, struckFor, Fair, Quiet}
 use Rattle.board.specs.Exports.{Opens, Spots}
 use Rattle.board.specs.Runs.{Call, eventOf, Given, Runs, ends, calls, givenAs, gives, leaves, met, ran, opening, openedReached}
 use Rattle.board.specs.Order.{told}
 use Rattle.board.specs.Places.{says, reads, keeps}
+
+-- nothing waits in the fresh record
+fresh-waits : testWaits (deviceOf freshImage) ≡ false
+unfolding deviceOf
+fresh-waits = refl
 
 module _ (b : Board) (lie : Spots) (k : ℕ) where
   -- ---- what the statements say
@@ -106,3 +114,13 @@ module _ (b : Board) (lie : Spots) (k : ℕ) where
         → (r : Runs b lie image cs gs last) → QuietRun image cs → Runs b lie image (kept image cs) others other
         → (keptOf r ≡ told (kept image cs) others) × Alike last other
     unnoticed {cs} r quiet = unnoticedFair r (fairQuiet bytes ok image fit cs quiet)
+
+    -- with the page's: "no struck setup may lie between a test mode request and the next status end", "no struck event arrived while suspended"
+    pub unnoticedByPage : {cs : List Call} {gs others : List Given} {last other : List ℕ}
+        → (r : Runs b lie image cs gs last) → PageRun b k deviceOf eventOf (leaves b lie) false image cs → Runs b lie image (kept image cs) others other
+        → (keptOf r ≡ told (kept image cs) others) × Alike last other
+    unnoticedByPage {cs} r page = unnoticed r (pageQuiet b ok k deviceOf eventOf (leaves b lie) (FitImage b) (keeps b lie bytes ok) (λ i f. f .fit) (reads b lie bytes ok)
+        image false fit (λ t. absurd (false≢true (sym none-waits ∙ t))) cs page)
+      where
+        none-waits : testWaits (deviceOf image) ≡ false
+        none-waits = rw (opening long o .2) fresh-waits

@@ -30,7 +30,7 @@ use Rattle.octets.specs.Octets.{Bytes}
 use Rattle.promises.specs.Inhabited.{octets, acceptedT, bytesT, configured, configuredSized}
 use Rattle.promises.specs.Keeps.{FitImage, fitImage}
 use Rattle.laws.specs.Parts.{Good, orNobody, Same, rest, owned, who, kind, settle}
-use Rattle.promises.specs.Rearranged.{isThis, eventsOf, Rearranged, answerOf, nextOf, after, answered, heard, Values, imageAfter, imageAnswered, imageHeard}
+use Rattle.promises.specs.Rearranged.{isThis, eventsOf, Rearranged, answerOf, answerAt, nextOf, after, answered, heard, Values, imageAfter, imageAnswered, imageHeard}
 use Rattle.promises.specs.Order.{places, placed, stepLocality, order, orderPlaces, orderImages, orderImagesPlaces, concernsThroughout, struckFor, Quiet, unnoticed}
 
 pub configuredFitsT : fitsOn T configured ≡ true
@@ -189,8 +189,8 @@ quietThroughout : FairRun (nextOf T) (struckFor T 1) Quiet configured whole
 unfolding computed
 quietThroughout = (λ p. (refl, λ q. refl), (λ p. (refl, λ q. refl), (λ p. (refl, λ q. refl), (λ p. (refl, λ q. refl), (λ p. (refl, λ q. refl), tt)))))
 
-pub unnoticedByOne : left (answerOf T) (nextOf T) (struckFor T 1) configured whole
-    ≡ log (answerOf T) (nextOf T) configured (strike (nextOf T) (struckFor T 1) configured whole)
+pub unnoticedByOne : left (answerAt T) (nextOf T) (struckFor T 1) configured whole
+    ≡ log (answerAt T) (nextOf T) configured (strike (nextOf T) (struckFor T 1) configured whole)
 unnoticedByOne = unnoticed T bytesT acceptedT configured configuredSized configuredFitsT 1 whole quietThroughout .0
 
 -- asleep it does: interface 0's packet ends the sleep, so that the wake which is left is refused in the whole run alone

@@ -20,3 +20,6 @@ pub mod TestMode
 pub mod Rearranged
 pub mod Order
 pub mod InhabitedOrder
+pub mod InhabitedPairs
+pub mod Struck
+pub mod InhabitedStruck

@@ -35,7 +35,7 @@ use Rattle.promises.specs.Keeps.{FitImage, stepFits}
 use Rattle.promises.specs.Images.{onImage}
 use Rattle.laws.specs.Parts.{Good, Shared, shared, Same, rest, owned, who, drops, kind, settle}
 use Rattle.laws.proofs.Locality.{respondOn, concerns-by, idle, locality}
-use Rattle.promises.specs.Rearranged.{Concerned, isThis, Rearranged, answerOf, nextOf, after, answered, heard, Values, valuesOf, imageAnswer, imageNext, imageAfter, imageAnswered, imageHeard}
+use Rattle.promises.specs.Rearranged.{Concerned, isThis, Rearranged, answerOf, answerAt, nextOf, after, answered, heard, Values, valuesOf, imageAnswer, imageNext, imageAfter, imageAnswered, imageHeard}
 use Rattle.laws.proofs.Picking.{own-is, all-of, of-all, every-log, only-map, map-at, mapped-at}
 
 -- ---- another order, said by each interface's events and said by places, is one thing
@@ -65,10 +65,11 @@ Fair b = Idle (answerOf b) rest kind settle
 abbrev pub Quiet : Device → Event → Type 0
 Quiet d e = (d .suspended ≡ 0) × (drops e ≡ true → testWaits d ≡ false)
 
--- every event left of a run gets the answer that it got; what interface k can tell, and the rest, end the same
+-- every event left of a run gets the answer that it got, with a part of the same set; what interface k can tell (state, address, configuration, wakeup,
+-- power, byte 7, k's setting, halts and toggles), and the rest (what waits, and byte 6) end the same
 abbrev pub Unnoticed : Board → ℕ → Device → List Event → Type 0
 Unnoticed b k d xs = (let kept = strike (nextOf b) (struckFor b k) d xs in
-    (left (answerOf b) (nextOf b) (struckFor b k) d xs ≡ log (answerOf b) (nextOf b) d kept)
+    (left (answerAt b) (nextOf b) (struckFor b k) d xs ≡ log (answerAt b) (nextOf b) d kept)
     × Same b k (after b d xs) (after b d kept)
     × (rest (after b d xs) ≡ rest (after b d kept)))
 
@@ -90,7 +91,7 @@ module _ (b : Board) (bytes : BytesOf b) (ok : accepted b ≡ true) where
       (λ d e g. ap (λ (o : Outcome). o .device) (steps d e g))
 
   -- the same with byte 7 of the record that the event found, which chooses the set that a part is of (L7)
-  pub stepLocalityAt : Owners {A = ℕ × Answer} (λ d e. (d .speed, answerOf b d e)) (nextOf b) (Good b) (owned b) (who b) (Same b) rest (λ e a. kind e (a .1)) settle
+  pub stepLocalityAt : Owners {A = ℕ × Answer} (answerAt b) (nextOf b) (Good b) (owned b) (who b) (Same b) rest (λ e a. kind e (a .1)) settle
   stepLocalityAt = seen stepLocality (λ d. d .speed) (λ k r s h. ap (λ (x : Shared). x .speed) (h .firm))
 
   -- an event that concerns an interface leaves the shared fields; so an event concerns throughout a run whom it concerns at its start
@@ -133,7 +134,7 @@ module _ (b : Board) (bytes : BytesOf b) (ok : accepted b ≡ true) where
     -- ---- one driver does not notice the other: where the run is fair, strike out the events that concern another interface than k, and every
     -- event left gets the same answer; the shared fields, k's setting, halts and toggles, and the rest end the same
     pub unnoticedFair : (k : ℕ) (xs : List Event) → FairRun (nextOf b) (struckFor b k) (Fair b) d xs → Unnoticed b k d xs
-    unnoticedFair k xs fair = unnoticed-by stepLocality k d (sized, fit) xs fair
+    unnoticedFair k xs fair = unnoticed-by stepLocalityAt k d (sized, fit) xs fair
 
     -- a run is, where no struck event arrives while suspended, and no struck setup while a test mode waits
     pub unnoticed : (k : ℕ) (xs : List Event) → FairRun (nextOf b) (struckFor b k) Quiet d xs → Unnoticed b k d xs

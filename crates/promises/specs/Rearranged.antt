@@ -39,6 +39,10 @@ answerOf b d e = step b d e .answer
 abbrev pub nextOf : Board → Device → Event → Device
 nextOf b d e = step b d e .device
 
+-- the same with byte 7 of the record that the event found: it says of which set a part is (L7)
+abbrev pub answerAt : Board → Device → Event → ℕ × Answer
+answerAt b d e = (d .speed, answerOf b d e)
+
 -- the record after it
 abbrev pub after : Board → Device → List Event → Device
 after b = run (nextOf b)
