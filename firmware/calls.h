@@ -1,5 +1,5 @@
 /* The library's calls as the device loop makes them. A board lends one set; with DEVICE_TWO_SETS it lends two, one for each
- * speed. What a board does not call is not linked. */
+ * speed; with DEVICE_PORTS its records stand in a row, one for each port. What a board does not call is not linked. */
 #ifndef CALLS_H
 #define CALLS_H
 
@@ -7,7 +7,7 @@
 
 #define RECORD_SPEED 7
 
-#ifndef DEVICE_TWO_SETS
+#if !defined DEVICE_TWO_SETS && !defined DEVICE_PORTS
 
 /* What every call is lent. */
 #define LENT(device) \
@@ -68,30 +68,61 @@ static inline uint8_t call_endpoint(struct device *device, uint8_t number, hk_pa
 
 #else
 
-#define LENT(device) \
-    (device)->flash->set, (device)->flash->set_length, (device)->flash->high, (device)->flash->high_length, \
-        (device)->flash->serial, (device)->flash->serial_length, (device)->record, sizeof(device)->record
+#define BLOCK(device, name) (device)->flash->name, (device)->flash->name##_length
 
-/* The record's byte 7 says which: 0 the full-speed set. */
+/* What every call is lent but the record, and that as its image. */
+#ifdef DEVICE_TWO_SETS
+#define LENT(device) BLOCK(device, set), BLOCK(device, high), BLOCK(device, serial)
+#else
+#define LENT(device) BLOCK(device, set), BLOCK(device, serial)
+#endif
+
+#ifdef DEVICE_PORTS
+#define IMAGE(device) (uint8_t *)&(device)->row[(device)->port], sizeof(hk_record)
+#define AT_PORT(device) (device)->row, (device)->row_length, (device)->port
+#else
+#define IMAGE(device) (device)->record, sizeof(device)->record
+#endif
+
 static inline const uint8_t *set_in_use(const struct device *device) {
-    return device->record[RECORD_SPEED] == HK_SPEED_FULL ? device->flash->set : device->flash->high;
+#ifdef DEVICE_TWO_SETS
+    if (device_record(device)[RECORD_SPEED] != HK_SPEED_FULL)
+        return device->flash->high;
+#endif
+    return device->flash->set;
+}
+
+/* Any event by its number. */
+static inline uint8_t call_numbered(struct device *device, uint8_t event, uint8_t value, const uint8_t *setup,
+                                    size_t setup_length, uint8_t *bytes, uint8_t *count, hk_part *part) {
+#if defined DEVICE_PORTS && defined DEVICE_TWO_SETS
+    return hk_two_port_event(LENT(device), AT_PORT(device), event, value, setup, setup_length, bytes, count, part);
+#elif defined DEVICE_PORTS
+    return hk_port_event(LENT(device), AT_PORT(device), event, value, setup, setup_length, bytes, count, part);
+#else
+    return hk_two_event(LENT(device), IMAGE(device), event, value, setup, setup_length, bytes, count, part);
+#endif
 }
 
 static inline uint8_t call_setup(struct device *device, const uint8_t *setup, size_t setup_length, uint8_t *bytes,
                                  uint8_t *count, hk_part *part) {
-    return hk_two_event(LENT(device), HK_EVENT_SETUP, 0, setup, setup_length, bytes, count, part);
+    return call_numbered(device, HK_EVENT_SETUP, 0, setup, setup_length, bytes, count, part);
 }
 
 /* The other events hand nothing back. */
 static inline uint8_t call_event(struct device *device, uint8_t event, uint8_t value) {
     uint8_t bytes[2], count;
     hk_part part = HK_NO_PART;
-    return hk_two_event(LENT(device), event, value, NULL, 0, bytes, &count, &part);
+    return call_numbered(device, event, value, NULL, 0, bytes, &count, &part);
 }
 
 /* The fresh record is at full speed. */
 static inline uint8_t call_open(struct device *device, uint8_t speed) {
-    uint8_t number = hk_two_open(LENT(device));
+#ifdef DEVICE_TWO_SETS
+    uint8_t number = hk_two_open(LENT(device), IMAGE(device));
+#else
+    uint8_t number = hk_open(LENT(device), IMAGE(device));
+#endif
     return number == HK_DONE && speed != HK_SPEED_FULL ? call_event(device, HK_EVENT_BUS_RESET, speed) : number;
 }
 
@@ -128,7 +159,11 @@ static inline uint8_t call_wake(struct device *device) {
 }
 
 static inline uint8_t call_endpoint(struct device *device, uint8_t number, hk_part *descriptor) {
-    return hk_two_endpoint(LENT(device), number, descriptor);
+#ifdef DEVICE_TWO_SETS
+    return hk_two_endpoint(LENT(device), IMAGE(device), number, descriptor);
+#else
+    return hk_endpoint(LENT(device), IMAGE(device), number, descriptor);
+#endif
 }
 
 #endif

@@ -18,8 +18,8 @@ static uint32_t max_packet_size_0(const struct device *device) {
 
 /* The record's address is the one to answer to: a new one waits in another byte until its status stage has ended. */
 static void follow_record(const struct device *device) {
-    hardware_set_address(device->record[RECORD_ADDRESS]);
-    hardware_set_endpoints(device->record);
+    hardware_set_address(device_record(device)[RECORD_ADDRESS]);
+    hardware_set_endpoints(device_record(device));
 }
 
 /* The endpoints of the current settings: the library tells them one by one, so that no firmware walks descriptors. */
@@ -149,8 +149,9 @@ static void handle_setup(struct device *device, const uint8_t *setup, size_t set
 /* A test mode is entered when its status stage has ended, so that the host gets it still. */
 static void follow_test_mode(const struct device *device) {
 #ifdef DEVICE_TWO_SETS
-    if (device->record[RECORD_SPEED] > HK_SPEED_HIGH)
-        hardware_enter_test_mode(device->record[RECORD_SPEED] / 16);
+    uint8_t speed = device_record(device)[RECORD_SPEED];
+    if (speed > HK_SPEED_HIGH)
+        hardware_enter_test_mode(speed / 16);
 #else
     (void)device;
 #endif
@@ -237,8 +238,18 @@ static void handle(struct device *device, const struct hardware_event *event) {
     }
 }
 
+/* What the hardware is asked goes to the device's port. */
+static void select_port(const struct device *device) {
+#ifdef DEVICE_PORTS
+    hardware_select_port(device->port);
+#else
+    (void)device;
+#endif
+}
+
 uint8_t device_start(struct device *device, const struct device_flash *flash) {
     device->flash = flash;
+    select_port(device);
     device->transfer.stage = STAGE_NONE;
     uint8_t number = open_afresh(device, HK_SPEED_FULL);
     open_endpoints(device);
@@ -246,13 +257,24 @@ uint8_t device_start(struct device *device, const struct device_flash *flash) {
     return number;
 }
 
+#ifndef DEVICE_PORTS
 void device_run(struct device *device) {
     struct hardware_event event;
     while (hardware_wait(&event))
         handle(device, &event);
 }
+#else
+void device_run(struct device *const *devices) {
+    struct hardware_event event;
+    while (hardware_wait(&event)) {
+        hardware_select_port(event.port);
+        handle(devices[event.port], &event);
+    }
+}
+#endif
 
 uint8_t device_halt(struct device *device, uint8_t endpoint) {
+    select_port(device);
     uint8_t number = call_halt(device, endpoint);
     conclude(device, number);
     return number;
@@ -260,6 +282,7 @@ uint8_t device_halt(struct device *device, uint8_t endpoint) {
 
 /* The record stays as it is: the sleep ends when the host resumes the bus. */
 uint8_t device_wake(struct device *device) {
+    select_port(device);
     uint8_t number = call_wake(device);
     if (number == HK_DONE)
         hardware_signal_wakeup();

@@ -48,15 +48,34 @@ struct device_transfer {
 
 struct device {
     const struct device_flash *flash;
+#ifdef DEVICE_PORTS
+    hk_record *row; /* the records of all ports, changed by the library alone: set these three before device_start */
+    size_t row_length;
+    size_t port;
+#else
     uint8_t record[HK_IMAGE_LENGTH]; /* changed by the library alone */
+#endif
     struct device_transfer transfer;
 };
+
+/* The record's image. */
+static inline const uint8_t *device_record(const struct device *device) {
+#ifdef DEVICE_PORTS
+    return (const uint8_t *)&device->row[device->port];
+#else
+    return device->record;
+#endif
+}
 
 /* Power-on: HK_DONE, and only then may the board connect to the bus; or which group of rules the flash breaks. */
 uint8_t device_start(struct device *device, const struct device_flash *flash);
 
 /* The loop: one event after the other, for as long as hardware_wait has one. */
+#ifndef DEVICE_PORTS
 void device_run(struct device *device);
+#else
+void device_run(struct device *const *devices); /* those of all ports, in the row's order: an event goes to that of its port */
+#endif
 
 /* The application halts a bulk or interrupt endpoint: from then on it answers STALL, until the host clears it.
  * HK_DONE, or why not. */

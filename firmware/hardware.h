@@ -27,6 +27,9 @@ enum hardware_event_kind {
 struct hardware_event {
     enum hardware_event_kind kind;
     uint8_t speed; /* HK_SPEED_FULL or HK_SPEED_HIGH */
+#ifdef DEVICE_PORTS
+    size_t port; /* where it happened */
+#endif
     uint8_t endpoint;
     uint8_t setup_length;
     uint8_t setup[HK_SETUP_LENGTH];
@@ -36,6 +39,11 @@ struct hardware_event {
 /* The next event, in the order in which the bus had them. A board sleeps here until there is one and gives back 1;
  * 0 ends the loop, which only a bench wants. */
 int hardware_wait(struct hardware_event *event);
+
+#ifdef DEVICE_PORTS
+/* All that is asked from now on is asked of this port. */
+void hardware_select_port(size_t port);
+#endif
 
 /* Endpoint zero, IN: hands one packet over, maybe an empty one. The bytes stay as they are until it is taken; a SETUP
  * that comes before drops it. The first packet after a SETUP is DATA1, then they alternate, as most peripherals do by

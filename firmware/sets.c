@@ -130,6 +130,14 @@ static const uint8_t titrator_set[] = {
 
 const struct device_flash titrator_flash = {titrator_set, sizeof titrator_set, titrator_serial, sizeof titrator_serial};
 
+static const uint8_t second_titrator_serial[] = {
+    20, 3,
+    'H', 0, 'K', 0, '-', 0, '0', 0, '0', 0, '0', 0, '1', 0, '2', 0, '4', 0,
+};
+
+const struct device_flash second_titrator_flash = {titrator_set, sizeof titrator_set, second_titrator_serial,
+                                                   sizeof second_titrator_serial};
+
 #else
 
 /* Both sets of the pair have the same contents: types 6 and 7 stand behind the strings. */

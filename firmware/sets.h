@@ -14,6 +14,9 @@ extern const struct device_flash bench_flash;
 
 /* A titrator: two interfaces with alternate settings, a serial port, strings in two languages and a serial number. */
 extern const struct device_flash titrator_flash;
+
+/* The second titrator of a double instrument: the same set, and a serial number of its own. */
+extern const struct device_flash second_titrator_flash;
 #else
 /* The same titrator with a high-speed peripheral: a set for each speed. */
 extern const struct device_flash titrator_pair_flash;

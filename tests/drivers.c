@@ -122,10 +122,10 @@ void exchange_drivers(struct host *host, const uint8_t *body, size_t body_length
     memcpy(second, first, sizeof second);
     printf("one after the other\n");
     run_both(host, first, 0, body[5]);
-    memcpy(record, host->device.record, sizeof record);
+    memcpy(record, device_record(&host->device), sizeof record);
     printf("in turns, the other first\n");
     run_both(host, second, 1, body[5]);
-    int alike = memcmp(first, second, sizeof first) == 0 && memcmp(record, host->device.record, sizeof record) == 0;
+    int alike = memcmp(first, second, sizeof first) == 0 && memcmp(record, device_record(&host->device), sizeof record) == 0;
     if (alike)
         printf("both orders: the same answers and the same record\n");
     else

@@ -297,6 +297,35 @@ static void call_two_event(uint8_t flags) {
     respond_with_part_of(1, number, found, flags);
 }
 
+/* A port that has no room in a size_t is none of any row's, as the highest that has. */
+static size_t take_port(void) {
+    uint64_t port = take_number(4);
+    port |= (uint64_t)take_number(4) << 32;
+    return port > SIZE_MAX ? SIZE_MAX : (size_t)port;
+}
+
+/* Any event by its number, at a port of a row of aligned records. */
+static void call_port_event(uint8_t operation, uint8_t flags) {
+    size_t port = take_port();
+    uint8_t event = take_byte(), value = take_byte(), number;
+    take_aligned(&image, flags, sizeof(uint32_t));
+    take_block(&setup, flags);
+    if (image.length % sizeof(hk_record) != 0)
+        respond_with_error(COMMAND_WRONG);
+    hk_part *found = unwritten_answer(flags);
+    hk_record *row = (hk_record *)(void *)lent(&image, flags);
+    size_t row_length = image.length / sizeof(hk_record);
+    if (operation == 'Q')
+        number = hk_two_port_event(lent(&set, flags), set.length, lent(&high, flags), high.length, lent(&serial, flags),
+                                   serial.length, row, row_length, port, event, value, lent(&setup, flags), setup.length,
+                                   bytes.room + bytes.start, count.room + count.start, found);
+    else
+        number = hk_port_event(lent(&set, flags), set.length, lent(&serial, flags), serial.length, row, row_length, port,
+                               event, value, lent(&setup, flags), setup.length, bytes.room + bytes.start,
+                               count.room + count.start, found);
+    respond_with_part_of(operation == 'Q', number, found, flags);
+}
+
 static void call_two_open(uint8_t flags) {
     static const uint8_t no_answer[2];
     take_block(&image, flags);
@@ -449,6 +478,9 @@ int main(void) {
             break;
         case 'n': case 'N':
             call_endpoint(operation, flags);
+            break;
+        case 'q': case 'Q':
+            call_port_event(operation, flags);
             break;
         case 'O':
             call_two_open(flags);

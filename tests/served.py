@@ -84,6 +84,11 @@ class Served:
         value, setup = (0, carried) if kind == SETUP else (carried[0] if carried else 0, b"")
         return self.ask(b"V", bytes([kind, value]) + block(image) + block(setup))
 
+    def port_event(self, port, kind, carried, row):
+        """An event at a port of a row of records, of the one set that is lent; the image is the row."""
+        value, setup = (0, carried) if kind == SETUP else (carried[0] if carried else 0, b"")
+        return self.ask(b"q", port.to_bytes(8, "little") + bytes([kind, value]) + block(row) + block(setup))
+
     def write(self, pieces, size=16384):
         """hk_write: the number, and the set that it wrote with the serial block lent."""
         number, _, part, buffer = self.ask(b"w", block(pieces) + block(bytes(size)))

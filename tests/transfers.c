@@ -28,9 +28,9 @@ static void show_endpoints(struct host *host) {
 
 void show_record(struct host *host, const char *when) {
     show_endpoints(host);
-    if (memcmp(host->shown, host->device.record, HK_IMAGE_LENGTH) == 0)
+    if (memcmp(host->shown, device_record(&host->device), HK_IMAGE_LENGTH) == 0)
         return;
-    memcpy(host->shown, host->device.record, HK_IMAGE_LENGTH);
+    memcpy(host->shown, device_record(&host->device), HK_IMAGE_LENGTH);
     printf("  record%s: ", when);
     print_record(host->shown);
     putchar('\n');

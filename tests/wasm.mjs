@@ -166,6 +166,19 @@ function callTwoEvent(flags) {
     respond(error || (found ? 0 : PART_ASTRAY), number, count.bytes()[0], bytes.bytes(), ...(found ?? [IN_SET, 0, 0]), imageLent.bytes());
 }
 
+// Any event by its number, at a port of a row of aligned records; a port that has no room in 32 bits is none of any row's, as the highest that has.
+function callPortEvent(operation, flags) {
+    const asked = take(8).readBigUInt64LE(), port = Number(asked > 0xffffffffn ? 0xffffffffn : asked) | 0;
+    const event = takeNumber(1), value = takeNumber(1), row = takeBlock(), setup = takeBlock(), lent = new Lent(flags);
+    const sets = operation === "Q" ? [[IN_SET, lent.place(set)], [IN_HIGH, lent.place(high)]] : [[IN_SET, lent.place(set)]];
+    const serialLent = lent.place(serial), rowLent = lent.placeForWriting(row, 4), setupLent = lent.place(setup);
+    const bytes = lent.placeForWriting(new Uint8Array(2).fill(UNWRITTEN)), count = lent.placeForWriting(new Uint8Array(1).fill(UNWRITTEN)), part = lent.placePart();
+    const name = operation === "Q" ? "hk_two_port_event" : "hk_port_event", blocks = [...sets.map(([, block]) => block), serialLent].flatMap(pair);
+    const { number, error } = lent.call(name, ...blocks, rowLent.address, row.length / 32, port, event, value, ...pair(setupLent), bytes.address, count.address, part.address);
+    const found = locate(part, [...sets, [IN_SERIAL, serialLent]]);
+    respond(error || (found ? 0 : PART_ASTRAY), number, count.bytes()[0], bytes.bytes(), ...(found ?? [IN_SET, 0, 0]), rowLent.bytes());
+}
+
 function callTwoOpen(flags) {
     const image = takeBlock(), lent = new Lent(flags);
     const blocks = [set, high, serial].map((bytes) => lent.place(bytes)), imageLent = lent.placeForWriting(image);
@@ -244,6 +257,8 @@ for (;;) {
         high = takeBlock();
     else if (operation === "n" || operation === "N")
         callEndpoint(operation, flags);
+    else if (operation === "q" || operation === "Q")
+        callPortEvent(operation, flags);
     else if (operation === "O")
         callTwoOpen(flags);
     else if (operation === "V")

@@ -12,6 +12,11 @@ enum wire_answer {
     WIRE_SILENT /* nobody has this address, the device is not ready, or the endpoint is not open */
 };
 
+/* An instrument has up to so many ports, each with a wire of its own; the calls below are for the one selected, port 0 at
+ * first. */
+#define WIRE_PORTS 2
+void wire_select(size_t port);
+
 /* The board: its device loop, and its application's serial port, NULL where there is none. */
 void wire_attach(struct device *device, struct serial_port *port);
 void wire_reset_bus(uint8_t speed);

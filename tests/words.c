@@ -50,6 +50,7 @@ static const char *const numbers[] = {
     "no such packet",
     "unfit endpoint or power source",
     [HK_TEST_MODE_ENTERED] = "a test mode is entered",
+    [HK_NO_SUCH_PORT] = "no such port",
     [HK_WAKE_NOT_ALLOWED] = "wake not allowed",
     [HK_PAIR_BROKEN] = "the two sets do not go together",
 };

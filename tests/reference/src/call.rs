@@ -7,6 +7,7 @@ use crate::fault::Fault;
 use crate::kind::Kind;
 use crate::octets::hex;
 use crate::packets;
+use crate::ports;
 use crate::record::{FULL_SPEED, IMAGE_LENGTH};
 use crate::superspeed;
 use crate::trim;
@@ -31,6 +32,9 @@ pub enum Call {
     TwoOpen { image: Vec<u8> },
     TwoEvent { image: Vec<u8>, number: u8, value: u8, setup: Vec<u8> },
     TwoEndpoint { image: Vec<u8>, number: u8 },
+    /// On a row of records, which stand aligned.
+    Port { row: Vec<u8>, port: u64, number: u8, value: u8, setup: Vec<u8> },
+    TwoPort { row: Vec<u8>, port: u64, number: u8, value: u8, setup: Vec<u8> },
 }
 
 impl Call {
@@ -58,6 +62,22 @@ impl Call {
         Call::TwoEvent { image: image.to_vec(), number, value, setup: setup.to_vec() }
     }
 
+    /// The event at a port, of one set or of two.
+    pub fn port(lent: &Lent, row: &[u8], port: u64, event: &Event) -> Call {
+        let (number, value, setup) = event.numbered();
+        let (row, setup) = (row.to_vec(), setup.to_vec());
+        match lent.high {
+            Some(_) => Call::TwoPort { row, port, number, value, setup },
+            None => Call::Port { row, port, number, value, setup },
+        }
+    }
+
+    /// Two sets are lent to it.
+    pub fn takes_two(&self) -> bool {
+        let in_row = matches!(self, Call::TwoPort { .. });
+        in_row || matches!(self, Call::TwoOpen { .. } | Call::TwoEvent { .. } | Call::TwoEndpoint { .. })
+    }
+
     pub fn answer(&self, lent: &Lent) -> Outcome {
         match self {
             Call::Open { image } | Call::TwoOpen { image } => lent.open(image),
@@ -79,6 +99,9 @@ impl Call {
             Call::Trim { set } => trim::trim(set, lent.alone(), lent.fault),
             Call::Endpoint { image, number } | Call::TwoEndpoint { image, number } => {
                 endpoints::endpoint(lent, image, *number)
+            }
+            Call::Port { row, port, number, value, setup } | Call::TwoPort { row, port, number, value, setup } => {
+                ports::event(lent, row, *port, &Event::of_number(*number, *value, setup))
             }
         }
     }
@@ -102,6 +125,10 @@ impl Call {
             Call::Export { buffer } => format!("export {}", hex(buffer)),
             Call::Trim { .. } => "trim".to_string(),
             Call::Endpoint { number, .. } | Call::TwoEndpoint { number, .. } => format!("endpoint {number}"),
+            Call::Port { row, port, number, value, setup } | Call::TwoPort { row, port, number, value, setup } => {
+                let event = Event::of_number(*number, *value, setup);
+                format!("port {port} {} {}", hex(row), event_words(&event))
+            }
         }
     }
 
@@ -120,7 +147,12 @@ impl Call {
         let Outcome { number, bytes, part, image } = outcome;
         match self {
             Call::Open { .. } | Call::SuperOpen { .. } | Call::TwoOpen { .. } => format!("{number} {}", hex(image)),
-            Call::Event { .. } | Call::ResetTo { .. } | Call::Numbered { .. } | Call::TwoEvent { .. } => {
+            Call::Event { .. }
+            | Call::ResetTo { .. }
+            | Call::Numbered { .. }
+            | Call::TwoEvent { .. }
+            | Call::Port { .. }
+            | Call::TwoPort { .. } => {
                 format!("{number} {} {} {}", hex(bytes), part_words(*part), hex(image))
             }
             Call::Packet { .. } => {

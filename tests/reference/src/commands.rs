@@ -13,6 +13,7 @@ use crate::makers;
 use crate::octets::kebab;
 use crate::runs;
 use crate::serve::serve;
+use crate::strikes;
 use crate::super_draft;
 use crate::vectors;
 
@@ -23,6 +24,9 @@ const DEFAULT_DUMPS: usize = 50_000;
 const DEFAULT_TRIMS: usize = 50_000;
 const DEFAULT_PAIRS: usize = 100_000;
 const DEFAULT_PAIR_CALLS: usize = 200_000;
+const DEFAULT_PORT_CALLS: usize = 100_000;
+const DEFAULT_STRIKES: usize = 200_000;
+const DEFAULT_RUNS: usize = 20_000;
 const DEFAULT_SUPERS: usize = 100_000;
 
 /// The numbers that opening gives back, and all of them.
@@ -33,6 +37,9 @@ const NUMBERS: [u8; 18] = [0, 1, 2, 3, 4, 5, 6, 7, 8, 9, 10, 11, 12, 13, 14, 15,
 const PAIR_OPENING_NUMBERS: [u8; 8] = [0, 1, 2, 3, 4, 5, 6, 24];
 const PAIR_NUMBERS: [u8; 19] = [0, 1, 2, 3, 4, 5, 6, 7, 8, 9, 10, 11, 12, 13, 14, 16, 17, 19, 24];
 
+/// Those of an event at a port.
+const PORT_NUMBERS: [u8; 13] = [0, 7, 8, 9, 10, 11, 12, 13, 14, 16, 17, 18, 19];
+
 /// So many differences are enough to choose the smallest from.
 const PATIENCE: usize = 1_000;
 
@@ -40,9 +47,10 @@ pub const USAGE: &str = "\
 reference vectors [--least N] FILE..            answers every question of the files, at least N (1) in each, and compares
 reference run-vectors --program CMD [--least N] FILE..
                                                 the same, and through a harness
-reference compare --program CMD [--sets N] [--calls N] [--pairs N] [--pair-calls N] [--writes N] [--dumps N] [--trims N]
+reference compare --program CMD [--sets N] [--calls N] [--pairs N] [--pair-calls N] [--port-calls N] [--strikes N] [--writes N] [--dumps N] [--trims N]
                   [--supers N] [--seed S] [--fault NAME]
-                                                sets through opening, calls over the whole boundary, or both; the same with two sets lent;
+                                                sets through opening, calls over the whole boundary, or both; the same with two sets lent; events at ports;
+                                                runs from power-on, whole and with the other drivers' events struck;
                                                 streams of pieces; dumps; sets to trim; SuperSpeed sets, opened and written;
                                                 from 100,000 sets and 200,000 calls on each rule and number must be reached
 reference faults --program CMD [--seed S]       every planted fault must be noticed
@@ -185,13 +193,21 @@ fn compare(arguments: &Arguments) -> Verdict {
     let trims = arguments.number("trims")?;
     let supers = arguments.number("supers")?;
     let (pairs, pair_calls) = (arguments.number("pairs")?, arguments.number("pair-calls")?);
-    let both = [sets, calls, writes, dumps, trims, supers, pairs, pair_calls].iter().all(Option::is_none);
+    let port_calls = arguments.number("port-calls")?;
+    let strikes = arguments.number("strikes")?;
+    let both = [sets, calls, writes, dumps, trims, supers, pairs, pair_calls, port_calls, strikes].iter().all(Option::is_none);
     let mut right = true;
     if let Some(pairs) = pairs {
         right &= compare_pairs(arguments, pairs)?;
     }
     if let Some(calls) = pair_calls {
         right &= compare_whole_of_two(arguments, calls)?;
+    }
+    if let Some(calls) = strikes {
+        right &= compare_strikes(arguments, calls)?;
+    }
+    if let Some(calls) = port_calls {
+        right &= compare_ports(arguments, calls)?;
     }
     if let Some(writes) = writes {
         right &= compare_writer(arguments, writes)?;
@@ -259,6 +275,34 @@ fn compare_whole_of_two(arguments: &Arguments, calls: usize) -> Verdict {
         println!("{unlike}");
     }
     Ok(same & unlike.is_none() & reached(&numbered(&numbers, &PAIR_NUMBERS), calls >= DEFAULT_PAIR_CALLS))
+}
+
+fn compare_ports(arguments: &Arguments, calls: usize) -> Verdict {
+    let mut comparison = Comparison::start(arguments.program()?, PATIENCE).map_err(told)?;
+    let unlike = runs::ports(&mut comparison, calls, arguments.seed()?, arguments.fault()?);
+    let numbers = comparison.numbers;
+    let same = ended(comparison, "ports", "calls")?;
+    if let Some(unlike) = &unlike {
+        println!("{unlike}");
+    }
+    Ok(same & unlike.is_none() & reached(&numbered(&numbers, &PORT_NUMBERS), calls >= DEFAULT_PORT_CALLS))
+}
+
+/// The law holds in every run, and each premise is needed: a run without it is noticed.
+fn compare_strikes(arguments: &Arguments, calls: usize) -> Verdict {
+    let mut comparison = Comparison::start(arguments.program()?, PATIENCE).map_err(told)?;
+    let tally = runs::strikes(&mut comparison, calls, arguments.seed()?, arguments.fault()?);
+    let same = ended(comparison, "strikes", "calls")?;
+    println!("strikes: {} runs of {} events, {} of them struck", tally.runs, tally.events, tally.struck);
+    if let Some(noticed) = &tally.noticed {
+        println!("a driver was NOT left alone: {noticed}");
+    }
+    let mut needed = true;
+    for (premise, noticed) in strikes::counterexamples() {
+        println!("where {premise}: {}", noticed.as_deref().unwrap_or("NOT noticed, so the premise is not needed"));
+        needed &= noticed.is_some();
+    }
+    Ok(same & tally.noticed.is_none() & needed & (tally.struck > 0))
 }
 
 fn compare_writer(arguments: &Arguments, calls: usize) -> Verdict {
@@ -346,12 +390,22 @@ fn faults(arguments: &Arguments) -> Verdict {
             runs::whole_two(&mut comparison, DEFAULT_PAIR_CALLS, seed, fault);
         } else if fault::SUPER.contains(&fault) {
             super_draft::opening(&mut comparison, DEFAULT_SUPERS, seed, fault);
+        } else if fault::PORTS.contains(&fault) {
+            runs::ports(&mut comparison, DEFAULT_PORT_CALLS, seed, fault);
+        } else if fault::STRIKES.contains(&fault) {
+            runs::strikes(&mut comparison, DEFAULT_STRIKES, seed, fault);
         } else {
             runs::whole(&mut comparison, DEFAULT_CALLS, seed, fault);
         }
         let findings = comparison.finish().map_err(told)?;
         unnoticed += usize::from(findings.first.is_none());
         print_fault(fault, findings.first, "calls");
+    }
+    for &fault in fault::STRIKES {
+        // a driver that is not left alone shows in its runs, without another implementation
+        let tally = strikes::alone(DEFAULT_RUNS, seed, fault);
+        unnoticed += usize::from(tally.noticed.is_none());
+        print_fault(fault, tally.noticed.map(|_| tally.runs), "runs");
     }
     println!("faults: {} planted, {unnoticed} not noticed", Fault::at_boundary().count());
     Ok(unnoticed == 0)

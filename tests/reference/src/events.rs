@@ -354,6 +354,7 @@ impl Step<'_> {
     fn get_status_endpoint(&self, setup: &Setup) -> Answer {
         let halted = match self.endpoint(setup.index)? {
             Named::Zero => false,
+            Named::Other(_) if self.has_fault(Fault::StatusOfAnyHalt) => self.record.halts != 0,
             Named::Other(endpoint) => endpoint.has_halt() && self.is_halted(endpoint.address),
         };
         Ok(Reply::Bytes(vec![u8::from(halted), 0]))
@@ -361,6 +362,11 @@ impl Step<'_> {
 
     fn is_halted(&self, address: u8) -> bool {
         self.record.halts & bit(address) != 0
+    }
+
+    /// No packet passes there; one fault has a halt anywhere count.
+    fn stops(&self, address: u8) -> bool {
+        self.is_halted(address) || self.has_fault(Fault::HaltStopsEveryEndpoint) && self.record.halts != 0
     }
 
     /// An interface by its whole wIndex, in Configured alone.
@@ -465,6 +471,9 @@ impl Step<'_> {
     fn set_feature_endpoint(&mut self, setup: &Setup) -> Answer {
         let address = self.endpoint_to_halt(setup)?;
         self.record.halts |= bit(address);
+        if self.has_fault(Fault::HaltFeatureSuspends) {
+            self.record.suspended = 1;
+        }
         if self.has_fault(Fault::HaltFeatureClearsToggle) {
             self.record.toggles &= !bit(address);
         }
@@ -629,8 +638,10 @@ impl Step<'_> {
     }
 
     fn get_interface(&self, index: u16) -> Answer {
-        let interface = self.interface(index)?;
-        Ok(Reply::Bytes(vec![self.record.alternates[usize::from(interface)]]))
+        let interface = usize::from(self.interface(index)?);
+        let highest = self.record.alternates.iter().max().copied().unwrap_or(0);
+        let of_highest = self.has_fault(Fault::AlternateOfHighestInterface);
+        Ok(Reply::Bytes(vec![if of_highest { highest } else { self.record.alternates[interface] }]))
     }
 
     fn set_interface(&mut self, setup: &Setup) -> Answer {
@@ -640,6 +651,14 @@ impl Step<'_> {
         let selected = self.record.selected(self.board).ok_or(13)?;
         selected.setting(interface, alternate).ok_or(13)?;
         let before = std::mem::replace(&mut self.record.alternates[usize::from(interface)], alternate);
+        if self.has_fault(Fault::InterfaceClearsWakeup) {
+            self.record.wakeup = 0;
+        }
+        let neighbour = usize::from(interface ^ 1);
+        let has_neighbour = selected.setting(interface ^ 1, alternate).is_some();
+        if has_neighbour && self.has_fault(Fault::SettingTakenByNeighbour) {
+            self.record.alternates[neighbour] = alternate;
+        }
         if before == alternate && self.has_fault(Fault::HaltsClearedOnlyWhenSettingDiffers) {
             return Ok(Reply::Nothing);
         }
@@ -737,9 +756,12 @@ impl Step<'_> {
         match self.record.endpoint(self.board, address) {
             Some(endpoint)
                 if (endpoint.has_halt() || self.has_fault(Fault::IsochronousPassesPackets))
-                    && (!self.is_halted(endpoint.address) || self.has_fault(Fault::HaltedEndpointPassesPackets)) =>
+                    && (!self.stops(endpoint.address) || self.has_fault(Fault::HaltedEndpointPassesPackets)) =>
             {
                 self.record.toggles ^= bit(endpoint.address);
+                if self.has_fault(Fault::PacketPassedDropsTestMode) {
+                    self.record.waiting = NOTHING_WAITS;
+                }
                 if !self.has_fault(Fault::PacketPassedKeepsSleep) {
                     self.record.suspended = 0;
                 }

@@ -127,6 +127,14 @@ faults! {
         StrayCompanionPasses IsochronousNeedsNoCompanion CompanionsAfterStrings SuperQualifierPasses
         SuperRefusalKeepsImage
     }
+    PORTS {
+        NeighbourWritten PortTakenAsLength PortsFromOne PortByLowByte PortByLowFourBytes PortAfterSet RowOfNineRefused
+        EmptyRowDoesNotFit RefusedPortDropsWaiting EveryRecordMustFit ResetOfEveryPort
+    }
+    STRIKES {
+        HaltStopsEveryEndpoint StatusOfAnyHalt InterfaceClearsWakeup AlternateOfHighestInterface PacketPassedDropsTestMode
+        HaltFeatureSuspends SettingTakenByNeighbour
+    }
     LISTER {
         AttributesInsteadOfTransferType PacketSizeByLowByte IndexInsteadOfValue FirstSettingsOnly
         SettingsInsteadOfInterfaces
@@ -136,7 +144,10 @@ faults! {
 impl Fault {
     /// All that show at the C boundary.
     pub fn at_boundary() -> impl Iterator<Item = Fault> {
-        [OPENING, EVENTS, PACKETS, ENDPOINTS, WRITER, DUMPS, TRIM, PAIRS, SPEEDS, SUPER].into_iter().flatten().copied()
+        [OPENING, EVENTS, PACKETS, ENDPOINTS, WRITER, DUMPS, TRIM, PAIRS, SPEEDS, PORTS, STRIKES, SUPER]
+            .into_iter()
+            .flatten()
+            .copied()
     }
 
     pub fn name(self) -> String {

@@ -15,6 +15,7 @@
 //!     n number(1) image      hk_endpoint                   R speed(1) image      hk_bus_reset_to
 //!     O image                hk_two_open                   V event(1) value(1) image setup    hk_two_event
 //!     N number(1) image      hk_two_endpoint
+//!     q port(8) event(1) value(1) row setup   hk_port_event: the image is the row, Q the same for hk_two_port_event
 //!     w pieces buffer        hk_write: length is what was written, the image is the buffer
 //!     f image                hk_super_open                 F pieces buffer   hk_super_write, as hk_write
 //!     i dump buffer          hk_import, in the same way    x buffer       hk_export
@@ -138,6 +139,8 @@ impl Command {
             Command::Call(Call::TwoOpen { .. }) => b'O',
             Command::Call(Call::TwoEvent { .. }) => b'V',
             Command::Call(Call::TwoEndpoint { .. }) => b'N',
+            Command::Call(Call::Port { .. }) => b'q',
+            Command::Call(Call::TwoPort { .. }) => b'Q',
             Command::Call(Call::Event { event, .. }) => match event {
                 Event::Setup(_) => b's',
                 Event::StatusEnd => b'e',
@@ -195,6 +198,12 @@ fn write_call(call: &Call, stream: &mut impl Write) -> io::Result<()> {
             write_block(stream, image)?;
             write_block(stream, setup)
         }
+        Call::Port { row, port, number, value, setup } | Call::TwoPort { row, port, number, value, setup } => {
+            stream.write_all(&port.to_le_bytes())?;
+            stream.write_all(&[*number, *value])?;
+            write_block(stream, row)?;
+            write_block(stream, setup)
+        }
         Call::Packet { reply_length, asked, size, packet } => {
             stream.write_all(&(*reply_length as u32).to_le_bytes())?;
             stream.write_all(&asked.to_le_bytes())?;
@@ -235,6 +244,15 @@ fn read_call(operation: u8, stream: &mut impl Read) -> io::Result<Call> {
         b'V' => {
             let [number, value] = read_array(stream)?;
             return Ok(Call::TwoEvent { image: read_block(stream)?, number, value, setup: read_block(stream)? });
+        }
+        b'q' | b'Q' => {
+            let port = u64::from_le_bytes(read_array(stream)?);
+            let [number, value] = read_array(stream)?;
+            let (row, setup) = (read_block(stream)?, read_block(stream)?);
+            return Ok(match operation {
+                b'q' => Call::Port { row, port, number, value, setup },
+                _ => Call::TwoPort { row, port, number, value, setup },
+            });
         }
         b'n' | b'N' | b'R' => {
             let number = read_array::<1>(stream)?[0];

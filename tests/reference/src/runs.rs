@@ -16,6 +16,7 @@ use crate::questions::{self, enumeration, event_for, fitting};
 use crate::random::Random;
 use crate::record::{Record, IMAGE_LENGTH};
 use crate::rule::Rule;
+use crate::strikes::{any_board, strike, Tally, RUNS_ON_A_BOARD};
 
 /// The number for types 6 and 7 that are not as said.
 const AGREEMENT: u8 = 24;
@@ -101,6 +102,25 @@ pub fn whole_two(comparison: &mut Comparison, calls: usize, seed: u64, fault: Fa
         asker.visit_pair();
     }
     asker.unlike
+}
+
+/// Events at the ports of rows of records, of one set and of two; the first pair of runs that order made unlike, if there was one.
+pub fn ports(comparison: &mut Comparison, calls: usize, seed: u64, fault: Fault) -> Option<String> {
+    let mut asker = Asker { comparison, random: Random::new(seed), fault, unlike: None };
+    while asker.comparison.calls < calls && !asker.comparison.stopped() {
+        asker.visit_row();
+    }
+    asker.unlike
+}
+
+/// Runs from power-on and their struck runs, of one set and of two.
+pub fn strikes(comparison: &mut Comparison, calls: usize, seed: u64, fault: Fault) -> Tally {
+    let mut asker = Asker { comparison, random: Random::new(seed), fault, unlike: None };
+    let mut tally = Tally::default();
+    while asker.comparison.calls < calls && !asker.comparison.stopped() && tally.noticed.is_none() {
+        asker.strike(&mut tally);
+    }
+    tally
 }
 
 struct Asker<'a> {
@@ -242,6 +262,92 @@ impl Asker<'_> {
         for _ in 0..self.random.between(0, 8) {
             let call = questions::packet(&mut self.random);
             self.comparison.ask(&lent, call);
+        }
+    }
+
+    /// Some runs on one board.
+    fn strike(&mut self, tally: &mut Tally) {
+        let lent = Arc::new(any_board(&mut self.random, self.fault));
+        let Ok(boards) = &lent.opened else { return };
+        // the calls draw too
+        let mut drawing = Random::new(self.random.below(1 << 30) as u64);
+        for _ in 0..RUNS_ON_A_BOARD {
+            strike(boards, &mut drawing, tally, &mut |image, event| self.send(&lent, image, event));
+        }
+    }
+
+    /// A row of one set or of two, acceptable or not.
+    fn visit_row(&mut self) {
+        let accepted = self.random.percent(85);
+        let lent = if self.random.percent(50) {
+            let (full, high, serial) = if accepted { valid_pair(&mut self.random) } else { any_pair(&mut self.random) };
+            Arc::new(Lent::two(full, high, serial, self.fault))
+        } else {
+            let draft = Draft::valid(&mut self.random);
+            let (set, serial) = if accepted { (draft.set(), draft.serial) } else { any_set(&mut self.random) };
+            Arc::new(Lent::new(set, serial, self.fault))
+        };
+        let boards = lent.opened.as_ref().ok();
+        let ports = self.random.pick(&[0, 1, 2, 2, 2, 3, 8, 8, 9, 40, 300]);
+        let mut row: Vec<u8> = Vec::new();
+        for _ in 0..ports {
+            row.extend(self.record_of_row(boards));
+        }
+        for _ in 0..self.random.between(1, 24) {
+            row = self.event_in_row(&lent, boards, &row).image;
+        }
+        if let Some(boards) = boards.filter(|_| ports > 1) {
+            self.exchange_ports(&lent, boards, &row);
+        }
+    }
+
+    /// Misfits among them.
+    fn record_of_row(&mut self, boards: Option<&Boards>) -> Vec<u8> {
+        match boards {
+            Some(boards) if self.random.percent(85) => fitting(boards, &mut self.random).image(),
+            Some(boards) => questions::nearly_fitting(boards, &mut self.random).image(),
+            None => self.random.bytes(IMAGE_LENGTH),
+        }
+    }
+
+    fn any_event_at(&mut self, boards: Option<&Boards>, row: &[u8], port: u64) -> Event {
+        let start = port.saturating_mul(IMAGE_LENGTH as u64).min(row.len() as u64) as usize;
+        let record = row.get(start..start + IMAGE_LENGTH).and_then(Record::read).unwrap_or(Record::fresh());
+        match boards {
+            Some(boards) => questions::event(boards.in_use(record.speed), &record, &mut self.random),
+            None => Event::BusReset(0),
+        }
+    }
+
+    fn event_in_row(&mut self, lent: &Arc<Lent>, boards: Option<&Boards>, row: &[u8]) -> Outcome {
+        let ports = (row.len() / IMAGE_LENGTH) as u64;
+        let inside = self.random.below(ports.max(1) as usize) as u64;
+        let beyond =
+            self.random.pick(&[ports, ports + 1, inside + 256, inside + (1 << 32), inside + (1 << 59), u64::MAX]);
+        let port = if self.random.percent(85) { inside } else { beyond };
+        let event = self.any_event_at(boards, row, port);
+        self.comparison.ask(lent, Call::port(lent, row, port, &event))
+    }
+
+    /// "Events at different ports may be exchanged without changing any answer or record."
+    fn exchange_ports(&mut self, lent: &Arc<Lent>, boards: &Boards, row: &[u8]) {
+        let ports = row.len() / IMAGE_LENGTH;
+        let one = self.random.below(ports - 1);
+        let other = self.random.between(one + 1, ports - 1);
+        let events = [one, other].map(|port| (port as u64, self.any_event_at(Some(boards), row, port as u64)));
+        let ends = [[0, 1], [1, 0]].map(|order| {
+            let mut answers = [None, None];
+            let mut left = row.to_vec();
+            for side in order {
+                let (port, event) = &events[side];
+                let outcome = self.comparison.ask(lent, Call::port(lent, &left, *port, event));
+                left = outcome.image.clone();
+                answers[side] = Some(Outcome { image: Vec::new(), ..outcome });
+            }
+            (answers, left)
+        });
+        if ends[0] != ends[1] && self.fault == Fault::None {
+            self.unlike.get_or_insert(format!("order of ports decides: row {row:02x?}, events {events:?}"));
         }
     }
 

@@ -27,7 +27,7 @@ impl Blocks {
         let outcome = match call {
             // the set to be trimmed comes with the call
             Call::Trim { set } => call.answer(&Lent::new(set.clone(), serial.clone(), fault)),
-            Call::TwoOpen { .. } | Call::TwoEvent { .. } | Call::TwoEndpoint { .. } => {
+            _ if call.takes_two() => {
                 let opened = || Lent::two(set.clone(), self.high.clone(), serial.clone(), fault);
                 call.answer(self.pair.get_or_insert_with(opened))
             }

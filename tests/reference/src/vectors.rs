@@ -110,6 +110,10 @@ impl Script {
             "opensuper" => Some(self.tell_call(Call::SuperOpen { image: self.record.clone() })),
             // a refused set gives 7 and a record that does not fit 8, by any rules
             "event" if self.landed || !self.fits() => Some(self.tell_event(&event(&words[1..])?)),
+            "port" if self.landed => {
+                let (port, row) = (words.get(1)?.parse().ok()?, from_hex(words.get(2)?)?);
+                Some(self.tell_call(Call::port(&self.lent, &row, port, &event(&words[3..])?)))
+            }
             "packet" => {
                 let numbers = numbers(&words[1..])?;
                 Some(self.tell_call(packet_call(numbers.get(..3)?, *numbers.get(3)?)?))
