@@ -1,6 +1,7 @@
-/* unwritten [EVENTS]: only bytes that differ are written. Each random event is done on an ordinary image and record first; then again on copies that lie across the
- * border of two pages, of which each is read-only if none of its bytes is to become another: a write there ends the test. Where the event changes nothing, both
- * pages are read-only. An image is cut anywhere; a record is written field by field, so its alternate settings count as one.
+/* unwritten [EVENTS]: only bytes that differ are written. Each random event is done on an ordinary image and record first; then again on an image that lies
+ * across the border of two pages, cut anywhere, of which each is read-only if none of its bytes is to become another: a write there ends the test. Where the event
+ * changes nothing, both pages are read-only. A record is written whole, or, at an event that names no field of it, not at all: it is read-only at refusals, at
+ * requests that only tell something, where nothing waits and the device is awake, and at what is done already, a wake among it.
  *
  * The calls that change nothing must come up: GET_STATUS, refusals with 7, 8, 9, 16 and 19, a status end with nothing waiting, opening what is fresh already. */
 #define _DEFAULT_SOURCE
@@ -11,10 +12,7 @@
 
 #include "random_events.h"
 
-#define SETTINGS 8 /* where the alternate settings lie */
-#define WORDS 24   /* and where they end */
-
-static unsigned long done, unchanged, numbers[256], readings, ends, openings;
+static unsigned long done, unchanged, numbers[256], readings, ends, openings, records;
 static const char *call;
 static uint8_t *pages;
 static size_t page;
@@ -52,10 +50,12 @@ static void agree(const char *what, const struct answer *expected, const struct 
     exit(1);
 }
 
-/* Before the alternate settings, between two words, or where nothing is cut off. */
-static uint32_t record_cut(void) {
-    static const uint8_t cuts[] = {0, 4, SETTINGS, WORDS, WORDS + 4, HK_IMAGE_LENGTH};
-    return one_of(cuts, sizeof cuts);
+/* Whether an event that changes nothing names no field of the record: it is refused, it only tells something, or it is done without a change. */
+static int names_no_field(const struct event *event, const struct answer *answer) {
+    static const uint8_t telling[] = {0, 6, 8, 10}; /* GET_STATUS, GET_DESCRIPTOR, GET_CONFIGURATION, GET_INTERFACE */
+    if (answer->number != HK_DONE || event->kind == HK_EVENT_STATUS_END || event->kind == HK_EVENT_WAKE)
+        return 1;
+    return event->kind == HK_EVENT_SETUP && memchr(telling, event->setup[1], sizeof telling) != NULL;
 }
 
 static void count(const struct event *event, const struct answer *answer) {
@@ -76,12 +76,16 @@ static void at_event(const struct event *event) {
     copy = lay(before, image, below(HK_IMAGE_LENGTH + 1));
     answer = on_image(copy, event);
     agree("an image", &expected, &answer, copy, image);
+    if (memcmp(before, image, sizeof before) != 0)
+        return;
+    count(event, &expected);
+    if (!names_no_field(event, &expected))
+        return;
     call = "hk_record_event";
-    copy = lay(before, image, record_cut());
+    copy = lay(before, image, HK_IMAGE_LENGTH);
     answer = on_record((hk_record *)copy, event);
+    records++;
     agree("a record", &expected, &answer, copy, image);
-    if (memcmp(before, image, sizeof before) == 0)
-        count(event, &expected);
 }
 
 /* Opening makes a fresh record of any image: where one is fresh already, nothing is written. */
@@ -112,7 +116,7 @@ int main(int argument_count, char **arguments) {
         printf("  number %2d: %lu events that change nothing\n", expected[at], numbers[expected[at]]);
         missing |= numbers[expected[at]] == 0;
     }
-    printf("  GET_STATUS: %lu; status ends: %lu; openings: %lu\n", readings, ends, openings);
+    printf("  GET_STATUS: %lu; status ends: %lu; openings: %lu; records read-only: %lu\n", readings, ends, openings, records);
     if (missing || readings == 0 || ends == 0)
         printf("unwritten: a call that changes nothing is NOT reached\n");
     printf("unwritten: %lu events, %lu of them change nothing; no byte that does not differ is written\n", done, unchanged);

@@ -1,7 +1,7 @@
 -- Working definitions: a record after an event, by what the event changes of it; no promise cites them.
 use Prim.Native.Nat.{ℕ}
-use mathlib.Core.Bool.{Bool, true, false, _&&_}
-use mathlib.Core.List.{List, [], _∷_}
+use mathlib.Core.Bool.{Bool, true, false, not, _&&_, _||_}
+use mathlib.Core.List.{List}
 use lib.ListN.{length, set}
 use lib.Dec.{eqb, ltb}
 use Rattle.octets.specs.Sentences.{pick}
@@ -56,18 +56,22 @@ abbrev pub settledWith : Bool → ℕ → Device → Device
 settledWith true waits d = awake (withWaiting waits d)
 settledWith false waits d = d
 
--- whether two lists have the same numbers
-abbrev pub sameBytes : List ℕ → List ℕ → Bool
-sameBytes [] [] = true
-sameBytes [] (y ∷ ys) = false
-sameBytes (x ∷ xs) [] = false
-sameBytes (x ∷ xs) (y ∷ ys) = eqb x y && sameBytes xs ys
+-- whether a record stays as it is: nothing is to be settled, and no field is named
+abbrev pub isKept : Change → Bool
+isKept Kept = true
+isKept (Waiting address) = false
+isKept (Wakeup on) = false
+isKept (Power source) = false
+isKept (Suspended on) = false
+isKept (Address state address) = false
+isKept (Configuration state value) = false
+isKept (Setting j alternate halts toggles) = false
+isKept (Endpoints halts toggles) = false
+isKept (Passed toggles) = false
+isKept (Fresh power) = false
 
-abbrev pub sameDevice : Device → Device → Bool
-sameDevice d e =
-    eqb (d .state) (e .state) && eqb (d .address) (e .address) && eqb (d .waiting) (e .waiting) && eqb (d .configuration) (e .configuration) &&
-    eqb (d .wakeup) (e .wakeup) && eqb (d .power) (e .power) && eqb (d .suspended) (e .suspended) && eqb (d .speed) (e .speed) &&
-    sameBytes (d .alternates) (e .alternates) && eqb (d .halts) (e .halts) && eqb (d .toggles) (e .toggles)
+abbrev pub stays : Bool → Change → Device → Bool
+stays settles c d = (not settles || (eqb (d .waiting) nothing && eqb (d .suspended) 0)) && isKept c
 
 -- ---- on images of any length
 -- a record that fits no set stands for an image of another length

@@ -8,7 +8,7 @@ ghost use Rattle.descriptors.specs.Survey.{Surveys};
 ghost use Rattle.sets.specs.View.{View, hasValue, wakes};
 ghost use Rattle.records.specs.Device.{fresh, settled, testWaits};
 ghost use Rattle.records.specs.Image.{fourBytes, bytesOfFour, deviceOf, imageOf};
-ghost use Rattle.records.specs.Change.{withSetting, changed, after, sameBytes, sameDevice, misfit, recordIn};
+ghost use Rattle.records.specs.Change.{withSetting, changed, after, isKept, stays, misfit, recordIn};
 ghost use Rattle.records.specs.Current.{selected};
 ghost use Rattle.records.specs.Fits.{inRange, goodWaiting, goodState, fits};
 
@@ -174,37 +174,42 @@ pub fn after(settles: bool, change: Change, device: Device) -> Device
     changed(change, device)
 }
 
-// Whether the alternate settings are the same.
-fn same_settings(was: [u8; 16], next: [u8; 16]) -> bool
-    ensures { λ r. ⌜ r ≡ sameBytes was next ⌝ }
+// Whether no field is named.
+fn is_kept(change: Change) -> bool
+    ensures { λ r. ⌜ r ≡ isKept change ⌝ }
 {
-    let mut k = 0;
-    while k < 16 {
-        if was[k] != next[k] {
-            return false;
-        }
-        k += 1;
+    match change {
+        Change::Kept => true,
+        Change::Waiting(_) => false,
+        Change::Wakeup(_) => false,
+        Change::Power(_) => false,
+        Change::Suspended(_) => false,
+        Change::Address {
+            state: _,
+            address: _,
+        } => false,
+        Change::Configuration { state: _, value: _ } => false,
+        Change::Setting {
+            interface: _,
+            alternate: _,
+            halts: _,
+            toggles: _,
+        } => false,
+        Change::Endpoints {
+            halts: _,
+            toggles: _,
+        } => false,
+        Change::Passed { toggles: _ } => false,
+        Change::Fresh { power: _ } => false,
     }
-    true
 }
 
-// Whether two records are the same.
-pub fn same(was: Device, next: Device) -> bool
-    ensures { λ r. ⌜ r ≡ sameDevice was next ⌝ }
+// Whether the record stays as it is: nothing is to be settled, and no field is named.
+pub fn stays(settles: bool, change: Change, device: Device) -> bool
+    ensures { λ r. ⌜ r ≡ stays settles change device ⌝ }
 {
-    let old = was.alternates;
-    let new = next.alternates;
-    (was.state == next.state)
-        & (was.address == next.address)
-        & (was.waiting == next.waiting)
-        & (was.configuration == next.configuration)
-        & (was.wakeup == next.wakeup)
-        & (was.power == next.power)
-        & (was.suspended == next.suspended)
-        & (was.speed == next.speed)
-        & same_settings(old, new)
-        & (was.halts == next.halts)
-        & (was.toggles == next.toggles)
+    let settled = (device.waiting == 255) & (device.suspended == 0);
+    (!settles | settled) & is_kept(change)
 }
 
 // The number of four bytes at k.

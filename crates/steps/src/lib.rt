@@ -6,10 +6,10 @@ use events::reaction;
 use events::reaction::Reaction;
 use records::Device;
 ghost use mathlib.Core.Path.{_≡_};
+ghost use mathlib.Core.Bool.{true};
 ghost use lib.Dec.{eqb};
 ghost use Rattle.octets.specs.Sentences.{pick};
 ghost use Rattle.sets.specs.Opening.{lent};
-ghost use Rattle.records.specs.Change.{sameDevice};
 ghost use Rattle.sets.specs.View.{openingOf};
 ghost use Rattle.events.specs.Answer.{gives};
 ghost use Rattle.events.specs.Facts.{outcomeOf};
@@ -84,35 +84,35 @@ pub fn step(set: &[u8], serial: &[u8], device: Device, event: Event) -> Outcome
     step_opened(number, set, serial, device, event)
 }
 
-// What an event leaves of a record that is lent: its answer, the record, and whether that is the one before.
+// What an event leaves of a record that is lent: its answer, the record, and whether that stays as it is.
 pub struct Left {
     pub answer: Answer,
     pub device: Device,
-    pub same: bool,
+    pub stays: bool,
 }
 
 fn step_left(number: u8, set: &[u8], serial: &[u8], device: Device, event: Event) -> Left
     requires { ⌜ number ≡ openingOf (lent (now set) (now serial)) ⌝ }
-    ensures { λ r. ⌜ (gives (r .answer) (r .device) ≡ step (lent (now (set .entry)) (now (serial .entry))) device event) × (r .same ≡ sameDevice device (r .device)) ⌝ }
+    ensures { λ r. ⌜ (gives (r .answer) (r .device) ≡ step (lent (now (set .entry)) (now (serial .entry))) device event) × (r .stays ≡ true → r .device ≡ device) ⌝ }
 {
-    let next = step_opened(number, set, serial, device, event);
-    let answer = next.answer;
-    let then = next.device;
+    let reaction = react(number, set, serial, device, event);
+    let answer = reaction.answer;
+    let next = reaction.next;
     Left {
         answer,
-        device: then,
-        same: records::same(device, then),
+        device: records::after(reaction.settles, next, device),
+        stays: records::stays(reaction.settles, next, device),
     }
 }
 
-// The step on a record that is lent: the next record is stored where it stands, if it is another one.
+// The step on a record that is lent: the next record is stored where it stands, if the event may change it.
 pub fn step_lent(number: u8, device: &mut Device, set: &[u8], serial: &[u8], event: Event) -> Answer
     requires { ⌜ number ≡ openingOf (lent (now set) (now serial)) ⌝ }
     ensures { λ r. ⌜ gives r (now (device .exit)) ≡ step (lent (now (set .entry)) (now (serial .entry))) (now (device .entry)) event ⌝ }
 {
     let was = *device;
     let next = step_left(number, set, serial, was, event);
-    if !next.same {
+    if !next.stays {
         *device = next.device;
     }
     next.answer

@@ -1,4 +1,4 @@
--- `steps::step_lent` meets its contract: a walk of its MIR, by hand. The borrow is opened, the record is read whole and passed to `step_left`, of which the proof knows only its contract. The borrow is closed at the record that `step_left` returned: it is stored if it is another one, and is the one that stands there otherwise.
+-- `steps::step_lent` meets its contract: a walk of its MIR, by hand. The borrow is opened, the record is read whole and passed to `step_left`, of which the proof knows only its contract. The borrow is closed at the record that `step_left` returned: it is stored, unless it is the one that stands there.
 -- Positions: with 9 locals, local i stands at 2 · (8 − i), after what the comments list in front of it. No axiom.
 use mathlib.Core.Path.{_≡_, refl, sym, ap, _∙_}
 use mathlib.Core.Bool.{Bool, true, false, not}
@@ -53,8 +53,6 @@ use Rattle.events.specs.declared.Answer.{Answer}
 use Rattle.events.specs.declared.Event.{Event}
 use Rattle.events.specs.declared.Outcome.{Outcome}
 use Rattle.events.specs.Answer.{gives}
-use Rattle.records.specs.Change.{sameDevice}
-use Rattle.records.proofs.Sameness.{same-devices}
 use Rattle.steps.specs.declared.Left.{Left}
 use Rattle.events.specs.Step.{step}
 use Rattle.events.proofs.Answer as A
@@ -183,14 +181,14 @@ module _ {M : Type 1} (𝓤 : URA M) (H : Heap 𝓤) (At : Atoms 𝓤) (W : Give
 
   -- of the step's `ensured`, the clause alone
   abbrev Told : Left → Type 0
-  Told r = (gives (r .answer) (r .device) ≡ made) × (r .same ≡ sameDevice h (r .device))
+  Told r = (gives (r .answer) (r .device) ≡ made) × (r .stays ≡ true → r .device ≡ h)
 
   step-of : (r : Left) → ent 𝓤 (ensured 𝓤 H At left.ended (left.clauses 𝓤 H At at-mem run) (κ₁, (κ₂, tt)) (n, (x₁, (x₂, (h, (x₃, tt))))) tt r) (fact 𝓤 (Told r))
   step-of r = exE 𝓤 _ (λ ws. snd∗ 𝓤 (sem 𝓤 H At (lasts left.ended (κ₁, (κ₂, tt)) (n, (x₁, (x₂, (h, (x₃, tt))))) ws)) (fact 𝓤 (Told r)))
 
   -- a record that is the same is the one that the event leaves
-  stays : (r : Left) → Told r → T (not (not (r .same))) → gives (r .answer) h ≡ made
-  stays r e y = ap (gives (r .answer)) (same-devices h (r .device) (sym (e .1) ∙ twice-not (r .same) y)) ∙ e .0
+  stays : (r : Left) → Told r → T (not (not (r .stays))) → gives (r .answer) h ≡ made
+  stays r e y = ap (gives (r .answer)) (sym (e .1 (twice-not (r .stays) y))) ∙ e .0
 
   exits : n < 2 ^ 8 → (x : Answer) (d : Device) → gives x d ≡ made → Is A.the-row x (answer-mach x ∷ [])
       → ent 𝓤 (⋆ 𝓤 H At (‵ (fobs γ (D.the-row .coded .code d)) ∷ ‵ (fbor κ (Body (mem D.the-row) b o γ)) ∷ ‵ (flft κ q) ∷ (‵ (flft κ₁ q₁) ⊛ ‵ (flft κ₂ q₂) ⊛ ‵ ftrue) ∷ ‵ Own ∷ [])) (Post (answer-mach x))
@@ -251,11 +249,11 @@ module _ {M : Type 1} (𝓤 : URA M) (H : Heap 𝓤) (At : Atoms 𝓤) (W : Give
         rewrite ! 7 (λ (w : Val). ‵ (fat fullShare L′.mir l₇ zero w)) (ap only (LL.tells L.the-type L′.the-laws r (v ∷ []) is)) refl $
         assigns ! (un ! (load ! (from ! (fld ! refl (stop !))) (look-in ! 7 (sub ! 2 refl (whole !)))) tt) (from ! (stop !)) (init ! 5 refl (tt, tt)) $
         first ! $ branches ! (load ! (from ! (stop !)) (look ! 5 refl))
-        -- another record: it is stored
+        -- it may be another record: it is stored
         (λ y. assigns-last ! (of-opd ! (load ! (from ! (fld ! refl (stop !))) (look-in ! 7 (sub ! 1 refl (whole !))))) (from ! (hop ! (look ! 17 refl) (stop !))) (store-raw ! 1 refl (LL.lawful D.the-type D′.the-laws 𝓤 H At W .typed (r .device) _ (device-is r v is) .0)) $
-        exec ! C Λ (Env₀ C Λ l₀ l₁ l₂ l₃ l₄ l₅ l₆ l₇ l₈) bodies.t-5 (atRet (Env₀ C Λ l₀ l₁ l₂ l₃ l₄ l₅ l₆ l₇ l₈) Post) $ leaves C Λ l₀ l₁ l₂ l₃ l₄ l₅ l₆ l₇ l₈ fits r (r .device) (not (r .same)) (e .0) (device-is r v is) (answer-is r v is))
-        -- the same one: it stays
-        (λ y. skips ! $ exec ! C Λ (Env₀ C Λ l₀ l₁ l₂ l₃ l₄ l₅ l₆ l₇ l₈) bodies.t-5 (atRet (Env₀ C Λ l₀ l₁ l₂ l₃ l₄ l₅ l₆ l₇ l₈) Post) $ leaves C Λ l₀ l₁ l₂ l₃ l₄ l₅ l₆ l₇ l₈ fits r h (not (r .same)) (stays r e y) was (answer-is r v is)))))))))))))))))
+        exec ! C Λ (Env₀ C Λ l₀ l₁ l₂ l₃ l₄ l₅ l₆ l₇ l₈) bodies.t-5 (atRet (Env₀ C Λ l₀ l₁ l₂ l₃ l₄ l₅ l₆ l₇ l₈) Post) $ leaves C Λ l₀ l₁ l₂ l₃ l₄ l₅ l₆ l₇ l₈ fits r (r .device) (not (r .stays)) (e .0) (device-is r v is) (answer-is r v is))
+        -- it is the same one: it stays
+        (λ y. skips ! $ exec ! C Λ (Env₀ C Λ l₀ l₁ l₂ l₃ l₄ l₅ l₆ l₇ l₈) bodies.t-5 (atRet (Env₀ C Λ l₀ l₁ l₂ l₃ l₄ l₅ l₆ l₇ l₈) Post) $ leaves C Λ l₀ l₁ l₂ l₃ l₄ l₅ l₆ l₇ l₈ fits r h (not (r .stays)) (stays r e y) was (answer-is r v is)))))))))))))))))
 
 module _ {M : Type 1} (𝓤 : URA M) (H : Heap 𝓤) (At : Atoms 𝓤) (W : Given 𝓤 H At) (at-mem : Memory → SProp 𝓤) (run : Routine → Fun 𝓤) where
   lent-walks : (C : Calls 𝓤 H) (Λ : Loops 𝓤 H) → FmC 𝓤 H (W .laws) C → Triple 𝓤 (C #left) (Step 𝓤 H At at-mem run) → Walks 𝓤 H At lent.ended stayed (WpFn 𝓤 H C Λ code.function) (lent.clauses 𝓤 H At at-mem run)
