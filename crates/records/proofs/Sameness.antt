@@ -6,7 +6,7 @@ use borrow.Author.Tests.{eqb-true}
 use Rattle.octets.proofs.Sentences.{both}
 use Rattle.records.specs.declared.Device.{Device}
 use Rattle.records.specs.declared.Change.{Change}
-use Rattle.records.specs.declared.Change.the-variants.{Kept, Waiting, Wakeup, Power, Suspended, Address, Configuration, Setting, Endpoints, Passed, Fresh}
+use Rattle.records.specs.declared.Change.the-variants.{Kept, Waiting, Wakeup, Power, Suspended, Address, Configuration, Setting, Endpoints, Passed, Fresh, TestMode}
 use Rattle.records.specs.Device.{nothing}
 use Rattle.records.specs.Change.{changed, settledIf, after, isKept, stays}
 
@@ -21,7 +21,8 @@ kept-stays (Configuration state value) d p = absurd (false≢true p)
 kept-stays (Setting j alternate halts toggles) d p = absurd (false≢true p)
 kept-stays (Endpoints halts toggles) d p = absurd (false≢true p)
 kept-stays (Passed toggles) d p = absurd (false≢true p)
-kept-stays (Fresh power) d p = absurd (false≢true p)
+kept-stays (Fresh power speed) d p = absurd (false≢true p)
+kept-stays (TestMode speed) d p = absurd (false≢true p)
 
 settled-stays : (settles : Bool) (d : Device) → (not settles || (eqb (d .waiting) nothing && eqb (d .suspended) 0)) ≡ true → settledIf settles d ≡ d
 settled-stays false d p = refl

@@ -68,7 +68,8 @@ isKept (Configuration state value) = false
 isKept (Setting j alternate halts toggles) = false
 isKept (Endpoints halts toggles) = false
 isKept (Passed toggles) = false
-isKept (Fresh power) = false
+isKept (Fresh power speed) = false
+isKept (TestMode speed) = false
 
 abbrev pub stays : Bool → Change → Device → Bool
 stays settles c d = (not settles || (eqb (d .waiting) nothing && eqb (d .suspended) 0)) && isKept c

@@ -200,7 +200,8 @@ fn is_kept(change: Change) -> bool
             toggles: _,
         } => false,
         Change::Passed { toggles: _ } => false,
-        Change::Fresh { power: _ } => false,
+        Change::Fresh { power: _, speed: _ } => false,
+        Change::TestMode(_) => false,
     }
 }
 

@@ -95,7 +95,7 @@ fn step_left(number: u8, set: &[u8], serial: &[u8], device: Device, event: Event
     requires { ⌜ number ≡ openingOf (lent (now set) (now serial)) ⌝ }
     ensures { λ r. ⌜ (gives (r .answer) (r .device) ≡ step (lent (now (set .entry)) (now (serial .entry))) device event) × (r .stays ≡ true → r .device ≡ device) ⌝ }
 {
-    let reaction = react(number, set, serial, device, event);
+    let reaction = react(number, false, set, serial, device, event);
     let answer = reaction.answer;
     let next = reaction.next;
     Left {

@@ -1,12 +1,18 @@
 -- `steps::step_left` meets its contract: the reaction's change, and whether it is none. No axiom.
-use mathlib.Core.Path.{sym, _∙_}
+use Prim.Native.Nat.{ℕ}
+use mathlib.Core.Path.{sym, ap, _∙_}
+use mathlib.Core.Bool.{false}
+use Rattle.descriptors.specs.Limits.{fullSpeed}
+use Rattle.sets.specs.Opening.{lent}
 use Rattle.records.proofs.Sameness.{nothing-changes}
 use borrow.Author.Needs.{needs}
+use Rattle.steps.specs.Gathering.{viewIn, stepIn}
+use Rattle.steps.proofs.Steps.{step-in}
 use Rattle.steps.proofs.step_left.Statement.{statement}
 use Rattle.steps.proofs.step_left.Tie as tie
 
 react-requires : tie.Need-react-requires
-react-requires c κs = search needs
+react-requires c κs = λ z. (fullSpeed, sym (c .before .before .pre) ∙ z)
 
 after-requires : tie.Need-after-requires
 after-requires c κs = search needs
@@ -17,8 +23,11 @@ stays-requires c κs = search needs
 returns : tie.Need-returns
 returns c =
     let r = c .before .before .react .result in
-    let d = c .before .before .before .before .before .args .device in
-    (rw (c .before .after .ensures) (c .before .before .react .ensures), λ p. c .before .after .ensures ∙ nothing-changes (r .settles) (r .next) d (sym (c .stays .ensures) ∙ p))
+    let start = c .before .before .before .before .before in
+    let a = start .args in
+    let b = lent (a .set .now) (a .serial .now) in
+    let d = a .device in
+    (rw (c .before .after .ensures) (c .before .before .react .ensures ∙ ap (λ (n : ℕ). stepIn n (viewIn false (a .set .now) (a .serial .now)) d (a .event)) (start .pre) ∙ sym (step-in b d (a .event))), λ p. c .before .after .ensures ∙ nothing-changes (r .settles) (r .next) d (sym (c .stays .ensures) ∙ p))
 
 pub step-left-spec : {M : Type 1} → statement M
 step-left-spec = tie.close (tie.spec react-requires after-requires stays-requires returns)
