@@ -41,14 +41,14 @@ export class Board {
         return { ...answer, asked, packets, before };
     }
 
-    // The endpoints of the current settings.
+    // The endpoints of the current settings: each descriptor, and where it stands in the set.
     endpoints() {
         const name = this.sets.length === 2 ? "hk_two_endpoint" : "hk_endpoint", found = [];
         while (this.library.has(name)) {
-            const { number, data } = this.library.endpoint(this.sets, this.serial, this.record, found.length);
+            const { number, part, data } = this.library.endpoint(this.sets, this.serial, this.record, found.length);
             if (number !== 0)
                 break;
-            found.push(data);
+            found.push({ place: part.offset, data });
         }
         return found;
     }

@@ -64,7 +64,7 @@ const inHexadecimal = (name) => new RegExp(`^(?:${FACTS.inHexadecimal})`).test(n
 // A field at `start`: its name, its bytes, its value in figures and what that means; `string` tells the text of a reference.
 function field(bytes, start, name, size, { type, kind, string }) {
     const value = size === 1 ? bytes[start] : word(bytes, start);
-    const refers = /^i[A-Z]/.test(name) ? (value === 0 ? "no string" : string(value)) : undefined;
+    const refers = /^i[A-Z]/.test(name) ? (value === 0 ? "no string" : name === "iSerialNumber" ? "the serial block" : string(value)) : undefined;
     const figures = inHexadecimal(name) ? `0x${hexadecimal(value, 2 * size)}` : `${value}`;
     return { name, start, length: size, figures, words: refers ?? MEANINGS[name]?.(value, type, kind) ?? "" };
 }

@@ -2,6 +2,9 @@
 
 export const byId = (id) => document.getElementById(id);
 
+// Children in lists of lists, without those that are not there.
+const present = (children) => children.flat(Infinity).filter((child) => child !== null && child !== undefined && child !== false && child !== "");
+
 // An element with attributes (an on.. one is a listener, a true one stands without value, a false one not at all) and children.
 export function element(name, attributes = {}, ...children) {
     const made = document.createElement(name);
@@ -13,12 +16,12 @@ export function element(name, attributes = {}, ...children) {
         else if (value !== false && value !== undefined && value !== null)
             made.setAttribute(key, value);
     }
-    made.append(...children.flat().filter((child) => child !== null && child !== undefined && child !== false));
+    made.append(...present(children));
     return made;
 }
 
 export function fill(place, ...children) {
-    place.replaceChildren(...children.flat().filter((child) => child !== null && child !== undefined && child !== false));
+    place.replaceChildren(...present(children));
 }
 
 export const button = (words, onclick, attributes = {}) => element("button", { type: "button", onclick, ...attributes }, words);

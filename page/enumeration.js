@@ -7,13 +7,15 @@ import { eventWords } from "./requests.js";
 import { recordWords } from "./record.js";
 import { alike, countWords, spaced } from "./bytes.js";
 
-const AT_ONCE = 40, MOST_BYTES = 64;
+const AT_ONCE = 40, MOST_ROWS = 80;
 
-// The data of an answer: a row for each descriptor.
+const dataRow = ({ bytes, words }) => element("div", { class: "datum" }, element("code", {}, spaced(bytes)), element("span", {}, words));
+
+// The data of an answer: a row for each descriptor; those of a long one when they are asked for.
 function dataRows(event, answer) {
-    return dataLines(event, answer).map(({ bytes, words }) => element("div", { class: "datum" },
-        element("code", {}, spaced(bytes.slice(0, MOST_BYTES)) + (bytes.length > MOST_BYTES ? ` .. ${spaced(bytes.slice(-1))}` : "")),
-        words && element("span", {}, words)));
+    const lines = dataLines(event, answer), rest = lines.length > MOST_ROWS ? lines.splice(MOST_ROWS / 2) : [];
+    const opened = ({ currentTarget }) => currentTarget.children.length === 1 && currentTarget.append(...rest.map(dataRow));
+    return [lines.map(dataRow), rest.length > 0 && element("details", { class: "rest", ontoggle: opened }, element("summary", {}, `${countWords(rest.length, "descriptor")} more`))];
 }
 
 // An event and its answer, for the enumeration and for the console.

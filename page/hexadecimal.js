@@ -2,7 +2,8 @@
 import { element, fill } from "./element.js";
 import { hexadecimal } from "./bytes.js";
 
-const ROWS_IN_CHUNK = 32; // rows are laid out by the chunk, when they come into view
+const ROWS_IN_CHUNK = 16; // rows are built by the chunk, when they come near to being seen
+const ROW_HEIGHT = 1.55;
 const narrow = globalThis.matchMedia?.("(max-width: 44rem)");
 
 const letterOf = (byte) => (byte > 32 && byte < 127 ? String.fromCharCode(byte) : byte === 32 ? " " : "·");
@@ -11,62 +12,78 @@ export class Hexadecimal {
     constructor(grid, { onchoose }) {
         this.grid = grid;
         this.onchoose = onchoose;
-        this.bytes = new Uint8Array(0);
-        this.kinds = [];
-        this.cells = [];
-        this.at = 0;
-        this.chosen = [];
+        this.seen = new IntersectionObserver((entries) => entries.filter((entry) => entry.isIntersecting).forEach((entry) => this.build(entry.target)), { root: grid, rootMargin: "400px" });
+        this.show(new Uint8Array(0), []);
         grid.addEventListener("keydown", (event) => this.key(event));
         grid.addEventListener("click", (event) => this.click(event));
-        narrow?.addEventListener("change", () => this.show(this.bytes, this.kinds, this.broken));
+        narrow.addEventListener("change", () => this.showAgain());
     }
 
     // Shows these bytes; `kinds` has the kind of each, `broken` is the place of the byte to mark.
     show(bytes, kinds, broken) {
-        Object.assign(this, { bytes, kinds, broken, cells: [], chosen: [], at: 0, columns: narrow?.matches ? 8 : 16 });
-        const chunks = [];
+        Object.assign(this, { bytes, kinds, broken, cells: [], range: [0, 0], at: 0, columns: narrow.matches ? 8 : 16 });
+        this.chunks = [];
+        this.seen.disconnect();
         for (let start = 0; start < bytes.length; start += ROWS_IN_CHUNK * this.columns)
-            chunks.push(this.chunk(start));
-        fill(this.grid, chunks.length > 0 ? chunks : element("p", { class: "quiet" }, "no bytes"));
+            this.chunks.push(this.chunk(start));
+        fill(this.grid, this.chunks.length > 0 ? this.chunks : element("p", { class: "quiet" }, "no bytes"));
+        this.chunks.forEach((chunk) => this.seen.observe(chunk));
+        this.grid.scrollTop = 0;
         this.grid.setAttribute("aria-rowcount", Math.ceil(bytes.length / this.columns));
         this.grid.removeAttribute("aria-activedescendant");
     }
 
+    // The same in rows of another length.
+    showAgain() {
+        const [start, end] = this.range;
+        this.show(this.bytes, this.kinds, this.broken);
+        this.choose(start, end);
+    }
+
+    // Rows that are still to be built, as high as they will be.
     chunk(start) {
-        const end = Math.min(start + ROWS_IN_CHUNK * this.columns, this.bytes.length), rows = [];
-        for (let at = start; at < end; at += this.columns)
-            rows.push(this.row(at, Math.min(at + this.columns, this.bytes.length)));
-        return element("div", { class: "chunk", role: "rowgroup" }, rows);
+        const end = Math.min(start + ROWS_IN_CHUNK * this.columns, this.bytes.length), chunk = element("div", { class: "chunk", role: "rowgroup" });
+        chunk.style.height = `${Math.ceil((end - start) / this.columns) * ROW_HEIGHT}em`;
+        Object.assign(chunk, { from: start, to: end });
+        return chunk;
+    }
+
+    build(chunk) {
+        if (chunk.firstChild !== null)
+            return;
+        for (let at = chunk.from; at < chunk.to; at += this.columns)
+            chunk.append(this.row(at, Math.min(at + this.columns, chunk.to)));
     }
 
     row(start, end) {
-        const row = element("div", { class: "row", role: "row" }, element("span", { class: "offset", role: "rowheader" }, `${start}`));
-        const letters = element("span", { class: "letters", "aria-hidden": "true" });
-        for (let at = start; at < end; at++) {
+        const row = element("div", { class: "row", role: "row", "aria-rowindex": 1 + start / this.columns }, element("span", { class: "offset", role: "rowheader" }, `${start}`));
+        for (let at = start; at < end; at++)
             row.append(this.cell(at));
-            letters.append(letterOf(this.bytes[at]));
-        }
         if (this.columns === 16)
-            row.append(letters);
+            row.append(element("span", { class: "letters", "aria-hidden": "true" }, Array.from(this.bytes.slice(start, end), letterOf).join("")));
         return row;
     }
 
     cell(at) {
-        const cell = document.createElement("span");
-        cell.className = `byte ${this.kinds[at] ?? ""}${at === this.broken ? " broken" : ""}`;
-        cell.id = `byte-${at}`;
-        cell.setAttribute("role", "gridcell");
-        cell.textContent = hexadecimal(this.bytes[at]);
-        this.cells.push(cell);
+        const cell = element("span", { id: `byte-${at}`, role: "gridcell", class: `byte ${this.kinds[at] ?? ""}` }, hexadecimal(this.bytes[at]));
+        cell.classList.toggle("broken", at === this.broken);
+        cell.classList.toggle("chosen", at >= this.range[0] && at < this.range[1]);
+        cell.classList.toggle("here", at === this.at);
+        this.cells[at] = cell;
         return cell;
+    }
+
+    // The cells of a range that are built.
+    built([start, end]) {
+        return this.cells.slice(start, end).filter((cell) => cell !== undefined);
     }
 
     // Chooses the bytes from start to end, and brings the first into view.
     choose(start, end, { scroll = true } = {}) {
-        for (const cell of this.chosen)
+        for (const cell of this.built(this.range))
             cell.classList.remove("chosen");
-        this.chosen = this.cells.slice(start, end);
-        for (const cell of this.chosen)
+        this.range = [start, end];
+        for (const cell of this.built(this.range))
             cell.classList.add("chosen");
         this.stand(start, scroll);
     }
@@ -75,9 +92,11 @@ export class Hexadecimal {
     stand(at, scroll = true) {
         this.cells[this.at]?.classList.remove("here");
         this.at = at;
-        const cell = this.cells[at];
-        if (!cell)
+        const chunk = this.chunks[Math.floor(at / (ROWS_IN_CHUNK * this.columns))];
+        if (!chunk || at >= this.bytes.length)
             return;
+        this.build(chunk);
+        const cell = this.cells[at];
         cell.classList.add("here");
         this.grid.setAttribute("aria-activedescendant", cell.id);
         if (scroll)

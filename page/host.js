@@ -65,7 +65,7 @@ export class Host {
             return null;
         const before = this.open;
         this.open = this.board.endpoints();
-        return before.length === this.open.length && before.every((one, at) => alike(one, this.open[at])) ? null : this.open;
+        return before.length === this.open.length && before.every(({ place }, at) => place === this.open[at].place) ? null : this.open;
     }
 
     *happen(event, value = 0, setup = NO_SETUP) {
@@ -107,7 +107,6 @@ export class Host {
         yield* this.usePower();
         for (const body of this.learnt.bodies)
             yield* this.useConfiguration(body);
-        yield* this.leave();
     }
 
     *readQualifier() {
@@ -218,13 +217,6 @@ export class Host {
         yield* this.happen(EVENT.PACKET_PASSED, endpoint);
         yield* this.happen(EVENT.HALT, endpoint);
     }
-
-    *leave() {
-        yield { heading: "Configuration 0 leads back to Address, a bus reset to Default; only the reset ends remote wakeup" };
-        yield* this.changeWakeup(REQUEST.SET_FEATURE);
-        yield* this.ask(0x00, REQUEST.SET_CONFIGURATION, 0, 0, 0);
-        yield* this.reset();
-    }
 }
 
 // ---- in words, as tests/host.c prints them
@@ -244,7 +236,7 @@ export function answerWords({ event }, answer) {
     return answer.packets.length > 0 ? packetsWords(answer) : "done";
 }
 
-export const endpointsWords = (endpoints) => endpoints.map((one) => `${hexadecimal(one[2])} ${TRANSFER_TYPES[one[3] & 3]} of ${word(one, 4)}`).join(", ") || "none";
+export const endpointsWords = (endpoints) => endpoints.map(({ data }) => `${hexadecimal(data[2])} ${TRANSFER_TYPES[data[3] & 3]} of ${word(data, 4)}`).join(", ") || "none";
 
 // What the data of an answer says, a line for each descriptor: its bytes and its words.
 export function dataLines({ setup }, answer) {
@@ -266,15 +258,23 @@ function shortWords(bytes) {
     return name;
 }
 
+// An event and its answer, in a line or two.
+function answerLines(event, answer) {
+    const words = eventWords(event) + setupInBrackets(event), says = answerWords(event, answer);
+    if (event.event === EVENT.WAKE)
+        return [`${words}: ${says}`];
+    if (event.event !== EVENT.SETUP && answer.number === 0)
+        return [words];
+    if (event.setup[1] === REQUEST.GET_DESCRIPTOR || answer.packets.length === 0)
+        return [words, `  -> ${says}`, ...dataLines(event, answer).map(({ bytes, words: meaning }) => `     ${spaced(bytes)}  ${meaning}`)];
+    return [words, `  -> ${says}: ${spaced(answer.data)}`];
+}
+
 // The lines of a step.
 export function stepLines({ heading, event, answer, status, endpoints }) {
     if (heading)
         return ["", `# ${heading}`];
-    const lines = [eventWords(event) + setupInBrackets(event)];
-    if (event.event === EVENT.SETUP || event.event === EVENT.WAKE || answer.number !== 0)
-        lines.push(`  -> ${answerWords(event, answer)}`);
-    for (const { bytes, words } of dataLines(event, answer))
-        lines.push(`     ${spaced(bytes)}${words ? `  ${words}` : ""}`);
+    const lines = answerLines(event, answer);
     if (endpoints)
         lines.push(`  open: ${endpointsWords(endpoints)}`);
     if (!alike(answer.before, answer.record))

@@ -34,8 +34,11 @@ export class Inspection {
         fill(byId("blocks"), this.blocks.map(({ name, bytes }, at) => element("option", { value: at }, `${name}, ${countWords(bytes.length, "byte")}`)));
         fill(byId("listing"), board.sets.map((set, at) => `${names.length > 1 ? `${names[at]}\n` : ""}${listing(set, board.number).join("\n")}\n`));
         this.showBlock(judged.block === "serial" || (judged.number === 6 && board.serial.length > 0) ? this.blocks.length - 1 : judged.set);
+        const device = this.block.nodes.find(({ kind }) => kind === "device");
         if (this.block.broken !== undefined)
             this.choosePlace(this.block.broken);
+        else if (device)
+            this.tree.choose(this.tree.items.get(device));
     }
 
     showBlock(at) {
@@ -65,12 +68,13 @@ export class Inspection {
         const fields = node?.fields?.() ?? [], field = fields.find(({ start, length }) => place >= start && place < start + length);
         this.bytes.choose(field?.start ?? place, field ? field.start + field.length : place + 1);
         this.bytes.stand(place);
-        this.showFields(chain, place);
+        this.showFields(chain, place, field);
     }
 
-    showFields(chain, place) {
+    // The fields of the last node of a chain; `current` is the one that is stood at.
+    showFields(chain, place, current) {
         const node = chain.at(-1), fields = node?.fields?.() ?? [];
-        const rows = fields.map((field) => element("tr", { class: place >= field.start && place < field.start + field.length && chain.length > 1 ? "current" : "" },
+        const rows = fields.map((field) => element("tr", { class: field.start === current?.start && "current" },
             element("th", { scope: "row" }, button(field.name, () => this.choosePlace(field.start), { class: "link" })),
             element("td", { class: "figures" }, field.figures.length > 71 ? `${field.figures.slice(0, 71)} …` : field.figures),
             element("td", {}, field.words)));

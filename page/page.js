@@ -10,6 +10,7 @@ import { Workshop } from "./workshop.js";
 import { judge, showVerdict } from "./verdict.js";
 import { guess, readFile, textOfFile } from "./files.js";
 import { setOfText } from "./making.js";
+import { listing } from "./set.js";
 import { countWords, fromBase64, readHexadecimal } from "./bytes.js";
 
 const NO_FILE = { name: "", bytes: new Uint8Array(0) };
@@ -204,6 +205,6 @@ export async function start() {
     page.openPanel("tab-set");
     page.useExample(FACTS.examples[0]);
     fill(byId("module-words"), `${FACTS.module.bytes} bytes of WebAssembly, SHA-256 ${FACTS.module.sum}`);
-    globalThis.heideklonk = { library, page };
+    globalThis.heideklonk = { library, page, listing };
     document.body.dataset.ready = "yes";
 }

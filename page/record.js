@@ -40,6 +40,7 @@ export const recordWords = (record) => recordPhrases(record).join(", ");
 
 // The fields of the record's image, each with its bytes and its words.
 export function recordFields(record) {
+    const settings = Array.from(record.slice(8, 24), (alternate, number) => (alternate > 0 ? `${number}: ${alternate}` : "")).filter(Boolean);
     const byte = (name, at, words) => ({ name, start: at, length: 1, figures: `${record[at]}`, words });
     return [
         byte("state", 0, STATES[record[0]] ?? "none"),
@@ -50,7 +51,7 @@ export function recordFields(record) {
         byte("power", 5, record[5] === 0 ? "bus" : "own supply"),
         byte("suspended", 6, record[6] === 0 ? "no" : "yes"),
         byte("speed", 7, speedWords(record[7]) || "full speed"),
-        { name: "alternates", start: 8, length: 16, figures: Array.from(record.slice(8, 24)).join(" "), words: "" },
+        { name: "alternates", start: 8, length: 16, figures: settings.join(", ") || "all 0", words: "" },
         { name: "halts", start: 24, length: 4, figures: endpointsOf(record.slice(24, 28)).join(" ") || "none", words: "" },
         { name: "toggles", start: 28, length: 4, figures: endpointsOf(record.slice(28, 32)).join(" ") || "none", words: "" },
     ];

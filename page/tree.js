@@ -24,7 +24,7 @@ export class Tree {
     }
 
     item(node, above, level) {
-        const bytes = node.end - node.start === 1 ? `${node.start}` : `${node.start}–${node.end - 1}`;
+        const end = Math.max(node.end, node.reach ?? 0), bytes = end - node.start === 1 ? `${node.start}` : `${node.start}–${end - 1}`;
         const label = element("span", { class: "label" }, element("span", { class: `swatch ${node.kind}`, "aria-hidden": "true" }), element("span", {}, node.title), element("span", { class: "range" }, bytes));
         const item = element("li", { role: "treeitem", tabindex: "-1", "aria-level": level, "aria-selected": "false", "aria-label": `${node.title}, bytes ${bytes}` }, label);
         item.node = node;
