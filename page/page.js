@@ -7,7 +7,7 @@ import { Inspection } from "./inspection.js";
 import { Enumeration } from "./enumeration.js";
 import { Console } from "./console.js";
 import { Workshop } from "./workshop.js";
-import { judge, showVerdict } from "./verdict.js";
+import { judge, showComplaint, showVerdict } from "./verdict.js";
 import { guess, readFile, textOfFile } from "./files.js";
 import { setOfText } from "./making.js";
 import { listing } from "./set.js";
@@ -108,10 +108,14 @@ class Page {
 
     // ---- files
     async takeChosen(input, place) {
-        if (input.files.length > 0)
-            this.put(place, await readFile(input.files[0]));
+        try {
+            if (input.files.length > 0)
+                this.put(place, await readFile(input.files[0]));
+            this.lend();
+        } catch (error) {
+            showComplaint(byId("verdict"), `Not read: ${error.message}`);
+        }
         input.value = "";
-        this.lend();
     }
 
     put(place, file) {
@@ -130,7 +134,7 @@ class Page {
             document.addEventListener(type, dropping);
         document.addEventListener("drop", (event) => {
             dropping(event);
-            this.takeDropped([...event.dataTransfer.files]);
+            this.takeDropped([...event.dataTransfer.files]).catch((error) => showComplaint(byId("verdict"), `Not read: ${error.message}`));
         });
     }
 
@@ -200,7 +204,7 @@ function plain({ name, bytes }) {
     return { name: read === bytes ? name : `${name}, read from hexadecimal`, bytes: read };
 }
 
-export async function start() {
+async function show() {
     const library = await Library.load(fromBase64(byId("module").textContent.trim())), page = new Page(library);
     page.openPanel("tab-set");
     page.useExample(FACTS.examples[0]);
@@ -208,3 +212,5 @@ export async function start() {
     globalThis.heideklonk = { library, page, listing };
     document.body.dataset.ready = "yes";
 }
+
+export const start = () => show().catch((error) => showComplaint(byId("verdict"), `This browser does not run the page: ${error.message}`));

@@ -1,9 +1,10 @@
 // What the library says of the set: accepted, or refused with its number, and where hk_explain tells it, with the rule and the byte.
 import { button, element, fill } from "./element.js";
 import { GROUPS, ruleOf, rulesOfGroup } from "./rules.js";
-import { KINDS } from "./board.js";
+import { TYPE } from "./descriptors.js";
+import { KINDS, kindsOf } from "./board.js";
 import { numberWords } from "./host.js";
-import { placeWords, serialNode, shapeOf, treeOf } from "./set.js";
+import { entriesOf, placeWords, serialNode, shapeOf, treeOf } from "./set.js";
 import { guess } from "./files.js";
 import { countWords, hexadecimal } from "./bytes.js";
 
@@ -34,6 +35,16 @@ const GUESSES = {
     serial: "This file looks like a serial block rather than a set.",
     pieces: "This file looks like pieces for the set writer. Open it under “Make a set”.",
 };
+
+// A set that is refused as one kind may be of another.
+function kindHint(library, { kind, sets, number }) {
+    const types = entriesOf(sets[0]).map(({ type }) => type), others = kindsOf(library);
+    if (kind !== "one" || number !== 2)
+        return null;
+    if (others.includes("two") && (types.includes(TYPE.DEVICE_QUALIFIER) || types.includes(TYPE.OTHER_SPEED)))
+        return "This looks like a set of a pair, for a board of two speeds. Choose that kind above, and both sets.";
+    return others.includes("super") && types.includes(TYPE.BOS) ? "This looks like a SuperSpeed set. Choose that kind above." : null;
+}
 
 function acceptedWords(board) {
     return board.sets.map((set, at) => {
@@ -74,13 +85,19 @@ function remarks(board, judged, show) {
 }
 
 export function showVerdict(place, board, judged, show) {
-    const accepted = judged.number === 0, guessed = guess("", board.sets[0]);
+    const accepted = judged.number === 0, hint = kindHint(board.library, board) ?? (!accepted && board.kind === "one" ? GUESSES[guess("", board.sets[0])] : null);
     place.className = accepted ? "verdict accepted" : "verdict refused";
     const which = board.sets.length > 1 && judged.number <= 6 ? ` in the ${KINDS[board.kind].sets[judged.set]}` : "";
     fill(place,
         element("h2", {}, accepted ? "Accepted" : `Refused with ${judged.number}${which}: ${numberWords(judged.number)}`),
         accepted ? acceptedWords(board) : judged.rule ? ruleWords(board, judged, show) : null,
-        !accepted && board.kind === "one" && GUESSES[guessed] && element("p", {}, element("strong", {}, GUESSES[guessed])),
+        hint && element("p", {}, element("strong", {}, hint)),
         accepted ? null : groupRules(judged.number),
         remarks(board, judged, show));
+}
+
+// What stands in the verdict's place where there is none.
+export function showComplaint(place, words) {
+    place.className = "verdict refused";
+    fill(place, element("h2", {}, words));
 }
