@@ -154,7 +154,7 @@ class Page {
             this.lend();
         if (other >= 0)
             this.takeToWorkshop(kinds[other], read[other]);
-        else if (sets.length > 0)
+        else if (sets.length > 0 && this.panel === "tab-make")
             this.openPanel("tab-set");
     }
 

@@ -8,7 +8,7 @@ import { Browser } from "./browser.mjs";
 import { subsequence } from "./transcript.mjs";
 
 const DEVICES = 12; // so many recorded devices are dropped
-const QUICK = 1000; // milliseconds from a drop to the picture
+const QUICK = 500; // milliseconds from a drop to the picture
 let failures = 0, held = 0;
 
 function hold(what, found, expected = true) {
@@ -80,8 +80,11 @@ const stepLines = () => [...document.querySelectorAll("#steps > li")].flatMap((i
     return [first, ...(answer ? [`  -> ${answer}`] : []), ...data.map(([bytes, words]) => `     ${bytes}  ${words}`), ...after];
 });
 
+let dropped = 0;
+
+// Each under a name of its own, so that it is seen when it is shown.
 async function dropSet(browser, room, { name, set, serial }) {
-    const stem = basename(name).replace(/\.\w+$/, ""), files = [room.file(`${stem}.bin`, Buffer.from(set, "hex"))];
+    const stem = `${++dropped}-${basename(name).replace(/\.\w+$/, "")}`, files = [room.file(`${stem}.bin`, Buffer.from(set, "hex"))];
     if (serial !== "")
         files.push(room.file(`${stem}-unit.bin`, Buffer.from(serial, "hex")));
     await browser.drop(files);
@@ -260,19 +263,39 @@ async function checkMade(browser, room, native) {
 }
 
 // ---- long sets, widths, and what a page must not do
+// Milliseconds from the drop to the picture, in the page's own clock.
+const clockDrop = () => {
+    const { page } = heideklonk, { lend } = page;
+    globalThis.painted = new Promise((done) => document.addEventListener("drop", () => {
+        const start = performance.now();
+        page.lend = () => {
+            lend.call(page);
+            page.lend = lend;
+            requestAnimationFrame(() => setTimeout(() => done(performance.now() - start)));
+        };
+    }, { once: true, capture: true }));
+};
+
+const clockSteps = () => {
+    const start = performance.now();
+    document.getElementById("tab-enumeration").click();
+    return document.querySelectorAll("#steps > li").length > 20 ? performance.now() - start : Infinity;
+};
+
+// The least of three times counts: other work on the machine is not the page's.
 async function checkLong(browser, room, native) {
     for (const told of native.long) {
-        await openPanel(browser, "set");
-        await browser.evaluate("globalThis.painted = new Promise((done) => document.addEventListener('drop', () => { const start = performance.now(), page = heideklonk.page, lend = page.lend; page.lend = function () { lend.call(page); page.lend = lend; requestAnimationFrame(() => setTimeout(() => done(performance.now() - start))); }; }, { once: true, capture: true })), 0");
-        await dropSet(browser, room, told);
-        const shown = await browser.evaluate("painted");
+        let shown = Infinity, enumerated = Infinity;
+        for (let times = 0; times < 3; times++) {
+            await openPanel(browser, "set");
+            await browser.evaluate(`(${clockDrop})()`);
+            await dropSet(browser, room, told);
+            shown = Math.min(shown, await browser.evaluate("painted"));
+            enumerated = Math.min(enumerated, await browser.evaluate(`(${clockSteps})()`));
+        }
         hold(`the lister's lines of ${told.name}`, await textOf(browser, "#listing"), told.listing);
-        const start = Date.now();
-        await openPanel(browser, "enumeration");
-        await browser.until("document.querySelectorAll('#steps > li').length > 20");
-        const enumerated = Date.now() - start;
-        hold(`${told.name}: 16,384 bytes are quick`, shown < QUICK && enumerated < 2 * QUICK);
-        console.log(`16,384 bytes of ${told.name}: shown ${Math.round(shown)} ms after the drop, 40 steps of the enumeration ${enumerated} ms after the press`);
+        hold(`${told.name}: 16,384 bytes are quick`, shown < QUICK && enumerated < QUICK);
+        console.log(`16,384 bytes of ${told.name}: shown ${Math.round(shown)} ms after the drop, 40 steps of the enumeration ${Math.round(enumerated)} ms after the press`);
     }
 }
 
