@@ -2,18 +2,27 @@
 import { FACTS } from "./facts.js";
 import { hexadecimal, letters, spaced, word } from "./bytes.js";
 
-export const TYPE = { DEVICE: 1, CONFIGURATION: 2, STRING: 3, INTERFACE: 4, ENDPOINT: 5, DEVICE_QUALIFIER: 6, OTHER_SPEED: 7, ASSOCIATION: 11, BOS: 15, COMPANION: 48 };
+export const TYPE = {
+    DEVICE: 1, CONFIGURATION: 2, STRING: 3, INTERFACE: 4, ENDPOINT: 5, DEVICE_QUALIFIER: 6, OTHER_SPEED: 7, ASSOCIATION: 11, BOS: 15, COMPANION: 48,
+};
 export const TRANSFER_TYPES = ["control", "isochronous", "bulk", "interrupt"];
 
 // Descriptors beyond those of the text form: the fields behind bLength and bDescriptorType, with their sizes.
 const OTHER_FIELDS = {
-    [TYPE.DEVICE_QUALIFIER]: [["bcdUSB", 2], ["bDeviceClass", 1], ["bDeviceSubClass", 1], ["bDeviceProtocol", 1], ["bMaxPacketSize0", 1], ["bNumConfigurations", 1], ["bReserved", 1]],
-    [TYPE.ASSOCIATION]: [["bFirstInterface", 1], ["bInterfaceCount", 1], ["bFunctionClass", 1], ["bFunctionSubClass", 1], ["bFunctionProtocol", 1], ["iFunction", 1]],
+    [TYPE.DEVICE_QUALIFIER]: [
+        ["bcdUSB", 2], ["bDeviceClass", 1], ["bDeviceSubClass", 1], ["bDeviceProtocol", 1], ["bMaxPacketSize0", 1], ["bNumConfigurations", 1], ["bReserved", 1],
+    ],
+    [TYPE.ASSOCIATION]: [
+        ["bFirstInterface", 1], ["bInterfaceCount", 1], ["bFunctionClass", 1], ["bFunctionSubClass", 1], ["bFunctionProtocol", 1], ["iFunction", 1],
+    ],
     [TYPE.BOS]: [["wTotalLength", 2], ["bNumDeviceCaps", 1]],
     [TYPE.COMPANION]: [["bMaxBurst", 1], ["bmAttributes", 1], ["wBytesPerInterval", 2]],
 };
 
-const OTHER_NAMES = { [TYPE.ASSOCIATION]: "association", [TYPE.BOS]: "BOS", 16: "device capability", 33: "class descriptor 21", 36: "class descriptor 24", 37: "class descriptor 25", [TYPE.COMPANION]: "companion" };
+const OTHER_NAMES = {
+    [TYPE.ASSOCIATION]: "association", [TYPE.BOS]: "BOS", [TYPE.COMPANION]: "companion", 16: "device capability",
+    33: "class descriptor 21", 36: "class descriptor 24", 37: "class descriptor 25",
+};
 
 const CLASSES = {
     0x01: "audio", 0x02: "communications", 0x03: "human interface", 0x05: "physical", 0x06: "image", 0x07: "printer", 0x08: "mass storage",
@@ -41,7 +50,7 @@ function attributesWords(value, type) {
     return TRANSFER_TYPES[value & 3] + ((value & 3) === 1 ? `, ${["no synchronization", "asynchronous", "adaptive", "synchronous"][(value >> 2) & 3]}` : "");
 }
 
-export const endpointName = (address) => `${address & 15} ${address & 0x80 ? "IN" : "OUT"}`;
+const endpointName = (address) => `${address & 15} ${address & 0x80 ? "IN" : "OUT"}`;
 
 // What a field's value means, where the name and the number do not say it.
 const MEANINGS = {

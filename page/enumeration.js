@@ -8,6 +8,8 @@ import { recordWords } from "./record.js";
 import { alike, countWords, spaced } from "./bytes.js";
 
 const AT_ONCE = 40, MOST_ROWS = 80;
+const ANOTHER_BOARD = "Another vendor's board answers from SuperSpeed sets: here they are checked and shown.";
+const REFUSED = "A refused set is never used: the library answers every event with 7.";
 
 const dataRow = ({ bytes, words }) => element("div", { class: "datum" }, element("code", {}, spaced(bytes)), element("span", {}, words));
 
@@ -15,8 +17,11 @@ const dataRow = ({ bytes, words }) => element("div", { class: "datum" }, element
 function dataRows(event, answer) {
     const lines = dataLines(event, answer), rest = lines.length > MOST_ROWS ? lines.splice(MOST_ROWS / 2) : [];
     const opened = ({ currentTarget }) => currentTarget.children.length === 1 && currentTarget.append(...rest.map(dataRow));
-    return [lines.map(dataRow), rest.length > 0 && element("details", { class: "rest", ontoggle: opened }, element("summary", {}, `${countWords(rest.length, "descriptor")} more`))];
+    const more = element("details", { class: "rest", ontoggle: opened }, element("summary", {}, `${countWords(rest.length, "descriptor")} more`));
+    return [lines.map(dataRow), rest.length > 0 && more];
 }
+
+const recordRow = (name, words) => element("div", { class: "record" }, element("span", { class: "name" }, name), words);
 
 // An event and its answer, for the enumeration and for the console.
 export function happening({ event, answer, status, endpoints }) {
@@ -26,8 +31,8 @@ export function happening({ event, answer, status, endpoints }) {
         element("div", { class: "event" }, element("span", {}, eventWords(event)), event.event === EVENT.SETUP && element("code", {}, spaced(event.setup))),
         says && element("div", { class: answer.number === 0 ? "answer" : "answer stalled" }, answerWords(event, answer)),
         dataRows(event, answer),
-        endpoints && element("div", { class: "record" }, element("span", { class: "name" }, "open"), endpointsWords(endpoints)),
-        records.map(([one, name]) => element("div", { class: "record" }, element("span", { class: "name" }, name), recordWords(one.record))),
+        endpoints && recordRow("open", endpointsWords(endpoints)),
+        records.map(([one, name]) => recordRow(name, recordWords(one.record))),
     ];
 }
 
@@ -62,7 +67,7 @@ export class Enumeration {
         fill(this.list);
         for (const id of ["next", "more", "end", "again", "transcript"])
             byId(id).disabled = !usable;
-        byId("steps-note").textContent = usable ? "" : board.number === 0 ? "Another vendor's board answers from SuperSpeed sets: here they are checked and shown." : "A refused set is never used: the library answers every event with 7.";
+        byId("steps-note").textContent = usable ? "" : board.number === 0 ? ANOTHER_BOARD : REFUSED;
         if (!usable)
             return;
         const copy = new Board(this.library, board.kind, board.sets, board.serial);
@@ -93,13 +98,14 @@ export class Enumeration {
     add(step, place = this.list) {
         this.steps.push(step);
         if (step.heading)
-            place.append(element("li", { class: "heading" }, element("h3", {}, step.heading), step.record && element("div", { class: "record" }, element("span", { class: "name" }, "record"), recordWords(step.record))));
+            place.append(element("li", { class: "heading" }, element("h3", {}, step.heading), step.record && recordRow("record", recordWords(step.record))));
         else
             place.append(element("li", {}, happening(step)));
     }
 
     // The steps seen so far, as the bench host prints them.
     transcript() {
-        return this.steps.flatMap((step) => (step.record ? ["power on, the set is accepted", `  record: ${recordWords(step.record)}`] : stepLines(step))).join("\n") + "\n";
+        const lines = this.steps.flatMap((step) => (step.record ? ["power on, the set is accepted", `  record: ${recordWords(step.record)}`] : stepLines(step)));
+        return `${lines.join("\n")}\n`;
     }
 }

@@ -6,8 +6,8 @@ const LARGEST = 64 << 20;
 const isText = (bytes) => bytes.length > 0 && bytes.length < 1 << 20 && bytes.every((byte) => byte >= 32 || byte === 9 || byte === 10 || byte === 13);
 const decoded = (bytes) => new TextDecoder().decode(bytes);
 
-export const isSerial = (bytes) => bytes.length >= 4 && bytes.length <= 254 && bytes.length % 2 === 0 && bytes[0] === bytes.length && bytes[1] === 3;
-export const isDump = (bytes) => bytes.length >= 27 && bytes[0] === 18 && bytes[1] === 1 && bytes[19] === 2;
+const isSerial = (bytes) => bytes.length >= 4 && bytes.length <= 254 && bytes.length % 2 === 0 && bytes[0] === bytes.length && bytes[1] === 3;
+const isDump = (bytes) => bytes.length >= 27 && bytes[0] === 18 && bytes[1] === 1 && bytes[19] === 2;
 const isSet = (bytes) => bytes.length >= 4 && word(bytes, 0) === bytes.length && bytes[3] === 0;
 
 function isPieces(bytes) {

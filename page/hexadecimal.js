@@ -12,7 +12,8 @@ export class Hexadecimal {
     constructor(grid, { onchoose }) {
         this.grid = grid;
         this.onchoose = onchoose;
-        this.seen = new IntersectionObserver((entries) => entries.filter((entry) => entry.isIntersecting).forEach((entry) => this.build(entry.target)), { root: grid, rootMargin: "400px" });
+        const near = (entries) => entries.filter((entry) => entry.isIntersecting).forEach((entry) => this.build(entry.target));
+        this.seen = new IntersectionObserver(near, { root: grid, rootMargin: "400px" });
         this.show(new Uint8Array(0), []);
         grid.addEventListener("keydown", (event) => this.key(event));
         grid.addEventListener("click", (event) => this.click(event));
@@ -56,7 +57,8 @@ export class Hexadecimal {
     }
 
     row(start, end) {
-        const row = element("div", { class: "row", role: "row", "aria-rowindex": 1 + start / this.columns }, element("span", { class: "offset", role: "rowheader" }, `${start}`));
+        const offset = element("span", { class: "offset", role: "rowheader" }, `${start}`);
+        const row = element("div", { class: "row", role: "row", "aria-rowindex": 1 + start / this.columns }, offset);
         for (let at = start; at < end; at++)
             row.append(this.cell(at));
         if (this.columns === 16)
@@ -111,11 +113,12 @@ export class Hexadecimal {
     }
 
     key(event) {
-        const steps = { ArrowLeft: -1, ArrowRight: 1, ArrowUp: -this.columns, ArrowDown: this.columns, PageUp: -8 * this.columns, PageDown: 8 * this.columns, Home: -this.at, End: this.bytes.length - 1 - this.at };
+        const { columns, at: here } = this, last = this.bytes.length - 1;
+        const steps = { ArrowLeft: -1, ArrowRight: 1, ArrowUp: -columns, ArrowDown: columns, PageUp: -8 * columns, PageDown: 8 * columns, Home: -here, End: last - here };
         if (!(event.key in steps) || this.bytes.length === 0)
             return;
         event.preventDefault();
-        const at = Math.min(this.bytes.length - 1, Math.max(0, this.at + steps[event.key]));
+        const at = Math.min(last, Math.max(0, here + steps[event.key]));
         this.stand(at);
         this.onchoose(at);
     }

@@ -8,9 +8,10 @@ import { alike, hexadecimal, joined, letters, littleEndian, spaced, word } from 
 
 const ADDRESS = 5;
 const NO_SETUP = new Uint8Array(0);
-const REQUEST = { GET_STATUS: 0, CLEAR_FEATURE: 1, SET_FEATURE: 3, SET_ADDRESS: 5, GET_DESCRIPTOR: 6, GET_CONFIGURATION: 8, SET_CONFIGURATION: 9, GET_INTERFACE: 10, SET_INTERFACE: 11 };
+const REQUEST = Object.fromEntries(Object.entries(FACTS.requests).map(([name, [, code]]) => [name, code]));
 const WAKEUP = 1, HALT = 0;
 
+// The header's words of a number, without whose it is.
 export const numberWords = (number) => FACTS.numbers[number]?.remark.replace(/^(?:opening|event|STALL|packet|makers|wake event): /, "") ?? "no number of the library";
 
 const setupOf = (type, code, value, index, length) => joined([Uint8Array.of(type, code), littleEndian(value, 2), littleEndian(index, 2), littleEndian(length, 2)]);
@@ -220,7 +221,7 @@ export class Host {
 }
 
 // ---- in words, as tests/host.c prints them
-export function packetsWords({ data, packets }) {
+function packetsWords({ data, packets }) {
     const bytes = `${data.length} byte${data.length === 1 ? "" : "s"} in`;
     if (packets.length === 1)
         return `${bytes} one packet`;
@@ -236,7 +237,9 @@ export function answerWords({ event }, answer) {
     return answer.packets.length > 0 ? packetsWords(answer) : "done";
 }
 
-export const endpointsWords = (endpoints) => endpoints.map(({ data }) => `${hexadecimal(data[2])} ${TRANSFER_TYPES[data[3] & 3]} of ${word(data, 4)}`).join(", ") || "none";
+const openWords = ({ data }) => `${hexadecimal(data[2])} ${TRANSFER_TYPES[data[3] & 3]} of ${word(data, 4)}`;
+
+export const endpointsWords = (endpoints) => endpoints.map(openWords).join(", ") || "none";
 
 // What the data of an answer says, a line for each descriptor: its bytes and its words.
 export function dataLines({ setup }, answer) {

@@ -29,14 +29,15 @@ export class Inspection {
     // Shows what is lent: each set, and the serial block.
     show(board, judged) {
         const names = KINDS[board.kind].sets;
-        this.blocks = board.sets.map((bytes, at) => ({ name: names[at], bytes, nodes: treeOf(bytes, board.kind).nodes, broken: judged.block === "set" ? judged.place : undefined }));
-        this.blocks.push({ name: "serial block", bytes: board.serial, nodes: board.serial.length > 0 ? [serialNode(board.serial)] : [], broken: judged.block === "serial" ? judged.place : undefined });
+        const broken = (block) => (judged.block === block ? judged.place : undefined), serialNodes = board.serial.length > 0 ? [serialNode(board.serial)] : [];
+        this.blocks = board.sets.map((bytes, at) => ({ name: names[at], bytes, ...treeOf(bytes, board.kind), broken: broken("set") }));
+        this.blocks.push({ name: "serial block", bytes: board.serial, nodes: serialNodes, broken: broken("serial") });
         fill(byId("blocks"), this.blocks.map(({ name, bytes }, at) => element("option", { value: at }, `${name}, ${countWords(bytes.length, "byte")}`)));
         fill(byId("listing"), board.sets.map((set, at) => `${names.length > 1 ? `${names[at]}\n` : ""}${listing(set, board.number).join("\n")}\n`));
         this.showBlock(judged.block === "serial" || (judged.number === 6 && board.serial.length > 0) ? this.blocks.length - 1 : judged.set);
-        const device = this.block.nodes.find(({ kind }) => kind === "device");
-        if (this.block.broken !== undefined)
-            this.choosePlace(this.block.broken);
+        const device = this.block.nodes.find(({ kind }) => kind === "device"), place = this.block.broken ?? this.block.remarks?.[0]?.place;
+        if (place !== undefined && judged.number !== 0)
+            this.choosePlace(place);
         else if (device)
             this.tree.choose(this.tree.items.get(device));
     }
@@ -87,13 +88,15 @@ export class Inspection {
 
     // One byte, to be changed where it stands.
     changeForm(place) {
-        const input = element("input", { id: "changed", size: 2, maxlength: 2, value: hexadecimal(this.block.bytes[place]), "aria-label": `byte ${place}, in hexadecimal`, autocomplete: "off", spellcheck: "false" });
+        const value = hexadecimal(this.block.bytes[place]), name = `byte ${place}, in hexadecimal`;
+        const input = element("input", { id: "changed", size: 2, maxlength: 2, value, "aria-label": name, autocomplete: "off", spellcheck: "false" });
         const submit = (event) => {
             event.preventDefault();
             const changed = readHexadecimal(input.value);
             if (changed?.length === 1)
                 this.onchange(this.blocks.indexOf(this.block), place, changed[0]);
         };
-        return element("form", { class: "change", onsubmit: submit }, element("label", { for: "changed" }, `Byte ${place}`), input, element("button", { type: "submit" }, "Change"));
+        const label = element("label", { for: "changed" }, `Byte ${place}`);
+        return element("form", { class: "change", onsubmit: submit }, label, input, element("button", { type: "submit" }, "Change"));
     }
 }

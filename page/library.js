@@ -4,7 +4,7 @@ const NO_BYTES = new Uint8Array(0);
 
 // The events by their numbers in include/heideklonk.h.
 export const EVENT = { SETUP: 0, STATUS_END: 1, BUS_RESET: 2, HALT: 3, PACKET_PASSED: 4, POWER: 5, SUSPEND: 6, RESUME: 7, WAKE: 8 };
-export const IMAGE_LENGTH = 32;
+const IMAGE_LENGTH = 32;
 export const LONGEST_SET = 16384;
 
 // Blocks for one call, one behind the other past __heap_base.
@@ -85,9 +85,9 @@ export class Library {
             ? this.exports.hk_two_event(...held, ...pair(recordLent), event, value, ...pair(setupLent), ...results)
             : this.exports.hk_record_event(...held, recordLent.address, event, value, ...pair(setupLent), ...results);
         const found = lent.locate(part, { ...placed, serial: serialLent });
-        const whole = found.block === "serial" ? serial : sets[found.block] ?? NO_BYTES;
-        const given = lent.read(bytes, lent.number(count));
-        return { number, bytes: given, part: found, data: given.length > 0 ? given : whole.slice(found.offset, found.offset + found.length), record: lent.read(recordLent) };
+        const whole = found.block === "serial" ? serial : sets[found.block] ?? NO_BYTES, given = lent.read(bytes, lent.number(count));
+        const data = given.length > 0 ? given : whole.slice(found.offset, found.offset + found.length);
+        return { number, bytes: given, part: found, data, record: lent.read(recordLent) };
     }
 
     // The number-th endpoint descriptor of the current settings.

@@ -6,7 +6,6 @@ import { joined, littleEndian, word } from "./bytes.js";
 import { KINDS } from "./board.js";
 
 const NO_BYTES = new Uint8Array(0);
-export const DUMP_REFUSED = 23;
 
 // The pieces of a stream, as far as their lengths lead.
 function readPieces(stream) {
@@ -19,7 +18,7 @@ function readPieces(stream) {
 const before = (one, other) => one.type - other.type || one.language - other.language || one.index - other.index;
 
 // The set that pieces make, and the pieces in the set's order; null where a set cannot count so much.
-export function layOut(pieces) {
+function layOut(pieces) {
     const sorted = [...pieces].sort(before), contents = 4 + 8 * sorted.length;
     const total = contents + sorted.reduce((sum, { body }) => sum + body.length, 0);
     if (sorted.length > 255 || total > 65535)

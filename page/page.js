@@ -145,8 +145,7 @@ class Page {
         const serials = read.filter((_, at) => kinds[at] === "serial"), other = kinds.findIndex((kind) => ["text", "dump", "pieces"].includes(kind));
         if (sets.length > 0) {
             this.serial = NO_FILE;
-            sets.sort((one, other_) => Number(/high|hs/i.test(one.name)) - Number(/high|hs/i.test(other_.name)));
-            sets.slice(0, KINDS[this.kind].sets.length).forEach((file, at) => this.put(sets.length === 1 && /high|hs/i.test(file.name) && this.kind === "two" ? 1 : at, file));
+            this.putSets(sets);
         }
         if (serials.length > 0)
             this.serial = serials[0];
@@ -156,6 +155,13 @@ class Page {
             this.takeToWorkshop(kinds[other], read[other]);
         else if (sets.length > 0 && this.panel === "tab-make")
             this.openPanel("tab-set");
+    }
+
+    // Of two sets the high-speed one is told by its name, and else is the second.
+    putSets(sets) {
+        const isHigh = ({ name }) => /high|hs/i.test(name), isPair = this.kind === "two";
+        const ordered = isPair ? [...sets].sort((one, next) => Number(isHigh(one)) - Number(isHigh(next))) : sets;
+        ordered.slice(0, isPair ? 2 : 1).forEach((file, at) => this.put(isPair && sets.length === 1 && isHigh(file) ? 1 : at, file));
     }
 
     takeToWorkshop(kind, { name, bytes }) {

@@ -18,7 +18,7 @@ const waitingWords = (byte) => (byte === 255 ? "" : byte > 127 ? `test mode ${by
 const speedWords = (byte) => (byte === 0 ? "" : byte === 1 ? "high speed" : `test mode ${byte >> 4}`);
 
 // What the bytes of a record say, the most telling first.
-export function recordPhrases(record) {
+function recordPhrases(record) {
     const alternates = Array.from(record.slice(8, 24), (alternate, number) => (alternate > 0 ? `interface ${number} at alternate ${alternate}` : ""));
     const halted = endpointsOf(record.slice(24, 28)), toggled = endpointsOf(record.slice(28, 32));
     return [
@@ -57,7 +57,6 @@ export function recordFields(record) {
     ];
 }
 
-export const isConfigured = (record) => record[0] === 2;
 export const speedOf = (record) => (record[7] === 0 ? 0 : 1);
 
 // Whether an event may have opened or closed endpoints.

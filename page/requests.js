@@ -117,8 +117,8 @@ function askedWords(setup) {
 
 function featureWords(setup) {
     const recipient = setup[0] & 31, selector = word(setup, 2);
-    const feature = recipient === 0 && selector === 1 ? "remote wakeup" : recipient === 2 && selector === 0 ? "halt" : recipient === 0 && selector === 2 ? `test mode ${setup[5]}` : `${selector}`;
-    return `${feature}, ${recipientWords(recipient, word(setup, 4))}`;
+    const features = { "0 1": "remote wakeup", "0 2": `test mode ${setup[5]}`, "2 0": "halt" };
+    return `${features[`${recipient} ${selector}`] ?? selector}, ${recipientWords(recipient, word(setup, 4))}`;
 }
 
 // What stands behind a request's name.
@@ -133,10 +133,10 @@ const FIELD_WORDS = {
     SET_INTERFACE: (setup) => `${recipientWords(1, word(setup, 4))}, alternate ${word(setup, 2)}`,
 };
 
-export const requestName = (setup) => (setup[0] & 0x60 ? undefined : Object.keys(FACTS.requests).find((name) => FACTS.requests[name][1] === setup[1]));
+const requestName = (setup) => (setup[0] & 0x60 ? undefined : Object.keys(FACTS.requests).find((name) => FACTS.requests[name][1] === setup[1]));
 
 // A setup in words; its bytes come in brackets behind it.
-export function setupWords(setup) {
+function setupWords(setup) {
     if (setup.length !== 8)
         return `a setup of ${setup.length} bytes`;
     const name = requestName(setup), whose = setup[0] & 0x40 ? "vendor" : setup[0] & 0x20 ? "class" : "later standard";

@@ -5,4 +5,4 @@ export const ruleOf = (number) => FACTS.rules.find((rule) => rule.number === num
 
 export const rulesOfGroup = (group) => FACTS.rules.filter((rule) => rule.group === group);
 
-export const GROUPS = { 1: "the frame", 2: "the contents", 3: "the device", 4: "the configurations", 5: "the strings", 6: "the serial block", 24: "the two sets together" };
+export const GROUPS = { 1: "the frame", 2: "the contents", 3: "the device", 4: "the configurations", 5: "the strings", 6: "the serial block" };

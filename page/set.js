@@ -2,7 +2,10 @@
 import { TYPE, className, cut, descriptorFields, descriptorWords, languageWords, stringWords, typeName } from "./descriptors.js";
 import { hexadecimal, spaced, word } from "./bytes.js";
 
-export const ENTRY_NAMES = { [TYPE.DEVICE]: "device", [TYPE.CONFIGURATION]: "configuration", [TYPE.STRING]: "string", [TYPE.DEVICE_QUALIFIER]: "device_qualifier", [TYPE.OTHER_SPEED]: "other_speed_configuration", [TYPE.BOS]: "BOS" };
+const ENTRY_NAMES = {
+    [TYPE.DEVICE]: "device", [TYPE.CONFIGURATION]: "configuration", [TYPE.STRING]: "string",
+    [TYPE.DEVICE_QUALIFIER]: "device_qualifier", [TYPE.OTHER_SPEED]: "other_speed_configuration", [TYPE.BOS]: "BOS",
+};
 
 // The entries that have room in the set; `start` is the entry's own first byte, `offset` its body's.
 export function entriesOf(set) {
@@ -14,7 +17,7 @@ export function entriesOf(set) {
 
 export const bodyOf = (set, entry) => set.slice(entry.offset, entry.offset + entry.length);
 
-export function entryWords({ type, index, language }) {
+function entryWords({ type, index, language }) {
     const name = ENTRY_NAMES[type] ?? `type ${type}`;
     if (type === TYPE.STRING)
         return index === 0 && language === 0 ? "string 0: the languages" : `string ${index}, language ${hexadecimal(language, 4)}`;
@@ -40,7 +43,8 @@ function frameNode(set) {
 }
 
 function entryNode(set, entry, at) {
-    const shown = [["type", 0, 1, ENTRY_NAMES[entry.type] ?? ""], ["index", 1, 1, ""], ["language", 2, 2, ""], ["offset", 4, 2, "where its body begins"], ["length", 6, 2, "of its body"]];
+    const type = ENTRY_NAMES[entry.type] ?? "";
+    const shown = [["type", 0, 1, type], ["index", 1, 1, ""], ["language", 2, 2, ""], ["offset", 4, 2, "where its body begins"], ["length", 6, 2, "of its body"]];
     return node("entry", `entry ${at + 1}: ${entryWords(entry)}`, entry.start, entry.start + 8, {
         fields: () => shown.map(([name, offset, length, words]) => {
             const value = length === 1 ? set[entry.start + offset] : word(set, entry.start + offset);
@@ -74,7 +78,8 @@ class Taken {
     }
 
     stray(start, end) {
-        this.remarks.push({ place: start, words: `this page cannot cut the body any further at byte ${start}: bLength is ${this.set[start]}, and ${end - start} bytes are left` });
+        const words = `this page cannot cut the body any further at byte ${start}: bLength is ${this.set[start]}, and ${end - start} bytes are left`;
+        this.remarks.push({ place: start, words });
         return this.descriptor("stray", `${end - start} bytes that cannot be cut`, start, end);
     }
 
@@ -122,7 +127,7 @@ class Taken {
 
     body(entry) {
         const end = Math.min(entry.offset + entry.length, this.set.length), bytes = this.set.subarray(entry.offset, end);
-        if (entry.offset + entry.length > this.set.length)
+        if (entry.offset + entry.length > end)
             this.remarks.push({ place: entry.start + 4, words: `the ${entryWords(entry)} is said to end at byte ${entry.offset + entry.length}, beyond the set's end` });
         if (entry.type === TYPE.CONFIGURATION || entry.type === TYPE.OTHER_SPEED)
             return this.configuration(entry, end);
@@ -134,14 +139,14 @@ class Taken {
     }
 }
 
-export function stringFields(bytes, start, end, lists) {
-    const fields = [];
+function stringFields(bytes, start, end, lists) {
+    const fields = [], body = bytes.slice(start, end);
     if (end - start > 0)
         fields.push({ name: "bLength", start, length: 1, figures: `${bytes[start]}`, words: "" });
     if (end - start > 1)
         fields.push({ name: "bDescriptorType", start: start + 1, length: 1, figures: `0x${hexadecimal(bytes[start + 1])}`, words: typeName(bytes[start + 1]) });
     if (end - start > 2)
-        fields.push({ name: lists ? "languages" : "text", start: start + 2, length: end - start - 2, figures: spaced(bytes.slice(start + 2, end)), words: lists ? languageWords(bytes.slice(start, end)) : stringWords(bytes.slice(start, end)) });
+        fields.push({ name: lists ? "languages" : "text", start: start + 2, length: end - start - 2, figures: spaced(body.slice(2)), words: lists ? languageWords(body) : stringWords(body) });
     return fields;
 }
 
@@ -160,7 +165,8 @@ export function treeOf(set, kind = "one") {
 }
 
 export function serialNode(serial) {
-    return node("string", `serial block: ${stringWords(serial)}`, 0, serial.length, { block: "serial", fields: () => stringFields(serial, 0, serial.length, false) });
+    const fields = () => stringFields(serial, 0, serial.length, false);
+    return node("string", `serial block: ${stringWords(serial)}`, 0, serial.length, { block: "serial", fields });
 }
 
 // The chain of nodes that hold this byte, outermost first.

@@ -132,7 +132,8 @@ function entryOf(group, configurations) {
         throw line.mistake(`${line.word} has a number and a language`);
     if (line.word === "string")
         return { type: TYPE.STRING, index: line.readNumber(words[0], 1), language: line.readNumber(words[1], 2), body: stringBody(line, words[2] ?? "") };
-    return { type: line.readNumber(words[0], 1), index: line.readNumber(words[1], 1), language: line.readNumber(words[2] ?? "0", 2), body: line.readBytes(words[3] ?? "") };
+    const [type, index] = words.slice(0, 2).map((text) => line.readNumber(text, 1));
+    return { type, index, language: line.readNumber(words[2] ?? "0", 2), body: line.readBytes(words[3] ?? "") };
 }
 
 const BELONGING = ["interface", "endpoint", "bytes"], LEADING = ["device", "configuration", "languages", "string", "piece"];

@@ -25,8 +25,9 @@ export class Tree {
 
     item(node, above, level) {
         const end = Math.max(node.end, node.reach ?? 0), bytes = end - node.start === 1 ? `${node.start}` : `${node.start}–${end - 1}`;
-        const label = element("span", { class: "label" }, element("span", { class: `swatch ${node.kind}`, "aria-hidden": "true" }), element("span", {}, node.title), element("span", { class: "range" }, bytes));
-        const item = element("li", { role: "treeitem", tabindex: "-1", "aria-level": level, "aria-selected": "false", "aria-label": `${node.title}, bytes ${bytes}` }, label);
+        const swatch = element("span", { class: `swatch ${node.kind}`, "aria-hidden": "true" }), name = `${node.title}, bytes ${bytes}`;
+        const label = element("span", { class: "label" }, swatch, element("span", {}, node.title), element("span", { class: "range" }, bytes));
+        const item = element("li", { role: "treeitem", tabindex: "-1", "aria-level": level, "aria-selected": "false", "aria-label": name }, label);
         item.node = node;
         item.above = above;
         this.items.set(node, item);

@@ -8,6 +8,8 @@ import { entriesOf, placeWords, serialNode, shapeOf, treeOf } from "./set.js";
 import { guess } from "./files.js";
 import { countWords, hexadecimal } from "./bytes.js";
 
+const STUMBLED = "The library accepts this set; this page, which reads it for show alone, stumbles:";
+const NOTICED = "What this page noticed while reading it for show (the library decides):";
 const NO_BYTES = new Uint8Array(0);
 const UNCOUNTED = Uint8Array.of(12, 0, 1, 0, 0, 0, 0, 0, 0, 0, 0, 0); // its frame is good, and its contents are not
 
@@ -57,10 +59,11 @@ function acceptedWords(board) {
 function ruleWords(board, judged, show) {
     const rule = ruleOf(judged.rule), bytes = judged.block === "serial" ? board.serial : board.sets[0], standing = bytes[judged.place];
     const nodes = judged.block === "serial" ? [serialNode(bytes)] : treeOf(bytes).nodes, name = judged.block === "serial" ? " of the serial block" : "";
+    const lead = button(`Byte ${judged.place}${name}`, () => show(judged.block, judged.place), { class: "link", id: "show-place" });
     return [
         element("p", { class: "rule" }, element("strong", {}, `Rule ${judged.rule}: `), rule?.rule ?? "docs/MAKERS.md has its words"),
         standing === undefined ? element("p", {}, "There is no byte to look at: nothing was lent.")
-            : element("p", {}, button(`Byte ${judged.place}${name}`, () => show(judged.block, judged.place), { class: "link", id: "show-place" }), ` is ${hexadecimal(standing)} (${standing}): ${placeWords(nodes, judged.place)}`),
+            : element("p", {}, lead, ` is ${hexadecimal(standing)} (${standing}): ${placeWords(nodes, judged.place)}`),
         rule?.mend && element("p", {}, element("strong", {}, "Mend it: "), rule.mend),
     ];
 }
@@ -79,9 +82,9 @@ function remarks(board, judged, show) {
         found.push({ words: `hk_explain gives ${judged.explained}; hk_open's ${judged.number} stands` });
     if (found.length === 0)
         return null;
-    const lines = found.slice(0, 5).map(({ place, words }) => element("li", {}, place === undefined || board.sets.length > 1 ? words : button(words, () => show("set", place), { class: "link" })));
-    const heading = judged.number === 0 ? "The library accepts this set; this page, which reads it for show alone, stumbles:" : "What this page noticed while reading it for show (the library decides):";
-    return element("div", { class: "remarks" }, element("p", {}, heading), element("ul", {}, lines));
+    const line = ({ place, words }) => (place === undefined || board.sets.length > 1 ? words : button(words, () => show("set", place), { class: "link" }));
+    const heading = judged.number === 0 ? STUMBLED : NOTICED;
+    return element("div", { class: "remarks" }, element("p", {}, heading), element("ul", {}, found.slice(0, 5).map((one) => element("li", {}, line(one)))));
 }
 
 export function showVerdict(place, board, judged, show) {

@@ -8,6 +8,10 @@ import { Mistake, textOf } from "./text.js";
 import { readFile, textOfFile } from "./files.js";
 import { countWords } from "./bytes.js";
 
+const accepted = (words) => element("p", { class: "outcome accepted" }, words);
+const refused = (words) => element("p", { class: "outcome refused" }, words);
+const refusal = (number) => refused(`Refused with ${number}: ${numberWords(number)}`);
+
 // Why the opener would refuse what was made, and the line or the piece that is to blame.
 function reasonLines(reason) {
     if (reason.words)
@@ -79,51 +83,59 @@ export class Workshop {
 
     // What came of it: the set, to be saved and looked at, or why there is none.
     tell(place, made, name) {
+        const look = (set, words) => () => this.onmade(set, made.serial, words, this.kind());
         if (made.mistake)
-            return fill(place, element("p", { class: "outcome refused" }, `The text cannot be read: ${made.mistake}`));
-        if (made.number !== 0)
-            return fill(place, element("p", { class: "outcome refused" }, `Refused with ${made.number}: ${numberWords(made.number)}`), made.reason && reasonLines(made.reason),
-                made.reason?.set && button("Look at the refused set", () => this.onmade(made.reason.set, made.serial, `${name}, refused`, this.kind())));
-        return fill(place, element("p", { class: "outcome accepted" }, `Wrote ${countWords(made.set.length, "byte")}; the set is accepted.`),
-            element("div", { class: "buttons" }, button("Save set.bin", () => save("set.bin", made.set), { class: "save-set" }), button("Save unit.bin", () => save("unit.bin", made.serial)),
-                made.pieces && button("Save pieces.bin", () => save("pieces.bin", made.pieces)), button("Look at it", () => this.onmade(made.set, made.serial, name, this.kind()))));
+            return fill(place, refused(`The text cannot be read: ${made.mistake}`));
+        if (made.number !== 0) {
+            const laid = made.reason?.set;
+            return fill(place, refusal(made.number), made.reason && reasonLines(made.reason), laid && button("Look at the refused set", look(laid, `${name}, refused`)));
+        }
+        return fill(place, accepted(`Wrote ${countWords(made.set.length, "byte")}; the set is accepted.`), element("div", { class: "buttons" },
+            button("Save set.bin", () => save("set.bin", made.set), { class: "save-set" }),
+            button("Save unit.bin", () => save("unit.bin", made.serial)),
+            made.pieces && button("Save pieces.bin", () => save("pieces.bin", made.pieces)),
+            button("Look at it", look(made.set, name))));
     }
 
     // ---- the set that is lent
     trim() {
-        const { sets, serial } = this.lent(), { number, written } = this.library.trim(sets[0], serial), saved = sets[0].length - written.length;
+        const { sets: [set], serial } = this.lent(), { number, written } = this.library.trim(set, serial);
         if (number !== 0)
-            return fill(byId("of-lent"), element("p", { class: "outcome refused" }, `Refused with ${number}: ${numberWords(number)}`));
-        const strings = (sets[0][2] ?? 0) - (written[2] ?? 0);
-        return fill(byId("of-lent"), element("p", { class: "outcome accepted" }, saved === 0 ? "Nothing to trim: every string is named." : `Trimmed: ${countWords(strings, "string")} less, ${countWords(saved, "byte")} less, ${countWords(written.length, "byte")} left.`),
+            return fill(byId("of-lent"), refusal(number));
+        const strings = countWords(set[2] - written[2], "string"), bytes = countWords(set.length - written.length, "byte"), left = countWords(written.length, "byte");
+        const words = set.length === written.length ? "Nothing to trim: every string is named." : `Trimmed: ${strings} less, ${bytes} less, ${left} left.`;
+        return fill(byId("of-lent"), accepted(words),
             element("p", { class: "quiet" }, "A string that only a class descriptor or your own host program names is dropped too: keep a copy of the set."),
-            element("div", { class: "buttons" }, button("Save trimmed.bin", () => save("trimmed.bin", written)), button("Look at it", () => this.onmade(written, serial, "trimmed set", "one"))));
+            element("div", { class: "buttons" },
+                button("Save trimmed.bin", () => save("trimmed.bin", written)),
+                button("Look at it", () => this.onmade(written, serial, "trimmed set", "one"))));
     }
 
     toText() {
-        const { sets, serial } = this.lent();
+        const { sets: [set], serial } = this.lent();
         try {
-            const text = textOf(sets[0], serial);
+            const text = textOf(set, serial);
             this.setText(text);
-            fill(byId("of-lent"), element("p", { class: "outcome accepted" }, "Its text stands above."), button("Save set.txt", () => save("set.txt", text)));
+            fill(byId("of-lent"), accepted("Its text stands above."), button("Save set.txt", () => save("set.txt", text)));
         } catch (error) {
             if (!(error instanceof Mistake))
                 throw error;
-            fill(byId("of-lent"), element("p", { class: "outcome refused" }, error.message));
+            fill(byId("of-lent"), refused(error.message));
         }
     }
 
     toDump() {
-        const { sets, serial } = this.lent(), { number, written } = dumpOfSet(this.library, sets[0], serial);
+        const { sets: [set], serial } = this.lent(), { number, written } = dumpOfSet(this.library, set, serial);
         if (number !== 0)
-            return fill(byId("of-lent"), element("p", { class: "outcome refused" }, `Refused with ${number}: ${numberWords(number)}`));
-        return fill(byId("of-lent"), element("p", { class: "outcome accepted" }, `A descriptors file of ${countWords(written.length, "byte")}, without the strings.`), button("Save descriptors", () => save("descriptors", written)));
+            return fill(byId("of-lent"), refusal(number));
+        const words = `A descriptors file of ${countWords(written.length, "byte")}, without the strings.`;
+        return fill(byId("of-lent"), accepted(words), button("Save descriptors", () => save("descriptors", written)));
     }
 
     // A new set is lent: what was told of the old one goes.
     lend(board) {
         fill(byId("of-lent"));
         byId("lent-tools").hidden = board.kind !== "one";
-        byId("maker-kind").textContent = this.kind() === "super" ? "It is written as a SuperSpeed set." : "It is written as a set for a board that lends one set, at full speed.";
+        byId("maker-kind").textContent = `It is written as a ${this.kind() === "super" ? "SuperSpeed set" : "set for a board that lends one set, at full speed"}.`;
     }
 }
