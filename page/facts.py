@@ -28,23 +28,26 @@ def cells(line):
 
 
 def rules():
-    """The rules of docs/MAKERS.md: each table with a column `Rule` and one `Refused with N`."""
+    """The rules of opening: by their numbers where makers/ keeps these, else as docs/MAKERS.md has them, group by group."""
+    try:
+        from rules import RULES
+    except ImportError:
+        return rules_of_guide()
+    return [{"number": number, "group": number // 100, "rule": asks, "remedy": "There may stand", "words": may} for number, (asks, may) in RULES.items()]
+
+
+def rules_of_guide():
+    """Each row of a table with a column `Rule` and one `Refused with N`."""
     found, columns = [], None
     for line in read("docs/MAKERS.md").splitlines():
         if not line.startswith("|"):
             columns = None
         elif columns is None:
             columns = cells(line)
-        elif columns and "Rule" in columns and "Mend it" in columns and not line.startswith("|--"):
+        elif "Rule" in columns and "Mend it" in columns and not line.startswith("|--"):
             row, group = dict(zip(columns, cells(line))), next(re.search(r"\d+", name) for name in columns if name.startswith("Refused with"))
-            found.append({"number": number_of(row), "group": int(group[0]), "rule": plain(row["Rule"]), "mend": plain(row["Mend it"])})
+            found.append({"group": int(group[0]), "rule": plain(row["Rule"]), "remedy": "Mend it", "words": plain(row["Mend it"])})
     return found
-
-
-def number_of(row):
-    """A rule's own number, where the table has one."""
-    given = next((row[name] for name in ("Number", "No.") if name in row), "")
-    return int(given) if given.isdigit() else None
 
 
 def text_help():

@@ -64,7 +64,7 @@ function ruleWords(board, judged, show) {
         element("p", { class: "rule" }, element("strong", {}, `Rule ${judged.rule}: `), rule?.rule ?? "docs/MAKERS.md has its words"),
         standing === undefined ? element("p", {}, "There is no byte to look at: nothing was lent.")
             : element("p", {}, lead, ` is ${hexadecimal(standing)} (${standing}): ${placeWords(nodes, judged.place)}`),
-        rule?.mend && element("p", {}, element("strong", {}, "Mend it: "), rule.mend),
+        rule && element("p", {}, element("strong", {}, `${rule.remedy}: `), rule.words),
     ];
 }
 
@@ -72,12 +72,12 @@ function groupRules(number) {
     const rules = rulesOfGroup(number);
     return rules.length > 0 && element("details", { class: "rules" },
         element("summary", {}, `The ${rules.length} rules of number ${number}: ${GROUPS[number]}`),
-        element("dl", {}, rules.flatMap((rule) => [element("dt", {}, [rule.number && `${rule.number} `, rule.rule]), element("dd", {}, rule.mend)])));
+        element("dl", {}, rules.flatMap((rule) => [element("dt", {}, [rule.number && `${rule.number} `, rule.rule]), element("dd", {}, rule.words)])));
 }
 
-// What this page could not read, or read otherwise than the library: the library's number stands.
+// What this page could not read, or read otherwise than the library: the library's number stands. Where the library names the rule, that is enough.
 function remarks(board, judged, show) {
-    const found = board.sets.flatMap((set) => treeOf(set, board.kind).remarks);
+    const found = judged.rule ? [] : board.sets.flatMap((set) => treeOf(set, board.kind).remarks);
     if (judged.explained !== undefined && judged.explained !== judged.number)
         found.push({ words: `hk_explain gives ${judged.explained}; hk_open's ${judged.number} stands` });
     if (found.length === 0)

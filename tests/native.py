@@ -1,6 +1,6 @@
 """native.py HOST: what the native programs say of the sets that the page is shown, as JSON: the lister, the bench host, makers/read, the trimmer, the exporter and,
 of recorded devices, the importer; and the sets that the writer makes of the texts."""
-import json, os, random, subprocess, sys, tempfile
+import json, os, random, re, subprocess, sys, tempfile
 
 TOP = os.path.dirname(os.path.dirname(os.path.abspath(__file__)))
 sys.path[1:1] = [os.path.join(TOP, "makers"), os.path.join(TOP, "tests")]
@@ -49,6 +49,14 @@ class Room:
         return self.run([os.path.join(TOP, "target", "bin", name)], given, wanted or "no such file")
 
 
+def explained(room, given):
+    """Number, rule and byte of a refused set, where there is a program that tells them."""
+    if not os.path.exists(os.path.join(TOP, "target", "bin", "explainer")):
+        return None
+    found = re.fullmatch(r"REFUSED (\d+) RULE (\d+) BYTE (\d+)\n", room.program("explainer", given)[0])
+    return list(map(int, found.groups())) if found else None
+
+
 def told(room, host, name, data, serial):
     """What is said of a set."""
     given = {"set.bin": data, "unit.bin": serial}
@@ -58,7 +66,7 @@ def told(room, host, name, data, serial):
         text = None
     return {
         "name": name, "set": data.hex(), "serial": serial.hex(), "text": text,
-        "listing": room.program("lister", given)[0],
+        "listing": room.program("lister", given)[0], "explained": explained(room, given),
         "transcript": room.run([host, "set.bin", "unit.bin"], given, "no such file")[0],
         "trimmed": room.program("trimmer", given, "trimmed.bin")[1],
         "exported": room.program("exporter", given, "descriptors")[1],

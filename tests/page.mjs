@@ -91,12 +91,22 @@ async function dropSet(browser, room, { name, set, serial }) {
     await browser.until(`document.getElementById("set-name").textContent.startsWith(${JSON.stringify(`${stem}.bin, `)})`);
 }
 
+// The rule in words, and the byte, marked among the others.
+async function checkRule(browser, { name, explained, serial, set }) {
+    const rule = await textOf(browser, "#verdict .rule"), lead = await textOf(browser, "#show-place"), marked = await browser.evaluate("document.querySelector('.byte.broken')?.id ?? null");
+    hold(`the rule of ${name}`, /^Rule (\d+): ./.exec(rule ?? "")?.[1], `${explained?.[1]}`);
+    if ((explained?.[0] === 6 ? serial : set) !== "")
+        hold(`the byte of ${name}`, `${lead} ${marked}`, `Byte ${explained?.[2]}${explained?.[0] === 6 ? " of the serial block" : ""} byte-${explained?.[2]}`);
+}
+
 async function checkSet(browser, room, told) {
     const { name, listing, transcript } = told, refused = /^REFUSED (\d+)/.exec(listing);
     await openPanel(browser, "set");
     await dropSet(browser, room, told);
     hold(`the verdict of ${name}`, (await textOf(browser, "#verdict h2")).split(":")[0], refused ? `Refused with ${refused[1]}` : "Accepted");
     hold(`the lister's lines of ${name}`, await textOf(browser, "#listing"), listing);
+    if (refused && (await browser.evaluate("heideklonk.library.has('hk_explain')")))
+        await checkRule(browser, told);
     await openPanel(browser, "enumeration");
     if (refused) {
         hold(`no enumeration of ${name}`, await browser.evaluate("document.querySelectorAll('#steps > li').length"), 0);
@@ -298,6 +308,67 @@ async function checkWidths(browser, room, native) {
     await browser.size(1200, 900);
 }
 
+// ---- other kinds of sets, where the library has their calls: the first pair and the first SuperSpeed set that the vectors have accepted
+function boardsIn(files) {
+    const found = {}, lent = { set: "", high: "none", serial: "-" };
+    for (const line of files.flatMap((file) => readFileSync(file, "utf8").split("\n"))) {
+        const [word, value] = line.split(" ");
+        if (word in lent)
+            lent[word] = value;
+        if (line.startsWith("open -> 0 ") && lent.high !== "none")
+            found.two ??= { ...lent };
+        if (line.startsWith("opensuper -> 0 "))
+            found.super ??= { ...lent };
+    }
+    return found;
+}
+
+async function lendKind(browser, room, kind, { set, high, serial }) {
+    const file = (name, text) => room.file(`${++dropped}-${name}`, Buffer.from(text === "-" ? "" : text, "hex")), chosen = { set, serial, ...(kind === "two" && { high }) };
+    await browser.call((value) => {
+        document.getElementById("kind").value = value;
+        document.getElementById("kind").dispatchEvent(new Event("change"));
+    }, kind);
+    for (const [name, text] of Object.entries(chosen)) {
+        await browser.chooseFiles(`#choose-${name}`, [file(`${name}.bin`, text)]);
+        await browser.until(`heideklonk.page.${name === "serial" ? "serial" : `sets[${Number(name === "high")}]`}.name.startsWith("${dropped}-")`);
+    }
+}
+
+async function checkTwo(browser, room, lent) {
+    const broken = (text) => `${text.slice(0, 6)}01${text.slice(8)}`, verdict = () => textOf(browser, "#verdict h2");
+    await lendKind(browser, room, "two", lent);
+    hold("a pair is accepted", await verdict(), "Accepted");
+    await openPanel(browser, "requests");
+    hold("a reset to high speed", (await say(browser, "reset high")).join(" | ").includes("high speed"));
+    hold("the device_qualifier", (await say(browser, "GET_DESCRIPTOR device_qualifier")).join(" | ").includes("10 bytes in one packet"));
+    await openPanel(browser, "enumeration");
+    await browser.evaluate("document.getElementById('speed').value = '1'; document.getElementById('speed').dispatchEvent(new Event('change'))");
+    hold("an enumeration at high speed", (await textOf(browser, "#steps")).includes("other_speed_configuration"));
+    await lendKind(browser, room, "two", { ...lent, high: broken(lent.high) });
+    hold("the high-speed set is to blame", (await verdict()).split(":")[0], "Refused with 1 in the high-speed set");
+    await lendKind(browser, room, "two", { ...lent, set: broken(lent.set) });
+    hold("the full-speed set is to blame", (await verdict()).split(":")[0], "Refused with 1 in the full-speed set");
+}
+
+async function checkSuper(browser, room, lent) {
+    await lendKind(browser, room, "super", lent);
+    hold("a SuperSpeed set is accepted", await textOf(browser, "#verdict h2"), "Accepted");
+    await openPanel(browser, "set");
+    hold("its companions are shown", (await textOf(browser, "#tree")).includes("companion"));
+    await openPanel(browser, "enumeration");
+    hold("no board of ours answers from it", await browser.evaluate("document.querySelectorAll('#steps > li').length"), 0);
+}
+
+async function checkKinds(browser, room, vectors) {
+    const kinds = await browser.evaluate("[...document.getElementById('kind').options].map((option) => option.value)"), boards = boardsIn(vectors);
+    if (kinds.includes("two") && boards.two)
+        await checkTwo(browser, room, boards.two);
+    if (kinds.includes("super") && boards.super)
+        await checkSuper(browser, room, boards.super);
+    console.log(`kinds of sets offered: ${kinds.join(" ")}`);
+}
+
 function checkQuiet(browser, page) {
     const asked = browser.heard.filter(({ method }) => method === "Network.requestWillBeSent").map(({ params }) => params.request.url);
     hold("no request to anywhere", asked.filter((url) => url !== page && !url.startsWith("blob:") && !url.startsWith("data:") && url !== "about:blank").join(" "), "");
@@ -340,6 +411,7 @@ async function test([page, natively, program, ...vectors]) {
         await checkMade(browser, room, native);
         await checkLong(browser, room, native);
         await checkWidths(browser, room, native);
+        await checkKinds(browser, room, vectors);
         await checkVectors(browser, vectors);
         checkQuiet(browser, address);
     } finally {
