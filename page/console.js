@@ -43,7 +43,7 @@ export class Console {
     // What is asked often; the configuration is the first of the set.
     often() {
         const set = this.board.sets[0], entry = entriesOf(set).find(({ type }) => type === TYPE.CONFIGURATION), value = set[entry?.offset + 5] ?? 1;
-        return ["GET_DESCRIPTOR device", "SET_ADDRESS 5", "status end", `SET_CONFIGURATION ${value}`, "reset", ...(this.board.kind === "two" ? ["reset high"] : [])];
+        return ["GET_DESCRIPTOR device", "SET_ADDRESS 5", "status end", `SET_CONFIGURATION ${value}`, "reset", ...(this.board.kind === "two" ? ["reset to high"] : [])];
     }
 
     // Up and down bring back what was said before.

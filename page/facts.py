@@ -81,4 +81,4 @@ def facts(module):
 
 def as_script(known):
     """JSON that may stand in a script element."""
-    return json.dumps(known, indent=1).replace("</", "<\\/")
+    return json.dumps(known, ensure_ascii=False).replace("</", "<\\/")

@@ -12,7 +12,7 @@ const REQUEST = Object.fromEntries(Object.entries(FACTS.requests).map(([name, [,
 const WAKEUP = 1, HALT = 0;
 
 // The header's words of a number, without whose it is.
-export const numberWords = (number) => FACTS.numbers[number]?.remark.replace(/^(?:opening|event|STALL|packet|makers|wake event): /, "") ?? "no number of the library";
+export const numberWords = (number) => FACTS.numbers[number]?.remark.replace(/^[\w ]+: /, "") ?? "no number of the library";
 
 const setupOf = (type, code, value, index, length) => joined([Uint8Array.of(type, code), littleEndian(value, 2), littleEndian(index, 2), littleEndian(length, 2)]);
 

@@ -86,21 +86,20 @@ function readSetup(text) {
     return { event: EVENT.SETUP, value: 0, setup };
 }
 
+const EVENT_NAMES = Object.keys(FACTS.events).sort((one, other) => other.length - one.length); // "reset to" before "reset"
+
 // The event of a line: its number, its value and its setup bytes.
 export function readEvent(line) {
     const text = line.trim().replace(/\s+/g, " "), [name] = text.split(" "), rest = text.slice(name.length);
     const request = Object.keys(FACTS.requests).find((one) => one === name.toUpperCase());
     if (request)
         return { event: EVENT.SETUP, value: 0, setup: readRequest(request, rest) };
-    for (const [words, [event, values]] of Object.entries(FACTS.events)) {
-        if (`${text} `.startsWith(`${words} `)) {
-            const left = new Words(text.slice(words.length)), takes = values !== null || (event === EVENT.BUS_RESET && left.left.length > 0);
-            const value = takes ? left.number("a number", 1, values ?? { full: 0, high: 1 }) : 0;
-            left.end();
-            return { event, value, setup: new Uint8Array(0) };
-        }
-    }
-    return readSetup(name === "setup" ? rest : text);
+    const words = EVENT_NAMES.find((one) => `${text} `.startsWith(`${one} `));
+    if (!words)
+        return readSetup(name === "setup" ? rest : text);
+    const left = new Words(text.slice(words.length)), [event, values] = FACTS.events[words], value = values === null ? 0 : left.number("a number", 1, values);
+    left.end();
+    return { event, value, setup: new Uint8Array(0) };
 }
 
 // ---- in words

@@ -340,7 +340,7 @@ async function checkTwo(browser, room, lent) {
     await lendKind(browser, room, "two", lent);
     hold("a pair is accepted", await verdict(), "Accepted");
     await openPanel(browser, "requests");
-    hold("a reset to high speed", (await say(browser, "reset high")).join(" | ").includes("high speed"));
+    hold("a reset to high speed", (await say(browser, "reset to high")).join(" | ").includes("high speed"));
     hold("the device_qualifier", (await say(browser, "GET_DESCRIPTOR device_qualifier")).join(" | ").includes("10 bytes in one packet"));
     await openPanel(browser, "enumeration");
     await browser.evaluate("document.getElementById('speed').value = '1'; document.getElementById('speed').dispatchEvent(new Event('change'))");
