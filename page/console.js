@@ -74,8 +74,8 @@ export class Console {
     }
 
     open() {
-        const number = this.board.open(), answer = number === 0 ? element("div", { class: "answer" }, "done") : element("div", { class: "answer stalled" }, `refused with ${number}`);
-        return [element("div", { class: "event" }, "power on"), answer];
+        const number = this.board.open(), [kind, words] = number === 0 ? ["answer", "done"] : ["answer stalled", `refused with ${number}`];
+        return [element("div", { class: "event" }, "power on"), element("div", { class: kind }, words)];
     }
 
     happen(event) {

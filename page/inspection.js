@@ -70,6 +70,7 @@ export class Inspection {
         this.bytes.choose(field?.start ?? place, field ? field.start + field.length : place + 1);
         this.bytes.stand(place);
         this.showFields(chain, place, field);
+        byId("here").textContent = `byte ${place}: ${hexadecimal(this.block.bytes[place])}${field ? `, ${field.name} ${field.figures} ${field.words}` : ""}`;
     }
 
     // The fields of the last node of a chain; `current` is the one that is stood at.

@@ -145,8 +145,9 @@ function stringFields(bytes, start, end, lists) {
         fields.push({ name: "bLength", start, length: 1, figures: `${bytes[start]}`, words: "" });
     if (end - start > 1)
         fields.push({ name: "bDescriptorType", start: start + 1, length: 1, figures: `0x${hexadecimal(bytes[start + 1])}`, words: typeName(bytes[start + 1]) });
+    const [name, words] = lists ? ["languages", languageWords(body)] : ["text", stringWords(body)];
     if (end - start > 2)
-        fields.push({ name: lists ? "languages" : "text", start: start + 2, length: end - start - 2, figures: spaced(body.slice(2)), words: lists ? languageWords(body) : stringWords(body) });
+        fields.push({ name, start: start + 2, length: end - start - 2, figures: spaced(body.slice(2)), words });
     return fields;
 }
 

@@ -93,7 +93,8 @@ async function dropSet(browser, room, { name, set, serial }) {
 
 // The rule in words, and the byte, marked among the others.
 async function checkRule(browser, { name, explained, serial, set }) {
-    const rule = await textOf(browser, "#verdict .rule"), lead = await textOf(browser, "#show-place"), marked = await browser.evaluate("document.querySelector('.byte.broken')?.id ?? null");
+    const rule = await textOf(browser, "#verdict .rule"), lead = await textOf(browser, "#show-place");
+    const marked = await browser.evaluate("document.querySelector('.byte.broken')?.id ?? null");
     hold(`the rule of ${name}`, /^Rule (\d+): ./.exec(rule ?? "")?.[1], `${explained?.[1]}`);
     if ((explained?.[0] === 6 ? serial : set) !== "")
         hold(`the byte of ${name}`, `${lead} ${marked}`, `Byte ${explained?.[2]}${explained?.[0] === 6 ? " of the serial block" : ""} byte-${explained?.[2]}`);
@@ -399,7 +400,8 @@ async function open(program, page) {
 }
 
 async function test([page, natively, program, ...vectors]) {
-    const address = pathToFileURL(resolve(page)).href, native = JSON.parse(readFileSync(natively, "utf8")), room = new Room(), browser = await open(program, address);
+    const address = pathToFileURL(resolve(page)).href, native = JSON.parse(readFileSync(natively, "utf8"));
+    const room = new Room(), browser = await open(program, address);
     try {
         await browser.send("Browser.setDownloadBehavior", { behavior: "allow", downloadPath: room.saved });
         await checkSets(browser, room, native);
