@@ -15,7 +15,7 @@ function endpointsOf(bits) {
 
 const waitingWords = (byte) => (byte === 255 ? "" : byte > 127 ? `test mode ${byte - 128} waits` : `address ${byte} waits`);
 
-const speedWords = (byte) => (byte === 0 ? "" : byte === 1 ? "high speed" : `test mode ${byte >> 4}`);
+const speedWords = (byte) => (byte === 0 ? "" : byte === 1 ? "high speed" : `high speed, test mode ${byte >> 4}`);
 
 // What the bytes of a record say, the most telling first.
 function recordPhrases(record) {
