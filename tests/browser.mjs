@@ -72,7 +72,7 @@ export class Browser {
     }
 
     // Waits until an expression holds.
-    async until(expression, milliseconds = 20000) {
+    async until(expression, milliseconds = PATIENCE) {
         for (const end = Date.now() + milliseconds; Date.now() < end; await new Promise((wake) => setTimeout(wake, 20)))
             if (await this.evaluate(expression))
                 return;
