@@ -1,0 +1,103 @@
+// The panel of requests: events of one's own on a board, one at a time, with the record between them.
+import { byId, button, element, fill } from "./element.js";
+import { EVENT } from "./library.js";
+import { Board, KINDS } from "./board.js";
+import { happening } from "./enumeration.js";
+import { endpointsWords } from "./host.js";
+import { Unread, readEvent } from "./requests.js";
+import { recordFields } from "./record.js";
+import { TYPE } from "./descriptors.js";
+import { entriesOf } from "./set.js";
+import { spaced } from "./bytes.js";
+
+const SUGGESTED = [
+    "GET_DESCRIPTOR device", "GET_DESCRIPTOR configuration 0 wLength 9", "GET_DESCRIPTOR string 1 0x0409", "SET_ADDRESS 5", "SET_CONFIGURATION 1", "GET_CONFIGURATION",
+    "GET_STATUS device", "SET_INTERFACE 0 1", "GET_INTERFACE 0", "SET_FEATURE ENDPOINT_HALT endpoint 0x81", "CLEAR_FEATURE ENDPOINT_HALT endpoint 0x81",
+    "GET_STATUS endpoint 0x81", "SET_FEATURE DEVICE_REMOTE_WAKEUP device", "packet passed 0x81", "halt 0x81", "power own", "suspend", "wake", "resume",
+    "80 06 00 01 00 00 12 00", "status end", "reset", "open",
+];
+
+export class Console {
+    constructor(library) {
+        this.library = library;
+        this.earlier = [];
+        this.at = 0;
+        fill(byId("suggested"), SUGGESTED.map((value) => element("option", { value })));
+        byId("request-form").addEventListener("submit", (event) => {
+            event.preventDefault();
+            this.say(byId("request").value);
+        });
+        byId("request").addEventListener("keydown", (event) => this.key(event));
+    }
+
+    lend(board) {
+        const usable = board.number === 0 && KINDS[board.kind].answers;
+        this.board = new Board(this.library, board.kind, board.sets, board.serial);
+        fill(byId("log"));
+        fill(byId("quick"), this.often().map((line) => button(line, () => this.say(line))), button("power on", () => this.say("open")));
+        byId("requests-note").textContent = usable ? "" : `${board.kind === "super" ? "This is a SuperSpeed set" : "The set is refused"}, so every event gets 7.`;
+        byId("request-form").hidden = byId("quick").hidden = board.kind === "super";
+        this.showRecord();
+    }
+
+    // What is asked often; the configuration is the first of the set.
+    often() {
+        const set = this.board.sets[0], entry = entriesOf(set).find(({ type }) => type === TYPE.CONFIGURATION), value = set[entry?.offset + 5] ?? 1;
+        return ["GET_DESCRIPTOR device", "SET_ADDRESS 5", "status end", `SET_CONFIGURATION ${value}`, "reset", ...(this.board.kind === "two" ? ["reset to high"] : [])];
+    }
+
+    // Up and down bring back what was said before.
+    key(event) {
+        const step = { ArrowUp: -1, ArrowDown: 1 }[event.key], at = this.at + step;
+        if (step === undefined || at < 0 || at > this.earlier.length)
+            return;
+        event.preventDefault();
+        this.at = at;
+        event.target.value = this.earlier[at] ?? "";
+    }
+
+    say(line) {
+        const text = line.trim();
+        if (text === "")
+            return;
+        this.earlier = [...this.earlier.filter((one) => one !== text), text];
+        this.at = this.earlier.length;
+        try {
+            this.log(...(text === "open" ? this.open() : this.happen(readEvent(text))));
+            byId("request").value = "";
+        } catch (error) {
+            if (!(error instanceof Unread))
+                throw error;
+            this.log(element("div", { class: "event" }, text), element("div", { class: "answer stalled" }, `not asked: ${error.message}`));
+        }
+        this.showRecord();
+    }
+
+    open() {
+        const number = this.board.open(), [kind, words] = number === 0 ? ["answer", "done"] : ["answer stalled", `refused with ${number}`];
+        return [element("div", { class: "event" }, "power on"), element("div", { class: kind }, words)];
+    }
+
+    happen(event) {
+        const answer = this.board.happen(event), says = [happening({ event, answer, status: null, endpoints: null })].flat();
+        const waits = event.event === EVENT.SETUP && answer.number === 0, end = button("status end", () => this.say("status end"), { class: "link" });
+        return [...says, waits && element("div", { class: "quiet" }, "the status stage has not ended: ", end)];
+    }
+
+    log(...children) {
+        const entry = element("li", {}, ...children.flat());
+        byId("log").append(entry);
+        byId("log").scrollTop = byId("log").scrollHeight;
+    }
+
+    showRecord() {
+        const { record } = this.board, endpoints = this.board.number === 0 && KINDS[this.board.kind].answers ? endpointsWords(this.board.endpoints()) : "none";
+        const rows = recordFields(record).map(({ name, start, length, figures, words }) => element("tr", {},
+            element("th", { scope: "row" }, name),
+            element("td", { class: "range" }, length === 1 ? `${start}` : `${start}–${start + length - 1}`),
+            element("td", { class: "figures" }, figures),
+            element("td", {}, words)));
+        fill(byId("record"), element("table", {}, element("caption", {}, "The record"), element("tbody", {}, rows)),
+            element("p", {}, element("code", {}, spaced(record))), element("p", {}, `Endpoints to open: ${endpoints}`));
+    }
+}

@@ -1,0 +1,81 @@
+// scripts.mjs SCRIPTS MODULE NATIVE VECTORS..: the page's scripts in node, without a browser: the library as they call it on the vectors, and what they make of
+// texts, dumps and sets, held to what the native programs say (NATIVE, from native.py).
+import { readFileSync } from "node:fs";
+import { pathToFileURL } from "node:url";
+import { basename, join } from "node:path";
+import { askVectors } from "./vectors.mjs";
+
+const [folder, module, natively, ...vectors] = process.argv.slice(2);
+const script = (name) => import(pathToFileURL(join(folder, `${name}.js`)));
+const { Library } = await script("library"), { Board } = await script("board"), { Host, stepLines } = await script("host");
+const { listing } = await script("set"), { Mistake, piece, readEntries, textOf } = await script("text");
+const { dumpOfSet, setOfDump, setOfText } = await script("making"), { joined } = await script("bytes"), { recordWords } = await script("record");
+const { subsequence } = await import("./transcript.mjs");
+
+const library = await Library.load(readFileSync(module)), native = JSON.parse(readFileSync(natively, "utf8"));
+const bytesOf = (text) => new Uint8Array(Buffer.from(text, "hex")), textOfBytes = (bytes) => Buffer.from(bytes).toString("hex");
+let failures = 0;
+
+function hold(what, found, expected) {
+    if (found === expected)
+        return;
+    failures++;
+    console.log(`scripts: ${what} DISAGREES: ${String(found).slice(0, 300)}, and not ${String(expected).slice(0, 300)}`);
+}
+
+for (const path of vectors) {
+    const { asked, passed, differing } = askVectors(library, listing, readFileSync(path, "utf8"));
+    console.log(`${basename(path)}: ${asked} questions, ${differing.length} differ${passed > 0 ? `; ${passed} that the page does not ask` : ""}`);
+    failures += differing.length;
+    differing.slice(0, 5).forEach((line) => console.log(`    ${line}`));
+}
+
+// ---- texts
+function readAs(source) {
+    try {
+        const { entries, serial } = readEntries(source);
+        return { pieces: textOfBytes(joined(entries.map(piece))), serial: textOfBytes(serial) };
+    } catch (error) {
+        if (!(error instanceof Mistake))
+            throw error;
+        return { mistake: error.message };
+    }
+}
+
+for (const { source, ...expected } of native.misread)
+    hold("a text with mistakes", JSON.stringify(readAs(source)), JSON.stringify(expected));
+for (const { name, source, set } of native.texts) {
+    const made = setOfText(library, source);
+    hold(`the set of ${name}`, made.number === 0 ? textOfBytes(made.set) : null, set);
+}
+console.log(`${native.misread.length + native.texts.length} texts read as makers/write reads them`);
+
+// ---- sets
+const sets = [...native.sets, ...native.recorded];
+let steps = 0;
+for (const { name, set, serial, text, listing: listed, transcript, trimmed, exported } of sets) {
+    const [bytes, block] = [bytesOf(set), bytesOf(serial)], board = new Board(library, "one", [bytes], block);
+    hold(`the listing of ${name}`, listing(bytes, board.number).map((line) => `${line}\n`).join(""), listed);
+    if (text !== null)
+        hold(`the text of ${name}`, textOf(bytes, block), text);
+    const trim = library.trim(bytes, block), dump = dumpOfSet(library, bytes, block);
+    hold(`the trimmed ${name}`, trim.number === 0 ? textOfBytes(trim.written) : null, trimmed);
+    hold(`the exported ${name}`, dump.number === 0 ? textOfBytes(dump.written) : null, exported);
+    if (board.number !== 0) {
+        hold(`the refusal of ${name}`, transcript.split(":")[0], `refused with ${board.number}`);
+        continue;
+    }
+    const seen = [`power on, the set is accepted`, `  record: ${recordWords(board.record)}`, ...[...new Host(board).enumerate()].flatMap(stepLines)];
+    const { found, missing } = subsequence(seen, transcript.split("\n"));
+    steps += found;
+    hold(`the enumeration of ${name}`, missing, null);
+}
+console.log(`${sets.length} sets listed, read as a text, trimmed, exported and enumerated as the native programs do, in ${steps} steps`);
+
+for (const { name, dump, set } of native.dumps) {
+    const made = setOfDump(library, bytesOf(dump));
+    hold(`the import of ${name}`, made.number === 0 ? textOfBytes(made.set) : null, set);
+}
+console.log(`${native.dumps.length} recorded devices imported as the importer does`);
+console.log(`scripts: ${failures} failed`);
+process.exit(failures === 0 ? 0 : 1);
