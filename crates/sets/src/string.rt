@@ -44,7 +44,7 @@ fn good_languages(body: &[u8]) -> bool
 }
 
 // Whether string 0 lists a language.
-fn lists(body: &[u8], language: u16) -> bool
+pub fn lists(body: &[u8], language: u16) -> bool
     ensures { λ r. ⌜ r ≡ member language (words (drop 2 (now (body .entry)))) ⌝ }
 {
     let mut at = 2;
@@ -113,7 +113,7 @@ fn in_language(set: &[u8], language: u16, table: &[u32; 8]) -> [u32; 8]
 }
 
 // The indices that have a string in every listed language; `languages` is string 0.
-fn in_every_language(set: &[u8], languages: &[u8]) -> [u32; 8]
+pub fn in_every_language(set: &[u8], languages: &[u8]) -> [u32; 8]
     ensures { λ r. ⌜ ((j : ℕ) → j < 256 → has r j ≡ inEvery (words (drop 2 (now (languages .entry)))) (entriesOf 3 (now (set .entry))) j) ⌝ }
 {
     let mut table = [4294967295u32; 8];
