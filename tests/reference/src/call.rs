@@ -23,6 +23,8 @@ pub enum Call {
     /// The set that is lent, in a buffer of its own.
     Trim { set: Vec<u8> },
     Endpoint { image: Vec<u8>, number: u8 },
+    /// The number alone: which rule is tests/broken.py's to say.
+    Explain,
 }
 
 impl Call {
@@ -57,6 +59,10 @@ impl Call {
             }
             Call::Trim { set } => trim::trim(set, lent.opened.as_ref().map_err(|rule| rule.group()), lent.fault),
             Call::Endpoint { image, number } => endpoints::endpoint(lent, image, *number),
+            Call::Explain => {
+                let number = lent.opened.as_ref().map_or_else(|rule| rule.group(), |_| 0);
+                Outcome { number, bytes: vec![0, 0], part: None, image: Vec::new() }
+            }
         }
     }
 
@@ -76,6 +82,7 @@ impl Call {
             Call::Export { buffer } => format!("export {}", hex(buffer)),
             Call::Trim { .. } => "trim".to_string(),
             Call::Endpoint { number, .. } => format!("endpoint {number}"),
+            Call::Explain => "explain".to_string(),
         }
     }
 
@@ -103,6 +110,7 @@ impl Call {
                 format!("{number} {} {}", part.map_or(0, |part| part.length), hex(image))
             }
             Call::Endpoint { .. } => format!("{number} {}", part_words(*part)),
+            Call::Explain => format!("{number}"),
         }
     }
 }

@@ -15,6 +15,7 @@
 //!     w pieces buffer        hk_write: length is what was written, the image is the buffer
 //!     i dump buffer          hk_import, in the same way    x buffer       hk_export
 //!     t set                  hk_trim: length is the total, the image is the set
+//!     q                      hk_explain: the bytes are the rule, the offset is the place (tests/explained asks it)
 //!
 //! Each call is answered with error(1) number(1) count(1) bytes(2) block(1) offset(4) length(4) and the image as a block.
 
@@ -125,6 +126,7 @@ impl Command {
             Command::Call(Call::Numbered { .. }) => b'v',
             Command::Call(Call::Trim { .. }) => b't',
             Command::Call(Call::Endpoint { .. }) => b'n',
+            Command::Call(Call::Explain) => b'q',
             Command::Call(Call::Event { event, .. }) => match event {
                 Event::Setup(_) => b's',
                 Event::StatusEnd => b'e',
@@ -196,6 +198,7 @@ fn write_call(call: &Call, stream: &mut impl Write) -> io::Result<()> {
             stream.write_all(&[*number])?;
             write_block(stream, image)
         }
+        Call::Explain => Ok(()),
     }
 }
 
@@ -211,6 +214,7 @@ fn read_call(operation: u8, stream: &mut impl Read) -> io::Result<Call> {
             return Ok(Call::Numbered { record: read_block(stream)?, number, value, setup: read_block(stream)? });
         }
         b't' => return Ok(Call::Trim { set: read_block(stream)? }),
+        b'q' => return Ok(Call::Explain),
         b'n' => {
             let number = read_array::<1>(stream)?[0];
             return Ok(Call::Endpoint { image: read_block(stream)?, number });
