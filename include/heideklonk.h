@@ -326,6 +326,14 @@ HK_MAKERS uint8_t hk_export(const uint8_t *set, size_t set_length, const uint8_t
  * refuse the set or the serial block; the buffer is as it was, and *total is 0. This call has 516 bytes in its frame. */
 HK_MAKERS uint8_t hk_trim(uint8_t *set, size_t set_length, const uint8_t *serial, size_t serial_length, uint16_t *total);
 
+/* Tells which rule a set or its serial block breaks first, and where: hk_open's number; *rule, the rule's number in
+ * docs/MAKERS.md, which is its group times 100 and its place in the group; and *place, the byte of the set, or of the serial
+ * block if the number is HK_SERIAL_BROKEN, at which it is broken. A byte that is missing is told as the last that is there,
+ * and as 0 where nothing is lent. HK_DONE: nothing is broken; *rule and *place are 0. The set and the serial block are only
+ * read. This call has no array in its frame, but reads a configuration once for each question that it has. */
+HK_MAKERS uint8_t hk_explain(const uint8_t *set, size_t set_length, const uint8_t *serial, size_t serial_length,
+                   uint16_t *rule, uint32_t *place);
+
 #ifdef __cplusplus
 }
 #endif

@@ -431,6 +431,19 @@ static void call_trim(uint8_t flags) {
     respond_with_image();
 }
 
+/* The answer's bytes are the rule, its offset is the place. */
+static void call_explain(uint8_t flags) {
+    place_unwritten(&bytes, sizeof(uint16_t), flags, sizeof(uint16_t));
+    place_unwritten(&written, sizeof(uint32_t), flags, sizeof(uint32_t));
+    uint16_t *rule = (uint16_t *)(void *)(bytes.room + bytes.start);
+    uint32_t *place = (uint32_t *)(void *)(written.room + written.start);
+    uint8_t number = hk_explain(lent(&set, flags), set.length, lent(&serial, flags), serial.length, rule, place);
+    uint8_t told[2] = {(uint8_t)*rule, (uint8_t)(*rule >> 8)};
+    int kept = unchanged(&set) && unchanged(&serial) && guards_unchanged(&bytes) && guards_unchanged(&written);
+    respond(kept ? 0 : BYTES_CHANGED, number, told, 2, number == 6, *place, 0);
+    put_number(0);
+}
+
 /* The image is only read. */
 static void call_endpoint(uint8_t operation, uint8_t flags) {
     static const uint8_t no_answer[2];
@@ -490,6 +503,9 @@ int main(void) {
             break;
         case 't':
             call_trim(flags);
+            break;
+        case 'X':
+            call_explain(flags);
             break;
         case 'w': case 'F': case 'i': case 'x':
             call_maker(operation, flags);

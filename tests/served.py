@@ -102,6 +102,11 @@ class Served:
         number, _, part, buffer = self.ask(b"F", block(pieces) + block(bytes(size)))
         return number, buffer[: part[2]]
 
+    def explain(self):
+        """hk_explain: the number, the rule and the place."""
+        number, rule, part, _ = self.ask(b"X", b"")
+        return number, int.from_bytes(rule, "little"), part[1]
+
     def packets(self, length, asked, size):
         """The lengths of the packets."""
         for k in range(65536):

@@ -235,6 +235,16 @@ function callTrim(flags) {
     respond(error, number, 0, [0, 0], IN_SET, 0, words.getUint16(total.address, true), buffer.bytes());
 }
 
+// The answer's bytes are the rule, its offset is the place.
+function callExplain(flags) {
+    const lent = new Lent(flags), blocks = [set, serial].map((bytes) => lent.place(bytes));
+    const rule = lent.placeForWriting(new Uint8Array(2).fill(UNWRITTEN), 2);
+    const place = lent.placeForWriting(new Uint8Array(4).fill(UNWRITTEN), 4);
+    const { number, error } = lent.call("hk_explain", ...blocks.flatMap(pair), rule.address, place.address);
+    const told = words.getUint16(rule.address, true);
+    respond(error, number, 2, [told & 255, told >> 8], number === 6 ? 1 : 0, words.getUint32(place.address, true), 0, new Uint8Array(0));
+}
+
 function callMaker(operation, flags) {
     const [name, read] = MAKERS[operation], lent = new Lent(flags);
     const blocks = read().map((bytes) => lent.place(bytes)), buffer = lent.placeForWriting(takeBlock());
@@ -267,6 +277,8 @@ for (;;) {
         callPacket(flags);
     else if (operation === "t")
         callTrim(flags);
+    else if (operation === "X")
+        callExplain(flags);
     else if (operation in MAKERS)
         callMaker(operation, flags);
     else if (operation in EVENTS)

@@ -6,13 +6,14 @@ use lib.ListN.{length, drop}
 use lib.Dec.{eqb}
 use Rattle.octets.specs.Sentences.{pick}
 use Rattle.descriptors.specs.declared.Limits.{Limits}
-use Rattle.sets.specs.Opening.{Board}
+use Rattle.sets.specs.Opening.{Board, lent, opening}
 use Rattle.set_writer.specs.Writer.{setOf, writing, Filled}
 use Rattle.dumps.specs.Imported.{imported}
 use Rattle.importing.specs.Import.{importing}
 use Rattle.exporting.specs.Export.{exported, exporting}
 use Rattle.trimming.specs.Trim.{trimmed, padded, Trims}
 use Rattle.board.specs.OpenedAs.{openedAs}
+use Rattle.rules.specs.Explained.{explained}
 
 -- hk_super_open: its number, and the image left
 pub record OpensAs (limits : Limits) (b : Board) (image : List ℕ) (answer : ℕ) (left : List ℕ) : Type 0 where
@@ -38,6 +39,12 @@ pub record Dumps (set serial buffer : List ℕ) (answer : ℕ) (left : List ℕ)
 pub record Shortens (limits : Limits) (set serial : List ℕ) (answer : ℕ) (left : List ℕ) (total : ℕ) : Type 0 where
   pub trims : Trims limits set serial left answer
   pub counts : total ≡ pick (eqb answer 0) (length (trimmed set)) 0
+
+-- hk_explain: opening's number, the first rule that is broken, 0 where none is, and the byte where it is broken
+pub record Tells (limits : Limits) (set serial : List ℕ) (answer rule place : ℕ) : Type 0 where
+  pub number : answer ≡ opening limits (lent set serial)
+  pub broken : rule ≡ explained limits (lent set serial) .rule
+  pub lies : place ≡ explained limits (lent set serial) .place
 
 -- ---- any two results that meet a statement are equal. Assumes nothing
 pub opensAs : {limits : Limits} {b : Board} {image : List ℕ} {n m : ℕ} {left other : List ℕ} → OpensAs limits b image n left → OpensAs limits b image m other → (n ≡ m) × (left ≡ other)
@@ -69,3 +76,7 @@ pub shortens : {limits : Limits} {set serial : List ℕ} {n m : ℕ} {left other
 shortens {set = set} p q =
     let e = p .trims .number ∙ sym (q .trims .number) in
     (e, p .trims .bytes ∙ ap (λ (k : ℕ). pick (eqb k 0) (padded (trimmed set) (length set)) set) e ∙ sym (q .trims .bytes), counted (trimmed set) e (p .counts) (q .counts))
+
+pub tells : {limits : Limits} {set serial : List ℕ} {n m rule other place also : ℕ}
+    → Tells limits set serial n rule place → Tells limits set serial m other also → (n ≡ m) × (rule ≡ other) × (place ≡ also)
+tells p q = (p .number ∙ sym (q .number), p .broken ∙ sym (q .broken), p .lies ∙ sym (q .lies))

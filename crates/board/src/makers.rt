@@ -1,7 +1,7 @@
 // The calls for makers, on a bench computer: these may use an array of a set's length in their frame.
 ghost use Rattle.sets.specs.Opening.{lent};
 ghost use Rattle.descriptors.specs.Limits.{fullSpeed, superSpeed};
-ghost use Rattle.board.specs.Makers.{OpensAs, Writes, Takes, Dumps, Shortens};
+ghost use Rattle.board.specs.Makers.{OpensAs, Writes, Takes, Dumps, Shortens, Tells};
 
 // Pieces end to end, in any order, become a set at the buffer's start.
 #[no_mangle]
@@ -68,4 +68,15 @@ pub extern "C" fn hk_trim(set: &mut [u8], serial: &[u8], total: &mut u16) -> u8
     let number = trimming::trim(set, serial, descriptors::full_speed());
     *total = set_writer::length_written(number, set);
     number
+}
+
+// Opening's number, the first rule that is broken, and the byte of the set where it is broken; in group 6 of the serial block. It only reads.
+#[no_mangle]
+pub extern "C" fn hk_explain(set: &[u8], serial: &[u8], rule: &mut u16, place: &mut u32) -> u8
+    ensures { λ r. ⌜ Tells fullSpeed (now (set .entry)) (now (serial .entry)) r (now (rule .exit)) (now (place .exit)) ⌝ }
+{
+    let told = rules::explain(set, serial, descriptors::full_speed());
+    *rule = told.rule;
+    *place = told.place;
+    told.number
 }

@@ -59,7 +59,7 @@ regrouped true true false count a h = refl
 regrouped true false empty count a h = rw (and-false empty)
 regrouped false set empty count a h = refl
 
-rest-same : (limits : Limits) (n : ℕ) (cs : Cutting)
+pub rest-same : (limits : Limits) (n : ℕ) (cs : Cutting)
     → walked (checking limits n) starting before cs ≡ (wellCut cs && ((every (goodDescriptor limits) (descriptorsOf cs) && goodInterfaces n (grouped (descriptorsOf cs))) && (limits .companions ⇒ after false (descriptorsOf cs))))
 rest-same limits n cs =
     let ds = descriptorsOf cs in

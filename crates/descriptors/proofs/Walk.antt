@@ -21,13 +21,13 @@ use Rattle.descriptors.specs.Cut.{Cutting, whole, broken, descriptor, cu
 use Rattle.descriptors.specs.Walk.{standOf, stepsOn, stepOf, Walk, orElse, walked, gathering, Collection, collecting, collected}
 
 -- ---- cutting
-after-drop : (k : ℕ) (xs : List ℕ) → k ≤ length xs → cutAfter k xs ≡ cut (drop k xs)
+pub after-drop : (k : ℕ) (xs : List ℕ) → k ≤ length xs → cutAfter k xs ≡ cut (drop k xs)
 unfolding cutAfter
 after-drop zero xs h = refl
 after-drop (suc k) [] h = absurd (not-suc-le-zero h)
 after-drop (suc k) (x ∷ xs) h = after-drop k xs (le-of-suc-le-suc h)
 
-after-short : (k : ℕ) (xs : List ℕ) → length xs < k → cutAfter k xs ≡ broken
+pub after-short : (k : ℕ) (xs : List ℕ) → length xs < k → cutAfter k xs ≡ broken
 unfolding cutAfter
 after-short zero xs h = absurd (not-suc-le-zero h)
 after-short (suc k) [] h = refl
@@ -46,10 +46,10 @@ module _ (body : List ℕ) (at : ℕ) where
     here : drop at body ≡ byte body at ∷ drop (at + 1) body
     here = rw (add-one, drop-cons body at 0)
 
-    cut-small : byte body at < 2 → cut (drop at body) ≡ broken
+    pub cut-small : byte body at < 2 → cut (drop at body) ≡ broken
     cut-small l = rw (here, cut-cons, lt-leb 2 _ l)
 
-    cut-long : 2 ≤ byte body at → length body - at < byte body at → cut (drop at body) ≡ descriptor (part body at (byte body at)) broken
+    pub cut-long : 2 ≤ byte body at → length body - at < byte body at → cut (drop at body) ≡ descriptor (part body at (byte body at)) broken
     cut-long l m =
         let e : length (drop (at + 1) body) < byte body at - 1 = rw length-drop (omega arith) in
         ap cut here ∙ cut-cons _ _ ∙ rw (le-leb 2 _ l, after-short _ _ e, here)

@@ -20,11 +20,11 @@ ghost use Rattle.octets.specs.Table.{has};
 
 // How far the check of a body is: how many endpoints of this setting are still to come; and, a bit for each address, the addresses of
 // this setting, of this interface's settings, and of all that was seen. Where it stands is the step's to say.
-struct Progress {
-    coming: u8,
-    setting: u32,
-    interface: u32,
-    seen: u32,
+pub struct Progress {
+    pub coming: u8,
+    pub setting: u32,
+    pub interface: u32,
+    pub seen: u32,
 }
 
 // Whether a body, or bodies, are good; and whether they are and every string reference in them is in a table.
@@ -73,7 +73,7 @@ fn good_attributes(attributes: u8) -> bool
     (attributes <= 63) & (1 <= attributes % 4) & ((attributes <= 3) | (attributes % 4 == 1))
 }
 
-fn is_sized(limits: Limits, range: Range, size: u16) -> bool
+pub fn is_sized(limits: Limits, range: Range, size: u16) -> bool
     ensures { λ r. ⌜ r ≡ sized limits (range .least) (range .most) size ⌝ }
 {
     (range.least <= size % 2048) & (size % 2048 <= range.most) & (size / 2048 <= limits.bursts)
@@ -138,7 +138,7 @@ fn good_head(d: &[u8], size: usize) -> bool
 }
 
 // ---- the descriptors after the first, one after another
-fn start() -> Progress
+pub fn start() -> Progress
     ensures { λ r. ⌜ r ≡ beginning ⌝ }
 {
     Progress {
@@ -262,7 +262,7 @@ fn at_endpoint(d: &[u8], progress: Progress) -> Progress
 }
 
 // After any descriptor, which stands at `stand`, the one before it at `last`.
-fn move_on(d: &[u8], progress: Progress, last: Stand, stand: Stand) -> Progress
+pub fn move_on(d: &[u8], progress: Progress, last: Stand, stand: Stand) -> Progress
     ensures { λ r. ⌜ r ≡ onward progress last stand (now (d .entry)) ⌝ }
 {
     let t = octets::peek(d, 1);

@@ -43,7 +43,7 @@ module _ (body : List ℕ) (at : ℕ) where
   pub words-end : length body ≤ at + 1 → words (drop at body) ≡ []
   words-end h = words-short (drop at body) (rw length-drop (omega arith))
 
-words-length : (bytes : List ℕ) → length (words bytes) ≡ length bytes / 2
+pub words-length : (bytes : List ℕ) → length (words bytes) ≡ length bytes / 2
 unfolding words
 words-length [] = refl
 words-length (a ∷ []) = refl

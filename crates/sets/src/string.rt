@@ -46,7 +46,7 @@ fn good_languages(body: &[u8]) -> bool
 }
 
 // Whether string 0 lists a language.
-fn lists(body: &[u8], language: u16) -> bool
+pub fn lists(body: &[u8], language: u16) -> bool
     ensures { λ r. ⌜ r ≡ member language (words (drop 2 (now (body .entry)))) ⌝ }
 {
     let mut at = 2;

@@ -35,6 +35,8 @@ pub enum Call {
     /// On a row of records, which stand aligned.
     Port { row: Vec<u8>, port: u64, number: u8, value: u8, setup: Vec<u8> },
     TwoPort { row: Vec<u8>, port: u64, number: u8, value: u8, setup: Vec<u8> },
+    /// The number alone: which rule is tests/broken.py's to say.
+    Explain,
 }
 
 impl Call {
@@ -103,6 +105,10 @@ impl Call {
             Call::Port { row, port, number, value, setup } | Call::TwoPort { row, port, number, value, setup } => {
                 ports::event(lent, row, *port, &Event::of_number(*number, *value, setup))
             }
+            Call::Explain => {
+                let number = lent.alone().map_or_else(|number| number, |_| 0);
+                Outcome { number, bytes: vec![0, 0], part: None, image: Vec::new() }
+            }
         }
     }
 
@@ -129,6 +135,7 @@ impl Call {
                 let event = Event::of_number(*number, *value, setup);
                 format!("port {port} {} {}", hex(row), event_words(&event))
             }
+            Call::Explain => "explain".to_string(),
         }
     }
 
@@ -163,6 +170,7 @@ impl Call {
                 format!("{number} {} {}", part.map_or(0, |part| part.length), hex(image))
             }
             Call::Endpoint { .. } | Call::TwoEndpoint { .. } => format!("{number} {}", part_words(*part)),
+            Call::Explain => format!("{number}"),
         }
     }
 }

@@ -20,6 +20,7 @@
 //!     f image                hk_super_open                 F pieces buffer   hk_super_write, as hk_write
 //!     i dump buffer          hk_import, in the same way    x buffer       hk_export
 //!     t set                  hk_trim: length is the total, the image is the set
+//!     X                      hk_explain: the bytes are the rule, the offset is the place (tests/explained asks it)
 //!
 //! Each call is answered with error(1) number(1) count(1) bytes(2) block(1) offset(4) length(4) and the image as a block.
 
@@ -141,6 +142,7 @@ impl Command {
             Command::Call(Call::TwoEndpoint { .. }) => b'N',
             Command::Call(Call::Port { .. }) => b'q',
             Command::Call(Call::TwoPort { .. }) => b'Q',
+            Command::Call(Call::Explain) => b'X',
             Command::Call(Call::Event { event, .. }) => match event {
                 Event::Setup(_) => b's',
                 Event::StatusEnd => b'e',
@@ -223,6 +225,7 @@ fn write_call(call: &Call, stream: &mut impl Write) -> io::Result<()> {
             stream.write_all(&[*number])?;
             write_block(stream, image)
         }
+        Call::Explain => Ok(()),
     }
 }
 
@@ -241,6 +244,7 @@ fn read_call(operation: u8, stream: &mut impl Read) -> io::Result<Call> {
             return Ok(Call::Numbered { record: read_block(stream)?, number, value, setup: read_block(stream)? });
         }
         b't' => return Ok(Call::Trim { set: read_block(stream)? }),
+        b'X' => return Ok(Call::Explain),
         b'V' => {
             let [number, value] = read_array(stream)?;
             return Ok(Call::TwoEvent { image: read_block(stream)?, number, value, setup: read_block(stream)? });

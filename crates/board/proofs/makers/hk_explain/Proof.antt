@@ -1,0 +1,21 @@
+-- `board::makers::hk_explain` meets its contract: explain's own, at full speed. No axiom.
+use mathlib.Core.Path.{ap, _∙_}
+use borrow.Author.Needs.{needs}
+use Rattle.descriptors.specs.Limits.{fullSpeed}
+use Rattle.rules.proofs.Told.{told-number}
+use Rattle.board.proofs.makers.hk_explain.Statement.{statement}
+use Rattle.board.proofs.makers.hk_explain.Tie as tie
+
+full-speed-requires : tie.Need-full-speed-requires
+full-speed-requires c κs = search needs
+
+explain-requires : tie.Need-explain-requires
+explain-requires c κs = search needs
+
+returns : tie.Need-returns
+returns c =
+    let e = rw (c .before .full-speed .ensures) at (c .explain .ensures) in
+    record { number = ap (λ r. r .number) e ∙ told-number fullSpeed _; broken = ap (λ r. r .rule) e; lies = ap (λ r. r .place) e }
+
+pub hk-explain-spec : {M : Type 1} → statement M
+hk-explain-spec = tie.close (tie.spec full-speed-requires explain-requires returns)

@@ -1,0 +1,62 @@
+-- The rule that is named belongs to the group that opening names, for all inputs; an accepted set gives rule 0. No axiom.
+use Prim.Native.Nat.{ℕ, _/_}
+use mathlib.Core.Path.{_≡_, refl, sym, ap, _∙_}
+use mathlib.Core.List.{List, [], _∷_, _++_}
+use mathlib.Core.Bool.{Bool, true, false, not, false≢true}
+use lib.Dec.{eqb, leb}
+use Rattle.octets.specs.Sentences.{pick, every, first, pairs}
+use Rattle.octets.proofs.Sentences.{conjunct}
+use Rattle.descriptors.specs.declared.Limits.{Limits}
+use Rattle.descriptors.specs.Configuration.{bConfigurationValue, goodConfiguration}
+use Rattle.sets.specs.Contents.{bodies, entries, entriesOf, total, bodiesAt, goodFrame, goodContents}
+use Rattle.sets.specs.Device.{deviceBody, iSerialNumber}
+use Rattle.sets.specs.Strings.{goodStrings}
+use Rattle.sets.specs.Opening.{Board, numberedFrom, goodDevices, goodConfigurations, goodBlock, opening}
+use Rattle.rules.specs.Findings.{Finding}
+use Rattle.rules.specs.Frame.{frameFindings, contentsFindings, noEntry}
+use Rattle.rules.specs.Device.{deviceFindings, serialFindings}
+use Rattle.rules.specs.Configuration.{configurationsFindings}
+use Rattle.rules.specs.Strings.{stringsFindings}
+use Rattle.rules.specs.Explained.{findings, isBroken, explained}
+use Rattle.rule_laws.proofs.Frames.{allHold, frame-same, contents-same, devices-same, block-same}
+use Rattle.rule_laws.proofs.Bodies.{configurations-same}
+use Rattle.rule_laws.proofs.Texts.{strings-same}
+use Rattle.rule_laws.proofs.Groups.{groupOf, group-first, group-last}
+use Rattle.rule_laws.proofs.Grouped.{frames, contents, devices, serials, configurations, group-5}
+
+-- one group: what is said of the later ones matters only where it holds
+step : (a b : Bool) (n x y : ℕ) → a ≡ b → (b ≡ true → x ≡ y) → pick (not a) n x ≡ pick (not b) n y
+step true true n x y p q = q refl
+step false false n x y p q = refl
+step true false n x y p q = absurd (false≢true (sym p))
+step false true n x y p q = absurd (false≢true p)
+
+-- group 4 holds: so does each body
+good-bodies : (limits : Limits) (set : List ℕ) → goodConfigurations limits set ≡ true → every (goodConfiguration limits) (bodies 2 set) ≡ true
+unfolding goodConfigurations
+good-bodies limits set g =
+    conjunct 1
+    (numberedFrom 0 (entriesOf 2 set) ∷ every (goodConfiguration limits) (bodies 2 set) ∷ every (λ b. leb 1 (bConfigurationValue b)) (bodies 2 set)
+    ∷ pairs (λ a b. not (eqb (bConfigurationValue a) (bConfigurationValue b))) (bodies 2 set) ∷ [])
+    g
+
+named-group : (limits : Limits) (b : Board) → groupOf (first isBroken (findings limits b)) ≡ opening limits b
+unfolding findings opening
+named-group limits b =
+    let set = b .set in
+    group-first 1 (frameFindings set) _ (frames set)
+    ∙ step _ _ 1 _ _ (frame-same set) (λ f.
+    group-first 2 (contentsFindings limits set) _ (contents limits (total set) 4 true noEntry (bodiesAt set) (entries set))
+    ∙ step _ _ 2 _ _ (contents-same limits set) (λ c.
+    group-first 3 (deviceFindings limits set) _ (devices limits set (entriesOf 1 set))
+    ∙ step _ _ 3 _ _ (devices-same limits set) (λ d.
+    group-first 4 (configurationsFindings limits set) _ (configurations limits set 4 0 [] (entries set))
+    ∙ step _ _ 4 _ _ (configurations-same limits set) (λ g.
+    group-first 5 (stringsFindings set) _ (group-5 set)
+    ∙ step _ _ 5 _ _ (strings-same limits set (good-bodies limits set g)) (λ s.
+    group-last 6 (serialFindings (iSerialNumber (deviceBody set)) (b .serial)) (serials (eqb (iSerialNumber (deviceBody set)) 0) (b .serial))
+    ∙ step _ _ 6 0 0 (block-same set (b .serial)) (λ t. refl))))))
+
+pub belongs : (limits : Limits) (b : Board) → explained limits b .rule / 100 ≡ opening limits b
+unfolding explained
+belongs limits b = named-group limits b

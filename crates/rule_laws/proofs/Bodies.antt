@@ -1,0 +1,276 @@
+-- Group 4: all its rules hold exactly where opening's definition of the group does. No axiom.
+use Prim.Native.Nat.{ℕ, zero, suc, _+_, _-_, _/_, _%_, _<_, _≤_}
+use native.Mathlib.Omega.{arith}
+use mathlib.Core.Path.{_≡_, refl, sym, ap, _∙_}
+use mathlib.Core.List.{List, [], _∷_, _++_, map}
+use mathlib.Core.Bool.{Bool, true, false, _&&_, _||_, not, and-true, and-false, and-assoc, or-false}
+use mathlib.Core.Option.{some, none}
+use lib.ListN.{length, take}
+use lib.Seq.{length-take-le, getD-take}
+use lib.Dec.{eqb, leb}
+use borrow.Author.Tests.{eq-eqb, leb-true, leb-false}
+use Rattle.octets.specs.Bit.{bit}
+use Rattle.octets.specs.Octets.{byte}
+use Rattle.octets.specs.Sentences.{pick, _⇒_, every, any, only, pairs, member}
+use Rattle.octets.proofs.Sentences.{cases, every-append, every-alike}
+use Rattle.descriptors.specs.declared.Limits.{Limits}
+use Rattle.descriptors.specs.declared.Setting.{Setting}
+use Rattle.descriptors.specs.declared.Stand.{Stand}
+use Rattle.descriptors.specs.declared.check.Progress.{Progress}
+use Rattle.descriptors.specs.Limits.{within, doubled, named}
+use Rattle.descriptors.specs.Cut.{Cutting, whole, broken, descriptor, cut, cutAfter, descriptorsOf, wellCut}
+use Rattle.descriptors.specs.Descriptor.{bDescriptorType, isInterface, isEndpoint, bEndpointAddress, bmAttributes, wMaxPacketSize, bInterval, transferType, sized, goodDescriptor}
+use Rattle.descriptors.specs.Interfaces.{grouped, follows, goodInterfaces}
+use Rattle.descriptors.specs.Configuration.{bNumInterfaces, bConfigurationValue, bitOf, goodHead, goodDescriptors, goodConfiguration}
+use Rattle.descriptors.specs.Walk.{settingAt, before, standOf, orElse, walked}
+use Rattle.descriptors.specs.Check.{placed, fresh, allowed, onward, ended, beginning, checking}
+use Rattle.descriptors.proofs.Walk.{after-short}
+use Rattle.descriptors.proofs.CheckOrder.{kinds, eqb-swap}
+use Rattle.descriptors.proofs.CheckWhole.{rest-same}
+use Rattle.sets.specs.declared.Entry.{Entry}
+use Rattle.sets.specs.Contents.{bodyOf, bodies, isKind, entries, entriesOf}
+use Rattle.sets.specs.Opening.{numberedFrom, goodConfigurations}
+use Rattle.sets.proofs.Configurations.{every-both}
+use Rattle.rules.specs.Findings.{Finding, asked, byteAt}
+use Rattle.rules.specs.Configuration.{isWhole, headFindings, headNumbers, placedFindings, surplus, descriptorFindings, restFindings, cutFindings, bodyFindings, configurationFindings, configurationsFrom, configurationsFindings}
+use Rattle.rule_laws.proofs.Frames.{allHold}
+
+-- ---- a body as it is cut: each descriptor is whole, or the body breaks off in it
+pub data Proper : Cutting → Type 0 where
+  ends : Proper whole
+  breaks : Proper broken
+  cutOff : {d : List ℕ} → Proper (descriptor d broken)
+  goes : {d : List ℕ} {ds : Cutting} → isWhole d ≡ true → Proper ds → Proper (descriptor d ds)
+
+pub proper : (k : ℕ) (xs : List ℕ) → Proper (cutAfter k xs)
+unfolding cutAfter
+proper zero [] = ends
+proper (suc k) [] = breaks
+proper (suc k) (b ∷ bs) = proper k bs
+proper zero (b ∷ bs) = go (leb 2 b) refl (proper (b - 1) bs)
+  where
+    complete : 0 < b → b ≤ length (b ∷ bs) → isWhole (take b (b ∷ bs)) ≡ true
+    complete h l = eq-eqb (length (take b (b ∷ bs))) (byte (take b (b ∷ bs)) 0) (length-take-le b (b ∷ bs) l ∙ sym (getD-take b (b ∷ bs) 0 0 h))
+
+    go : (t : Bool) → leb 2 b ≡ t → Proper (cutAfter (b - 1) bs) → Proper (pick t (descriptor (take b (b ∷ bs)) (cutAfter (b - 1) bs)) broken)
+    go false p q = breaks
+    go true p q =
+        let l = leb-true 2 b p in
+        cases (leb (b - 1) (length bs))
+        (λ r. let m = leb-true (b - 1) (length bs) r in goes (complete (omega arith) (omega arith)) q)
+        (λ r. rw (after-short (b - 1) bs (leb-false (b - 1) (length bs) r)) cutOff)
+
+-- ---- one descriptor
+place-same : (inside : Bool) (start at : ℕ) (s t : Setting) (x : Finding)
+    → allHold (placedFindings inside start at s t ++ (x ∷ []))
+    ≡ (((inside && follows s t) || (not inside && eqb (t .interface) 0 && eqb (t .alternate) 0)) && x .holds)
+unfolding every
+place-same true start at s t x = simp (or-false, and-true)
+place-same false start at s t x = simp (and-true, and-assoc)
+
+interface-row : (nr l9 c0 p : Bool) → (nr && (c0 && (l9 && p))) ≡ ((((nr && l9) && true) && ((c0 && p) && true)) && true)
+interface-row false l9 c0 p = refl
+interface-row true true c0 p = simp and-true
+interface-row true false c0 p = simp and-false
+
+surplus-same : (inside : Bool) (start at head : ℕ) (w : Progress) → surplus inside start at head w .holds ≡ leb 1 (w .coming)
+surplus-same true start at head w = refl
+surplus-same false start at head w = refl
+
+fresh-same : (s i t : Bool) → ((s ⇒ not t) && ((s ⇒ i) && true)) ≡ (s ⇒ (i && not t))
+fresh-same false i t = refl
+fresh-same true true true = refl
+fresh-same true true false = refl
+fresh-same true false true = refl
+fresh-same true false false = refl
+
+endpoint-row : (nr l7 c1 ab an b6 tt b5 s2 s3 s1 p3 p1 f : Bool)
+    → (nr && (l7 && (c1 && (ab && (an && (b6 && (tt && (b5 && (s2 && (s3 && (s1 && (p3 && (p1 && f)))))))))))))
+    ≡ ((((nr && true) && ((((l7 && (ab && an)) && ((b6 && tt) && b5)) && ((s2 && s3) && s1)) && (p3 && p1))) && c1) && f)
+endpoint-row nr l7 true ab an b6 tt b5 s2 s3 s1 p3 p1 f = simp (and-true, and-assoc)
+endpoint-row nr l7 false ab an b6 tt b5 s2 s3 s1 p3 p1 f = simp and-false
+
+module _ (limits : Limits) (start at head : ℕ) (w : Progress) (last stand : Stand) (d : List ℕ) (p : isWhole d ≡ true) where
+  Same : Type 0
+  Same = allHold (descriptorFindings limits start at head w last stand d) ≡ allowed limits w last stand d
+
+  interface : isInterface d ≡ true → isEndpoint d ≡ false → Same
+  unfolding every Same
+  interface i e =
+      rw (p, i, e)
+      (ap (λ b. not (named (limits .refused) (bDescriptorType d)) && (eqb (w .coming) 0 && (leb 9 (length d) && b))) (place-same (last .inside) start at (settingAt last) (settingAt stand) (asked 420 (byteAt start at 3) (leb (stand .alternate) 15)))
+      ∙ interface-row (not (named (limits .refused) (bDescriptorType d))) (leb 9 (length d)) (eqb (w .coming) 0) (placed last (settingAt stand)))
+
+  endpoint : isInterface d ≡ false → isEndpoint d ≡ true → Same
+  unfolding every Same
+  endpoint i e =
+      let a = bmAttributes d in
+      let t = transferType a in
+      let size = wMaxPacketSize d in
+      let k = bitOf (bEndpointAddress d) in
+      rw (p, i, e, surplus-same (last .inside) start at head w, fresh-same (bit (w .seen) k) (bit (w .interface) k) (bit (w .setting) k))
+      (endpoint-row (not (named (limits .refused) (bDescriptorType d))) (leb 7 (length d)) (leb 1 (w .coming)) (eqb (bEndpointAddress d / 16 % 8) 0) (leb 1 (bEndpointAddress d % 16)) (leb a 63) (leb 1 t) (leb a 3 || eqb t 1)
+      (eqb t 2 ⇒ doubled (limits .bulk) size) (eqb t 3 ⇒ sized limits (limits .interrupt .least) (limits .interrupt .most) size)
+      (eqb t 1 ⇒ sized limits (limits .isochronous .least) (limits .isochronous .most) size) (eqb t 3 ⇒ within (limits .polling) (bInterval d)) (eqb t 1 ⇒ within (limits .period) (bInterval d))
+      (fresh w (bEndpointAddress d)))
+
+  another : isInterface d ≡ false → isEndpoint d ≡ false → Same
+  unfolding every Same
+  another i e = rw (p, i, e) (simp and-true)
+
+  descriptor-same : Same
+  descriptor-same = kinds d interface endpoint another
+
+-- ---- the descriptors after the first
+stop-same : (b r : Bool) → orElse (pick b none (some false)) r ≡ (b && r)
+stop-same true r = refl
+stop-same false r = refl
+
+swap : (a b : Bool) → (a && (b && true)) ≡ (b && a)
+swap true b = refl
+swap false b = sym (and-false b)
+
+rest-holds : (limits : Limits) (start n at head : ℕ) (w : Progress) (last : Stand) {cs : Cutting} → Proper cs
+    → allHold (restFindings limits start n at head w last cs) ≡ walked (checking limits n) w last cs
+unfolding every restFindings walked Same
+rest-holds limits start n at head w last ends = swap (eqb (w .coming) 0) (last .inside && eqb (last .interface + 1) n)
+rest-holds limits start n at head w last breaks = refl
+rest-holds limits start n at head w last (cutOff {d}) =
+    let stand = standOf last d in
+    let found = descriptorFindings limits start at head w last stand d in
+    every-append (λ x. x .holds) found (asked 403 (byteAt start (at + length d) 0) false ∷ []) ∙ and-false (allHold found)
+    ∙ sym (stop-same (allowed limits w last stand d) false ∙ and-false (allowed limits w last stand d))
+rest-holds limits start n at head w last (goes {d} {ds} p q) =
+    let stand = standOf last d in
+    let next = pick (isInterface d) at head in
+    let v = onward w last stand d in
+    let found = descriptorFindings limits start at head w last stand d in
+    every-append (λ x. x .holds) found (restFindings limits start n (at + length d) next v stand ds)
+    ∙ ap (λ b. b && allHold (restFindings limits start n (at + length d) next v stand ds)) (descriptor-same limits start at head w last stand d p)
+    ∙ ap (λ b. allowed limits w last stand d && b) (rest-holds limits start n (at + length d) next v stand q)
+    ∙ sym (stop-same (allowed limits w last stand d) (walked (checking limits n) v stand ds))
+
+-- ---- a body
+past : (well head rest kinds interfaces : Bool) → rest ≡ (well && (kinds && interfaces)) → (well && (head && kinds && interfaces)) ≡ (head && rest)
+past well true rest k i p = sym p
+past true false rest k i p = refl
+past false false rest k i p = refl
+
+head-same : (size start : ℕ) (d : List ℕ) → isWhole d ≡ true → (xs : List Finding)
+    → allHold (headFindings size start d ++ (headNumbers start d ++ xs)) ≡ (goodHead size d && allHold xs)
+unfolding every
+head-same size start d p xs = rw p (simp and-assoc)
+
+cut-same : (limits : Limits) (size start : ℕ) {cs : Cutting} → Proper cs
+    → allHold (cutFindings limits size start cs) ≡ (wellCut cs && goodDescriptors limits size (descriptorsOf cs))
+unfolding every restFindings wellCut goodDescriptors descriptorsOf
+cut-same limits size start ends = refl
+cut-same limits size start breaks = refl
+cut-same limits size start (cutOff {d}) = simp and-false
+cut-same limits size start (goes {d} {ds} p q) =
+    head-same size start d p (restFindings limits start (bNumInterfaces d) (length d) 0 beginning before ds)
+    ∙ ap (λ b. goodHead size d && b) (rest-holds limits start (bNumInterfaces d) (length d) 0 beginning before q)
+    ∙ sym (past (wellCut ds) (goodHead size d) _ (every (goodDescriptor limits) (descriptorsOf ds)) (goodInterfaces (bNumInterfaces d) (grouped (descriptorsOf ds))) (rest-same limits (bNumInterfaces d) ds))
+
+pub body-same : (limits : Limits) (start : ℕ) (body : List ℕ) → allHold (bodyFindings limits start body) ≡ goodConfiguration limits body
+unfolding goodConfiguration
+body-same limits start body = cut-same limits (length body) start (proper 0 body)
+
+-- ---- the entries
+abbrev isNew : List ℕ → List ℕ → Bool
+isNew earlier body = not (member (bConfigurationValue body) earlier)
+
+abbrev differ : List ℕ → List ℕ → Bool
+differ a b = not (eqb (bConfigurationValue a) (bConfigurationValue b))
+
+neither : (a b : Bool) → not (a || b) ≡ (not a && not b)
+neither true b = refl
+neither false b = refl
+
+new-one : (b : List ℕ) (earlier c : List ℕ) → isNew (bConfigurationValue b ∷ earlier) c ≡ (differ b c && isNew earlier c)
+unfolding any
+new-one b earlier c =
+    neither (eqb (bConfigurationValue c) (bConfigurationValue b)) (member (bConfigurationValue c) earlier)
+    ∙ ap (λ t. not t && isNew earlier c) (eqb-swap (bConfigurationValue c) (bConfigurationValue b))
+
+new-more : (b : List ℕ) (earlier : List ℕ) (bs : List (List ℕ)) → every (isNew (bConfigurationValue b ∷ earlier)) bs ≡ (every (differ b) bs && every (isNew earlier) bs)
+new-more b earlier bs =
+    every-alike (isNew (bConfigurationValue b ∷ earlier)) (λ c. differ b c && isNew earlier c) bs (λ c m. new-one b earlier c) ∙ every-both (differ b) (isNew earlier) bs
+
+all-new : (bs : List (List ℕ)) → every (isNew []) bs ≡ true
+unfolding every any
+all-new [] = refl
+all-new (b ∷ bs) = all-new bs
+
+five : (i l g v s : Bool) → (i && (l && (g && (v && (s && true))))) ≡ (i && l && g && v && s)
+five i l g v s = simp (and-true, and-assoc)
+
+configuration-same : (limits : Limits) (at n : ℕ) (again : Bool) (e : Entry) (body : List ℕ)
+    → allHold (configurationFindings limits at n again e body)
+    ≡ (eqb (e .index) n && eqb (e .language) 0 && goodConfiguration limits body && leb 1 (bConfigurationValue body) && not again)
+unfolding every
+configuration-same limits at n again e body =
+    let v = leb 1 (bConfigurationValue body) in
+    ap (λ b. eqb (e .index) n && (eqb (e .language) 0 && b))
+    (every-append (λ x. x .holds) (bodyFindings limits (e .offset) body) (asked 435 (byteAt (e .offset) 0 5) v ∷ asked 436 (byteAt (e .offset) 0 5) (not again) ∷ [])
+    ∙ ap (λ g. g && (v && (not again && true))) (body-same limits (e .offset) body))
+    ∙ five (eqb (e .index) n) (eqb (e .language) 0) (goodConfiguration limits body) v (not again)
+
+moved : (s d p : Bool) → (s && (d && p)) ≡ ((d && s) && p)
+moved true d p = rw (and-true d)
+moved false d p = rw (and-false d)
+
+ordered : (i l g v s n′ g′ v′ s′ d′ p′ : Bool)
+    → ((i && l && n′) && (g && g′) && (v && v′) && ((s && s′) && (d′ && p′))) ≡ ((i && l && g && v && s) && (n′ && g′ && v′ && ((d′ && s′) && p′)))
+ordered false l g v s n′ g′ v′ s′ d′ p′ = refl
+ordered true false g v s n′ g′ v′ s′ d′ p′ = refl
+ordered true true g v s false g′ v′ s′ d′ p′ = sym (and-false (g && v && s))
+ordered true true false v s true g′ v′ s′ d′ p′ = refl
+ordered true true true v s true false v′ s′ d′ p′ = sym (and-false (v && s))
+ordered true true true false s true true v′ s′ d′ p′ = refl
+ordered true true true true s true true false s′ d′ p′ = sym (and-false s)
+ordered true true true true false true true true s′ d′ p′ = refl
+ordered true true true true true true true true s′ d′ p′ = moved s′ d′ p′
+
+module _ (limits : Limits) (set : List ℕ) where
+  -- the configurations that are left, from index n on
+  unfoldable goodFrom : ℕ → List ℕ → List Entry → Bool
+  goodFrom n earlier es =
+      numberedFrom n es &&
+      every (goodConfiguration limits) (map (bodyOf set) es) &&
+      every (λ b. leb 1 (bConfigurationValue b)) (map (bodyOf set) es) &&
+      (every (isNew earlier) (map (bodyOf set) es) && pairs differ (map (bodyOf set) es))
+
+  more : (at n : ℕ) (earlier : List ℕ) (e : Entry) (es : List Entry)
+      → (allHold (configurationFindings limits at n (member (bConfigurationValue (bodyOf set e)) earlier) e (bodyOf set e)) && goodFrom (n + 1) (bConfigurationValue (bodyOf set e) ∷ earlier) es)
+      ≡ goodFrom n earlier (e ∷ es)
+  unfolding goodFrom numberedFrom every pairs
+  more at n earlier e es =
+      let b = bodyOf set e in
+      let bs = map (bodyOf set) es in
+      ap (λ c. c && goodFrom (n + 1) (bConfigurationValue b ∷ earlier) es) (configuration-same limits at n (member (bConfigurationValue b) earlier) e b)
+      ∙ rw (new-more b earlier bs)
+      (sym
+      (ordered (eqb (e .index) n) (eqb (e .language) 0) (goodConfiguration limits b) (leb 1 (bConfigurationValue b)) (isNew earlier b)
+      (numberedFrom (n + 1) es) (every (goodConfiguration limits) bs) (every (λ b. leb 1 (bConfigurationValue b)) bs) (every (isNew earlier) bs) (every (differ b) bs) (pairs differ bs)))
+
+  from-same : (at n : ℕ) (earlier : List ℕ) (es : List Entry) → allHold (configurationsFrom limits set at n earlier es) ≡ goodFrom n earlier (only (isKind 2) es)
+  unfolding every configurationsFrom only goodFrom numberedFrom pairs
+  from-same at n earlier [] = refl
+  from-same at n earlier (e ∷ es) = go (isKind 2 e) (from-same (at + 8) (n + 1) (bConfigurationValue (bodyOf set e) ∷ earlier) es) (from-same (at + 8) n earlier es)
+    where
+      found : List Finding
+      found = configurationFindings limits at n (member (bConfigurationValue (bodyOf set e)) earlier) e (bodyOf set e)
+
+      later : List Finding
+      later = configurationsFrom limits set (at + 8) (n + 1) (bConfigurationValue (bodyOf set e) ∷ earlier) es
+
+      go : (b : Bool) → allHold later ≡ goodFrom (n + 1) (bConfigurationValue (bodyOf set e) ∷ earlier) (only (isKind 2) es)
+          → allHold (configurationsFrom limits set (at + 8) n earlier es) ≡ goodFrom n earlier (only (isKind 2) es)
+          → allHold (pick b (found ++ later) (configurationsFrom limits set (at + 8) n earlier es)) ≡ goodFrom n earlier (pick b (e ∷ only (isKind 2) es) (only (isKind 2) es))
+      go true p q = every-append (λ x. x .holds) found later ∙ ap (λ b. allHold found && b) p ∙ more at n earlier e (only (isKind 2) es)
+      go false p q = q
+
+  pub configurations-same : allHold (configurationsFindings limits set) ≡ goodConfigurations limits set
+  unfolding goodConfigurations goodFrom
+  configurations-same = from-same 4 0 [] (entries set) ∙ rw (all-new (bodies 2 set))

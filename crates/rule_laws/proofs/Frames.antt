@@ -1,0 +1,101 @@
+-- Groups 1, 2, 3 and 6: all their rules hold exactly where opening's definition of the group does. No axiom.
+use Prim.Native.Nat.{ℕ, _+_, _%_}
+use mathlib.Core.Path.{_≡_, refl, sym, ap, _∙_}
+use mathlib.Core.List.{List, [], _∷_, _++_}
+use mathlib.Core.Bool.{Bool, true, false, _&&_, _||_, and-true, and-false, and-assoc}
+use lib.ListN.{length}
+use lib.Dec.{eqb, leb}
+use Rattle.octets.specs.Octets.{byte}
+use Rattle.octets.specs.Sentences.{pick, _⇒_, every}
+use Rattle.octets.proofs.Sentences.{row}
+use Rattle.descriptors.specs.declared.Limits.{Limits}
+use Rattle.descriptors.specs.Limits.{named, doubled}
+use Rattle.sets.specs.declared.Entry.{Entry}
+use Rattle.sets.specs.Contents.{total, count, bodiesAt, bodyOf, entries, entriesOf, before, goodFrame, goodContents}
+use Rattle.sets.specs.Device.{deviceBody, iSerialNumber, bDeviceClass, bDeviceSubClass, bMaxPacketSize0, bNumConfigurations, goodDevice, goodDeviceEntries}
+use Rattle.sets.specs.Opening.{goodDevices, goodSerial, goodBlock}
+use Rattle.sets.proofs.Entries.{contentsFrom, contents-all}
+use Rattle.rules.specs.Findings.{Finding}
+use Rattle.rules.specs.Frame.{frameFindings, contentsAsked, contentsFindings, noEntry}
+use Rattle.rules.specs.Device.{deviceEntryFindings, deviceFindings, serialAsked, serialFindings}
+
+abbrev pub allHold : List Finding → Bool
+allHold xs = every (λ x. x .holds) xs
+
+-- a row of `&&` asks each
+pub row-every : (a : Bool) (bs : List Bool) → row a bs ≡ (a && every (λ b. b) bs)
+unfolding every
+row-every a [] = sym (and-true a)
+row-every a (b ∷ bs) = row-every (a && b) bs ∙ and-assoc a b (every (λ b. b) bs)
+
+-- ---- group 1
+pub frame-same : (set : List ℕ) → allHold (frameFindings set) ≡ goodFrame set
+unfolding every goodFrame
+frame-same set =
+    sym
+    (row-every true
+    (leb 4 (length set) ∷ leb (length set) 16384 ∷ eqb (total set) (length set) ∷ leb 1 (count set) ∷ leb (count set) 64 ∷ eqb (byte set 3) 0 ∷ leb (bodiesAt set) (total set) ∷ []))
+
+-- ---- group 2
+sorted : (n b l o r : Bool) → (n && (b && (l && (o && r)))) ≡ ((n && l && o && b) && r)
+sorted true true true true r = refl
+sorted true true true false r = refl
+sorted true true false o r = refl
+sorted true false true true r = refl
+sorted true false true false r = refl
+sorted true false false o r = refl
+sorted false b l o r = refl
+
+asked-same : (limits : Limits) (end at : ℕ) (first : Bool) (last : Entry) (start : ℕ) (es : List Entry)
+    → allHold (contentsAsked limits end at first last start es) ≡ contentsFrom limits end first last start es
+unfolding every contentsAsked contentsFrom
+asked-same limits end at first last start [] = and-true (eqb start end)
+asked-same limits end at first last start (e ∷ es) =
+    rw (asked-same limits end (at + 8) false e (start + e .length) es)
+    (sorted (named (limits .entries) (e .kind)) (first || before last e) (leb 2 (e .length)) (eqb (e .offset) start) (contentsFrom limits end false e (start + e .length) es))
+
+pub contents-same : (limits : Limits) (set : List ℕ) → allHold (contentsFindings limits set) ≡ goodContents limits set
+unfolding goodContents
+contents-same limits set =
+    asked-same limits (total set) 4 true noEntry (bodiesAt set) (entries set) ∙ contents-all limits (total set) noEntry (bodiesAt set) (entries set)
+
+-- ---- group 3
+device-same : (limits : Limits) (set : List ℕ) (es : List Entry) → allHold (deviceEntryFindings limits set es) ≡ goodDeviceEntries limits set es
+unfolding every
+device-same limits set [] = refl
+device-same limits set (e ∷ []) =
+    let d = bodyOf set e in
+    sym
+    (and-assoc (eqb (e .index) 0) (eqb (e .language) 0) _
+    ∙ ap (λ b. eqb (e .index) 0 && (eqb (e .language) 0 && b))
+    (row-every true
+    (eqb (length d) 18 ∷ eqb (byte d 0) 18 ∷ eqb (byte d 1) 1 ∷ doubled (limits .control) (bMaxPacketSize0 d) ∷ (eqb (bDeviceClass d) 0 ⇒ eqb (bDeviceSubClass d) 0)
+    ∷ leb 1 (bNumConfigurations d) ∷ leb (bNumConfigurations d) 8 ∷ eqb (bNumConfigurations d) (length (entriesOf 2 set)) ∷ [])))
+device-same limits set (e ∷ f ∷ es) = refl
+
+pub devices-same : (limits : Limits) (set : List ℕ) → allHold (deviceFindings limits set) ≡ goodDevices limits set
+unfolding goodDevices
+devices-same limits set = device-same limits set (entriesOf 1 set)
+
+-- ---- group 6
+even-first : (e f t a b : Bool) → (e && (f && (t && (a && (b && true))))) ≡ (f && t && e && a && b)
+even-first true true true true b = and-true b
+even-first true true true false b = refl
+even-first true true false a b = refl
+even-first true false t a b = refl
+even-first false true true a b = refl
+even-first false true false a b = refl
+even-first false false t a b = refl
+
+serial-same : (index : ℕ) (block : List ℕ) → allHold (serialFindings index block) ≡ goodSerial index block
+unfolding every
+serial-same index block = go (eqb index 0)
+  where
+    go : (zero : Bool) → allHold (serialAsked zero block)
+        ≡ pick zero (eqb (length block) 0) (leb 4 (length block) && leb (length block) 254 && eqb (length block % 2) 0 && eqb (byte block 0) (length block) && eqb (byte block 1) 3)
+    go true = and-true (eqb (length block) 0)
+    go false = even-first (eqb (length block % 2) 0) (leb 4 (length block)) (leb (length block) 254) (eqb (byte block 0) (length block)) (eqb (byte block 1) 3)
+
+pub block-same : (set serial : List ℕ) → allHold (serialFindings (iSerialNumber (deviceBody set)) serial) ≡ goodBlock set serial
+unfolding goodBlock
+block-same set serial = serial-same (iSerialNumber (deviceBody set)) serial

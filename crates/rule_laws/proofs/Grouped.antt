@@ -1,0 +1,147 @@
+-- Every rule carries its group's number. No axiom.
+use Prim.Native.Nat.{ℕ, _+_}
+use mathlib.Core.Path.{_≡_, refl, _∙_}
+use mathlib.Core.List.{List, [], _∷_, _++_}
+use mathlib.Core.Bool.{Bool, true, false, _&&_}
+use lib.ListN.{length}
+use lib.Dec.{eqb}
+use Rattle.octets.specs.Sentences.{pick, every, member}
+use Rattle.octets.proofs.Sentences.{joined, every-append}
+use Rattle.descriptors.specs.declared.Limits.{Limits}
+use Rattle.descriptors.specs.declared.Setting.{Setting}
+use Rattle.descriptors.specs.declared.Stand.{Stand}
+use Rattle.descriptors.specs.declared.check.Progress.{Progress}
+use Rattle.descriptors.specs.Cut.{Cutting, whole, broken, descriptor, cut}
+use Rattle.descriptors.specs.Descriptor.{isInterface, isEndpoint, iInterface}
+use Rattle.descriptors.specs.Configuration.{bNumInterfaces, bConfigurationValue}
+use Rattle.descriptors.specs.Walk.{settingAt, before, standOf}
+use Rattle.descriptors.specs.Check.{onward, beginning}
+use Rattle.sets.specs.declared.Entry.{Entry}
+use Rattle.sets.specs.Contents.{bodyOf, isKind, entries, entriesOf, total, bodiesAt}
+use Rattle.sets.specs.Device.{deviceBody, iSerialNumber}
+use Rattle.sets.specs.Strings.{isStringZero, languages}
+use Rattle.rules.specs.Findings.{Finding}
+use Rattle.rules.specs.Frame.{frameFindings, contentsAsked, contentsFindings, noEntry}
+use Rattle.rules.specs.Device.{deviceEntryFindings, deviceFindings, serialAsked, serialFindings}
+use Rattle.rules.specs.Configuration.{isWhole, placedFindings, interfaceFindings, endpointFindings, typeFindings, restFindings, cutFindings, bodyFindings, configurationFindings, configurationsFrom, configurationsFindings}
+use Rattle.rules.specs.Strings.{languagesFrom, languageFindings, stringEntryFindings, stringsFrom, referenceFindings, interfacesFrom, bodyReferences, referencesFrom, stringsFindings}
+use Rattle.rule_laws.proofs.Groups.{inGroup}
+
+-- every rule of a list is of one group
+abbrev pub Of : ℕ → List Finding → Type 0
+Of g xs = every (inGroup g) xs ≡ true
+
+then : (g : ℕ) (xs ys : List Finding) → Of g xs → Of g ys → Of g (xs ++ ys)
+then g xs ys p q = every-append (inGroup g) xs ys ∙ joined p q
+
+choice : (g : ℕ) (b : Bool) (xs ys : List Finding) → Of g xs → Of g ys → Of g (pick b xs ys)
+choice g true xs ys p q = p
+choice g false xs ys p q = q
+
+none : (g : ℕ) → Of g []
+unfolding every
+none g = refl
+
+pub frames : (set : List ℕ) → Of 1 (frameFindings set)
+unfolding every
+frames set = refl
+
+-- ---- groups 1, 2, 3 and 6
+pub contents : (limits : Limits) (end at : ℕ) (first : Bool) (last : Entry) (start : ℕ) (es : List Entry) → Of 2 (contentsAsked limits end at first last start es)
+unfolding every contentsAsked
+contents limits end at first last start [] = refl
+contents limits end at first last start (e ∷ es) = contents limits end (at + 8) false e (start + e .length) es
+
+pub devices : (limits : Limits) (set : List ℕ) (es : List Entry) → Of 3 (deviceEntryFindings limits set es)
+unfolding every
+devices limits set [] = refl
+devices limits set (e ∷ es) = refl
+
+pub serials : (zero : Bool) (block : List ℕ) → Of 6 (serialAsked zero block)
+unfolding every
+serials true block = refl
+serials false block = refl
+
+-- ---- group 4
+placed : (inside : Bool) (start at : ℕ) (s t : Setting) → Of 4 (placedFindings inside start at s t)
+unfolding every
+placed true start at s t = refl
+placed false start at s t = refl
+
+interfaces : (start at head : ℕ) (w : Progress) (last stand : Stand) (d : List ℕ) → Of 4 (interfaceFindings start at head w last stand d)
+unfolding every
+interfaces start at head w last stand d = then 4 (placedFindings (last .inside) start at (settingAt last) (settingAt stand)) _ (placed (last .inside) start at (settingAt last) (settingAt stand)) refl
+
+endpoints : (limits : Limits) (start at head : ℕ) (w : Progress) (inside : Bool) (interface alternate : ℕ) (d : List ℕ)
+    → Of 4 (endpointFindings limits start at head w (record { inside = inside; interface = interface; alternate = alternate }) d)
+unfolding every
+endpoints limits start at head w true interface alternate d = refl
+endpoints limits start at head w false interface alternate d = refl
+
+types : (limits : Limits) (start at head : ℕ) (w : Progress) (last stand : Stand) (d : List ℕ) → Of 4 (typeFindings limits start at head w last stand d)
+types limits start at head w last stand d =
+    choice 4 (isInterface d) (interfaceFindings start at head w last stand d) _ (interfaces start at head w last stand d)
+    (choice 4 (isEndpoint d) (endpointFindings limits start at head w last d) [] (endpoints limits start at head w (last .inside) (last .interface) (last .alternate) d) (none 4))
+
+rest : (limits : Limits) (start n at head : ℕ) (w : Progress) (last : Stand) (cs : Cutting) → Of 4 (restFindings limits start n at head w last cs)
+unfolding every restFindings
+rest limits start n at head w last whole = refl
+rest limits start n at head w last broken = refl
+rest limits start n at head w last (descriptor d ds) =
+    let stand = standOf last d in
+    then 4 (typeFindings limits start at head w last stand d) _ (types limits start at head w last stand d)
+    (rest limits start n (at + length d) (pick (isInterface d) at head) (onward w last stand d) stand ds)
+
+cuts : (limits : Limits) (size start : ℕ) (cs : Cutting) → Of 4 (cutFindings limits size start cs)
+unfolding every
+cuts limits size start whole = refl
+cuts limits size start broken = refl
+cuts limits size start (descriptor d ds) = rest limits start (bNumInterfaces d) (length d) 0 beginning before ds
+
+configuration : (limits : Limits) (at n : ℕ) (again : Bool) (e : Entry) (body : List ℕ) → Of 4 (configurationFindings limits at n again e body)
+unfolding every
+configuration limits at n again e body = then 4 (bodyFindings limits (e .offset) body) _ (cuts limits (length body) (e .offset) (cut body)) refl
+
+pub configurations : (limits : Limits) (set : List ℕ) (at n : ℕ) (earlier : List ℕ) (es : List Entry) → Of 4 (configurationsFrom limits set at n earlier es)
+unfolding every configurationsFrom
+configurations limits set at n earlier [] = refl
+configurations limits set at n earlier (e ∷ es) =
+    let body = bodyOf set e in
+    let value = bConfigurationValue body in
+    choice 4 (isKind 2 e) _ _
+    (then 4 (configurationFindings limits at n (member value earlier) e body) _ (configuration limits at n (member value earlier) e body) (configurations limits set (at + 8) (n + 1) (value ∷ earlier) es))
+    (configurations limits set (at + 8) n earlier es)
+
+-- ---- group 5
+listed : (start at last : ℕ) (ls : List ℕ) → Of 5 (languagesFrom start at last ls)
+unfolding every languagesFrom
+listed start at last [] = refl
+listed start at last (l ∷ ls) = listed start (at + 2) l ls
+
+string : (ls : List ℕ) (serial at : ℕ) (e : Entry) (body : List ℕ) → Of 5 (stringEntryFindings ls serial at e body)
+unfolding every
+string ls serial at e body = then 5 (pick (isStringZero e) (languageFindings (e .offset) ls) []) _ (choice 5 (isStringZero e) (languageFindings (e .offset) ls) [] (listed (e .offset) 2 0 ls) refl) refl
+
+strings : (set ls : List ℕ) (serial at : ℕ) (es : List Entry) → Of 5 (stringsFrom set ls serial at es)
+unfolding every stringsFrom
+strings set ls serial at [] = refl
+strings set ls serial at (e ∷ es) =
+    then 5 (pick (isKind 3 e) (stringEntryFindings ls serial at e (bodyOf set e)) []) _ (choice 5 (isKind 3 e) (stringEntryFindings ls serial at e (bodyOf set e)) [] (string ls serial at e (bodyOf set e)) refl) (strings set ls serial (at + 8) es)
+
+named : (set : List ℕ) (start at : ℕ) (cs : Cutting) → Of 5 (interfacesFrom set start at cs)
+unfolding every interfacesFrom
+named set start at whole = refl
+named set start at broken = refl
+named set start at (descriptor d ds) =
+    then 5 (pick (isWhole d && isInterface d) (referenceFindings set start at 8 (iInterface d)) []) _ (choice 5 (isWhole d && isInterface d) (referenceFindings set start at 8 (iInterface d)) [] refl refl)
+    (named set start (at + length d) ds)
+
+references : (set : List ℕ) (es : List Entry) → Of 5 (referencesFrom set es)
+unfolding every referencesFrom
+references set [] = refl
+references set (e ∷ es) =
+    then 5 (pick (isKind 2 e) (bodyReferences set (e .offset) (bodyOf set e)) []) _ (choice 5 (isKind 2 e) (bodyReferences set (e .offset) (bodyOf set e)) [] (named set (e .offset) 0 (cut (bodyOf set e))) refl) (references set es)
+
+pub group-5 : (set : List ℕ) → Of 5 (stringsFindings set)
+unfolding every
+group-5 set = then 5 (stringsFrom set (languages set) (iSerialNumber (deviceBody set)) 4 (entries set)) _ (strings set (languages set) (iSerialNumber (deviceBody set)) 4 (entries set)) (references set (entries set))

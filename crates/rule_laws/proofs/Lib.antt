@@ -1,0 +1,7 @@
+pub mod Frames
+pub mod First
+pub mod Bodies
+pub mod Texts
+pub mod Groups
+pub mod Grouped
+pub mod Belongs

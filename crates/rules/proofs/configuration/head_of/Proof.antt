@@ -1,0 +1,23 @@
+-- `rules::configuration::head_of` meets its contract. No axiom.
+use mathlib.Core.Path.{_≡_, refl, sym, ap, _∙_}
+use borrow.Author.Tests.{eq-eqb, ne-eqb, le-leb, lt-leb, lt-ltb, le-ltb}
+use borrow.Author.Needs.{needs}
+use Rattle.rules.proofs.configuration.head_of.Statement.{statement}
+use Rattle.rules.proofs.configuration.head_of.Tie as tie
+
+peek-requires : tie.Need-peek-requires
+peek-requires c κs = search needs
+
+returns : tie.Need-returns
+returns c = simp (eq-eqb _ _ (sym (c .before .peek .ensures) ∙ c .if1 .taken))
+
+returns-2 : tie.Need-returns-2
+returns-2 c = simp (ne-eqb _ _ (λ e. c .if1 .left (c .before .peek .ensures ∙ e)))
+
+pub head-of-spec : {M : Type 1} → statement M
+head-of-spec =
+    tie.close
+    (tie.spec
+    peek-requires
+    returns
+    returns-2)

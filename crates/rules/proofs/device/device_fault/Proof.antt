@@ -1,0 +1,57 @@
+-- `rules::device::device_fault` meets its contract. No axiom.
+use mathlib.Core.Path.{_≡_, refl, sym, ap, _∙_}
+use Rattle.sets.specs.Contents.{entriesOf}
+use Rattle.rules.proofs.Entries.{device-found, device-missing}
+use Rattle.rules.proofs.After.{asks, ends, joins}
+use borrow.Author.Needs.{needs}
+use Rattle.rules.proofs.device.device_fault.Statement.{statement}
+use Rattle.rules.proofs.device.device_fault.Tie as tie
+
+entry-of-requires : tie.Need-entry-of-requires
+entry-of-requires c κs = search needs
+
+enum-known-e : tie.Need-enum-known-e
+enum-known-e c = search needs
+
+count-of-requires : tie.Need-count-of-requires
+count-of-requires c κs = search needs
+
+ask-requires : tie.Need-ask-requires
+ask-requires c κs = search needs
+
+one-fault-requires : tie.Need-one-fault-requires
+one-fault-requires c κs = search needs
+
+enum-told : tie.Need-enum-told
+enum-told c = search needs
+
+ask-requires-2 : tie.Need-ask-requires-2
+ask-requires-2 c κs = search needs
+
+returns : tie.Need-returns
+returns c =
+    let s = c .before .before .before .before .before .before in
+    let a = s .before .before .args in
+    let es = entriesOf 1 (a .set .now) in
+    rw (device-found (a .limits) (a .set .now) es (sym (s .entry-of .ensures) ∙ c .before .before .before .before .e .given .1))
+    (asks _ _ _ (rw (c .before .before .count-of .ensures) at (c .before .ask .ensures)) (c .one-fault .ensures))
+
+returns-2 : tie.Need-returns-2
+returns-2 c =
+    let s = c .before .before .before in
+    let a = s .before .before .args in
+    rw (device-missing (a .limits) (a .set .now) (entriesOf 1 (a .set .now)) (sym (s .entry-of .ensures) ∙ c .before .enum-told .given .1)) (ends _ _ (c .ask2 .ensures))
+
+pub device-fault-spec : {M : Type 1} → statement M
+device-fault-spec =
+    tie.close
+    (tie.spec
+    entry-of-requires
+    enum-known-e
+    count-of-requires
+    ask-requires
+    one-fault-requires
+    enum-told
+    ask-requires-2
+    returns
+    returns-2)

@@ -1,0 +1,33 @@
+-- `rules::string::interface_fault` meets its contract. No axiom.
+use mathlib.Core.Path.{_≡_, refl, sym, ap, _∙_}
+use borrow.Author.Tests.{eq-eqb, ne-eqb, le-leb, lt-leb, lt-ltb, le-ltb}
+use Rattle.rules.specs.After.{after}
+use borrow.Author.Needs.{needs}
+use Rattle.rules.proofs.string.interface_fault.Statement.{statement}
+use Rattle.rules.proofs.string.interface_fault.Tie as tie
+
+peek-requires : tie.Need-peek-requires
+peek-requires c κs = search needs
+
+peek-requires-2 : tie.Need-peek-requires-2
+peek-requires-2 c κs = search needs
+
+reference-fault-requires : tie.Need-reference-fault-requires
+reference-fault-requires c κs = search needs
+
+returns : tie.Need-returns
+returns c = simp (eq-eqb _ _ (sym (c .before .before .before .peek .ensures) ∙ c .before .before .if1 .taken)) (rw (c .before .peek2 .ensures) at (c .reference-fault .ensures))
+
+returns-2 : tie.Need-returns-2
+unfolding after
+returns-2 c = simp (ne-eqb _ _ (λ e. c .if1 .left (c .before .peek .ensures ∙ e)))
+
+pub interface-fault-spec : {M : Type 1} → statement M
+interface-fault-spec =
+    tie.close
+    (tie.spec
+    peek-requires
+    peek-requires-2
+    reference-fault-requires
+    returns
+    returns-2)

@@ -1,0 +1,138 @@
+-- `rules::string::judged_fault` meets its contract. No axiom.
+use Prim.Native.Nat.{_<_}
+use mathlib.Core.Path.{_≡_, refl, sym, ap, _∙_}
+use Rattle.sets.specs.Contents.{bodiesAt, entries, entriesOf}
+use Rattle.sets.specs.Device.{deviceBody, iManufacturer, iProduct, iSerialNumber}
+use Rattle.sets.specs.Strings.{languages, inEvery}
+use Rattle.rules.specs.Strings.{stringsFrom, referenceFindings, deviceReferences}
+use Rattle.rules.specs.After.{Judges}
+use Rattle.rules.proofs.Entries.{judged-same, none-left}
+use Rattle.rules.proofs.After.{asks, ends, joins}
+use borrow.Author.Needs.{needs}
+use Rattle.rules.proofs.string.judged_fault.Statement.{statement}
+use Rattle.rules.proofs.string.judged_fault.Tie as tie
+
+judges : (c : tie.After-in-every-language) → Judges (c .before .before .before .before .args .set .now) (c .before .before .before .before .args .there) (c .before .serial-index .result) (c .in-every-language .result)
+judges c = record {
+  found = c .before .before .before .before .pre .found;
+  index = c .before .serial-index .ensures;
+  named = λ j h. c .in-every-language .ensures j h ∙ ap (λ ls. inEvery ls (entriesOf 3 (c .before .before .before .before .args .set .now)) j) (c .before .before .before .before .pre .listed);
+}
+
+-- the device's references are bytes
+first : (c : tie.After-peek2) → iManufacturer (deviceBody (c .before .before .before .before .before .before .before .before .before .before .before .args .set .now)) < 256
+first c = rw (← c .before .before .before .before .before .before .device-body .ensures, ← c .peek2 .ensures) (search needs)
+
+second : (c : tie.After-peek3) → iProduct (deviceBody (c .before .before .before .before .before .before .before .before .before .before .before .before .before .before .args .set .now)) < 256
+second c = rw (← c .before .before .before .before .before .before .before .before .before .device-body .ensures, ← c .peek3 .ensures) (search needs)
+
+third : (c : tie.After-peek4) → iSerialNumber (deviceBody (c .before .before .before .before .before .before .before .before .before .before .before .before .before .before .before .before .before .args .set .now)) < 256
+third c = rw (← c .before .before .before .before .before .before .before .before .before .before .before .before .device-body .ensures, ← c .peek4 .ensures) (search needs)
+
+serial-index-requires : tie.Need-serial-index-requires
+serial-index-requires c κs = search needs
+
+in-every-language-requires : tie.Need-in-every-language-requires
+in-every-language-requires c κs = search needs
+
+device-body-requires : tie.Need-device-body-requires
+device-body-requires c κs = search needs
+
+peek-requires : tie.Need-peek-requires
+peek-requires c κs = search needs
+
+cast-start : tie.Need-cast-start
+cast-start c = search needs
+
+mul-start : tie.Need-mul-start
+mul-start c = search needs
+
+add-start : tie.Need-add-start
+add-start c = search needs
+
+count-of-requires : tie.Need-count-of-requires
+count-of-requires c κs = search needs
+
+count-of-requires-2 : tie.Need-count-of-requires-2
+count-of-requires-2 c κs = search needs
+
+cast-ask : tie.Need-cast-ask
+cast-ask c = search needs
+
+mul-ask : tie.Need-mul-ask
+mul-ask c = search needs
+
+add-ask : tie.Need-add-ask
+add-ask c = search needs
+
+ask-requires : tie.Need-ask-requires
+ask-requires c κs = search needs
+
+entries-fault-requires : tie.Need-entries-fault-requires
+entries-fault-requires c κs = search needs
+
+peek-requires-2 : tie.Need-peek-requires-2
+peek-requires-2 c κs = search needs
+
+reference-fault-requires : tie.Need-reference-fault-requires
+reference-fault-requires c κs = search needs
+
+peek-requires-3 : tie.Need-peek-requires-3
+peek-requires-3 c κs = search needs
+
+reference-fault-requires-2 : tie.Need-reference-fault-requires-2
+reference-fault-requires-2 c κs = search needs
+
+peek-requires-4 : tie.Need-peek-requires-4
+peek-requires-4 c κs = search needs
+
+reference-fault-requires-3 : tie.Need-reference-fault-requires-3
+reference-fault-requires-3 c κs = search needs
+
+references-fault-requires : tie.Need-references-fault-requires
+references-fault-requires c κs = judges (c .before .before .before .before .before .before .before .before .before .before .before .before .before .before .before .before)
+
+returns : tie.Need-returns
+returns c =
+    let j = judges (c .before .before .before .before .before .before .before .before .before .before .before .before .before .before .before .before .before) in
+    let a = c .before .before .before .before .before .before .before .before .before .before .before .before .before .before .before .before .before .before .before .before .before .args in
+    let p = c .before .before .before .before .before .before .before .before .before .before .before .before .before .before .before .before .before .before .before .before .before .pre in
+    let set = a .set .now in
+    let d = deviceBody set in
+    let at = c .before .before .before .before .before .before .before .before .before .before .before .before .before .before .before .peek .ensures in
+    let b = c .before .before .before .before .before .before .before .before .before .before .before .before .before .before .before .before .device-body .ensures in
+    let s = bodiesAt set in
+    asks _ _ _ (rw (c .before .before .before .before .before .before .before .before .before .before .before .before .before .count-of2 .ensures, c .before .before .before .before .before .before .before .before .before .before .before .before .before .before .count-of .ensures, none-left (entriesOf 3 set), p .found) at (c .before .before .before .before .before .before .before .before .before .before .before .before .ask .ensures))
+    (joins _ (stringsFrom set (languages set) (iSerialNumber d) 4 (entries set)) _ (rw (p .listed, c .before .before .before .before .before .before .before .before .before .before .before .before .before .before .before .before .before .before .serial-index .ensures) at (c .before .before .before .before .before .before .before .before .before .before .before .entries-fault .ensures))
+    (joins _ (deviceReferences set) _
+    (joins _ (referenceFindings set s 0 14 (iManufacturer d)) _ (rw (at, c .before .before .before .before .before .before .before .before .before .before .peek2 .ensures, b, judged-same j s 0 14 (iManufacturer d) (first (c .before .before .before .before .before .before .before .before .before .before))) at (c .before .before .before .before .before .before .before .before .reference-fault .ensures))
+    (joins _ (referenceFindings set s 0 15 (iProduct d)) _ (rw (at, c .before .before .before .before .before .before .before .peek3 .ensures, b, judged-same j s 0 15 (iProduct d) (second (c .before .before .before .before .before .before .before))) at (c .before .before .before .before .before .reference-fault2 .ensures))
+    (rw (at, c .before .before .before .before .peek4 .ensures, b, judged-same j s 0 16 (iSerialNumber d) (third (c .before .before .before .before))) at (c .before .before .reference-fault3 .ensures))))
+    (c .references-fault .ensures)))
+
+pub judged-fault-spec : {M : Type 1} → statement M
+judged-fault-spec =
+    tie.close
+    (tie.spec
+    serial-index-requires
+    in-every-language-requires
+    device-body-requires
+    peek-requires
+    cast-start
+    mul-start
+    add-start
+    count-of-requires
+    count-of-requires-2
+    cast-ask
+    mul-ask
+    add-ask
+    ask-requires
+    entries-fault-requires
+    peek-requires-2
+    reference-fault-requires
+    peek-requires-3
+    reference-fault-requires-2
+    peek-requires-4
+    reference-fault-requires-3
+    references-fault-requires
+    returns)

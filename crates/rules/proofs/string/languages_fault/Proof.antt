@@ -1,0 +1,82 @@
+-- `rules::string::languages_fault` meets its contract. No axiom.
+use Prim.Native.Nat.{_+_, _-_, _≤_}
+use native.Mathlib.Omega.{arith}
+use mathlib.Core.Path.{_≡_, refl, sym, ap, _∙_}
+use lib.ListN.{length, drop}
+use Rattle.sets.specs.Strings.{words}
+use Rattle.sets.proofs.Strings.{words-more, words-end}
+use Rattle.rules.specs.Strings.{languagesFrom}
+use Rattle.rules.specs.After.{after}
+use Rattle.rules.proofs.Entries.{languages-turn, languages-end}
+use borrow.Author.Needs.{needs}
+use Rattle.rules.proofs.string.languages_fault.Statement.{statement}
+use Rattle.rules.proofs.string.languages_fault.Tie as tie
+
+abbrev Inv-loop : tie.InvT-loop
+Inv-loop zero start found₀ last₀ at₀ found last at =
+    (at ≤ length zero + 2) × (after found₀ (languagesFrom start 2 0 (words (drop 2 zero))) ≡ after found (languagesFrom start at last (words (drop at zero))))
+
+abbrev μ-loop : tie.MeasureT-loop
+μ-loop zero start found₀ last₀ at₀ found last at = length zero - at
+
+loop-holds : tie.Need-loop-holds Inv-loop μ-loop
+loop-holds c = (omega arith, refl)
+
+add-loop : tie.Need-add-loop Inv-loop μ-loop
+add-loop c = search needs
+
+cast-place : tie.Need-cast-place Inv-loop μ-loop
+cast-place c = omega (arith, c .loop-test .taken, c .before .before .before .pre)
+
+word-requires : tie.Need-word-requires Inv-loop μ-loop
+word-requires c κs = search needs
+
+ask-requires : tie.Need-ask-requires Inv-loop μ-loop
+ask-requires c κs = search needs
+
+ask-requires-2 : tie.Need-ask-requires-2 Inv-loop μ-loop
+ask-requires-2 c κs = search needs
+
+add-at : tie.Need-add-at Inv-loop μ-loop
+add-at c = search needs
+
+loop-less : tie.Need-loop-less Inv-loop μ-loop
+loop-less c = search needs
+
+loop-again : tie.Need-loop-again Inv-loop μ-loop
+loop-again c =
+    let w = c .before .before in
+    let l = w .before .before .loop in
+    let a = w .before .before .before .before .args in (
+      omega arith,
+      l .inv .1
+          ∙ ap (λ ls. after (l .found) (languagesFrom (a .start) (l .at) (l .last) ls)) (words-more (a .zero .now) (l .at) (w .before .loop-test .taken))
+          ∙ languages-turn (a .start) (l .at) (l .last) _ _ (l .found)
+          ∙ rw (c .ask2 .ensures, c .before .ask .ensures, w .word .ensures),
+    )
+
+returns : tie.Need-returns Inv-loop μ-loop
+returns c =
+    let l = c .before .loop in
+    let a = c .before .before .before .args in
+    sym
+    (l .inv .1
+    ∙ ap (λ ls. after (l .found) (languagesFrom (a .start) (l .at) (l .last) ls)) (words-end (a .zero .now) (l .at) (c .loop-test .left))
+    ∙ languages-end (a .start) (l .at) (l .last) (l .found))
+
+pub languages-fault-spec : {M : Type 1} → statement M
+languages-fault-spec =
+    tie.close
+    (tie.spec
+    Inv-loop
+    μ-loop
+    loop-holds
+    add-loop
+    cast-place
+    word-requires
+    ask-requires
+    ask-requires-2
+    add-at
+    loop-less
+    loop-again
+    returns)

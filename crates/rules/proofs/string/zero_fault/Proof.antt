@@ -1,0 +1,35 @@
+-- `rules::string::zero_fault` meets its contract. No axiom.
+use Rattle.rules.specs.After.{after}
+use Rattle.rules.proofs.Entries.{one-at-least, four-at-most}
+use Rattle.rules.proofs.After.{asks, ends, joins}
+use borrow.Author.Needs.{needs}
+use Rattle.rules.proofs.string.zero_fault.Statement.{statement}
+use Rattle.rules.proofs.string.zero_fault.Tie as tie
+
+ask-requires : tie.Need-ask-requires
+ask-requires c κs = search needs
+
+ask-requires-2 : tie.Need-ask-requires-2
+ask-requires-2 c κs = search needs
+
+languages-fault-requires : tie.Need-languages-fault-requires
+languages-fault-requires c κs = search needs
+
+returns : tie.Need-returns
+returns c =
+    rw (c .before .before .before .if1 .taken)
+    (asks _ _ _ (rw (one-at-least _) at (c .before .before .ask .ensures)) (asks _ _ _ (rw (four-at-most _) at (c .before .ask2 .ensures)) (c .languages-fault .ensures)))
+
+returns-2 : tie.Need-returns-2
+unfolding after
+returns-2 c = rw (c .if1 .left)
+
+pub zero-fault-spec : {M : Type 1} → statement M
+zero-fault-spec =
+    tie.close
+    (tie.spec
+    ask-requires
+    ask-requires-2
+    languages-fault-requires
+    returns
+    returns-2)

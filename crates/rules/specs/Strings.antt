@@ -1,0 +1,85 @@
+-- Group 5, rule by rule: the strings entry by entry, and then the references, since they are judged by the languages that string 0 lists. Places are bytes of the set.
+use Prim.Native.Nat.{ℕ, _+_, _*_, _%_}
+use mathlib.Core.List.{List, [], _∷_, _++_}
+use mathlib.Core.Bool.{Bool, _&&_, _||_}
+use lib.ListN.{length}
+use lib.Dec.{eqb, leb, ltb}
+use Rattle.octets.specs.Octets.{byte}
+use Rattle.octets.specs.Sentences.{pick, _⇒_, isSome, isEmpty}
+use Rattle.descriptors.specs.Cut.{Cutting, whole, broken, descriptor, cut}
+use Rattle.descriptors.specs.Descriptor.{isInterface, iInterface}
+use Rattle.descriptors.specs.Configuration.{iConfiguration}
+use Rattle.sets.specs.declared.Entry.{Entry}
+use Rattle.sets.specs.Contents.{bodiesAt, bodyOf, isKind, entries, entriesOf}
+use Rattle.sets.specs.Device.{deviceBody, iManufacturer, iProduct, iSerialNumber}
+use Rattle.sets.specs.Strings.{isStringZero, stringZero, languages, languageZero, listed, notSerial, goodReference}
+use Rattle.rules.specs.Findings.{Finding, asked, byteAt}
+use Rattle.rules.specs.Configuration.{isWhole}
+
+-- ---- the strings
+-- "Index 0 lists one to four languages, nonzero, strictly ascending": the languages from `at` on, after `last`, of a body that begins at `start`
+unfoldable pub languagesFrom : ℕ → ℕ → ℕ → List ℕ → List Finding
+languagesFrom start at last [] = []
+languagesFrom start at last (l ∷ ls) =
+    asked 507 (byteAt start at 0) (leb 1 l) ∷ asked 508 (byteAt start at 0) (ltb last l) ∷ languagesFrom start (at + 2) l ls
+
+abbrev pub languageFindings : ℕ → List ℕ → List Finding
+languageFindings start ls =
+    asked 505 (byteAt start 0 0) (leb 1 (length ls)) ∷ asked 506 (byteAt start 0 10) (leb (length ls) 4) ∷ languagesFrom start 2 0 ls
+
+-- "every string body has bLength equal to its length, type byte 3 and even length up to 254"
+abbrev pub stringFindings : ℕ → List ℕ → List Finding
+stringFindings start body =
+    asked 501 (byteAt start 0 0) (eqb (byte body 0) (length body)) ∷
+    asked 502 (byteAt start 0 1) (eqb (byte body 1) 3) ∷
+    asked 503 (byteAt start 0 0) (eqb (length body % 2) 0 && leb (length body) 254) ∷ []
+
+-- an entry at `at`: its body; "Language 0 goes with index 0 and no other"; the languages, if it is string 0; "Other entries use listed languages";
+-- "No entry has the index iSerialNumber when that is nonzero"
+abbrev pub stringEntryFindings : List ℕ → ℕ → ℕ → Entry → List ℕ → List Finding
+stringEntryFindings ls serial at e body =
+    stringFindings (e .offset) body ++
+    (asked 504 (byteAt 0 at 2) (languageZero e) ∷
+    (pick (isStringZero e) (languageFindings (e .offset) ls) [] ++
+    (asked 509 (byteAt 0 at 2) (listed ls e) ∷ asked 511 (byteAt 0 at 1) (notSerial serial e) ∷ [])))
+
+-- the entries from `at` on
+unfoldable pub stringsFrom : List ℕ → List ℕ → ℕ → ℕ → List Entry → List Finding
+stringsFrom set ls serial at [] = []
+stringsFrom set ls serial at (e ∷ es) =
+    pick (isKind 3 e) (stringEntryFindings ls serial at e (bodyOf set e)) [] ++ stringsFrom set ls serial (at + 8) es
+
+-- ---- the references
+-- a reference whose byte is byte k of what begins at `at` of what begins at `start`: "If there is any .. nonzero reference, index 0 is there"; "Each nonzero reference ..
+-- is iSerialNumber's value or has an entry in every listed language"
+abbrev pub referenceFindings : List ℕ → ℕ → ℕ → ℕ → ℕ → List Finding
+referenceFindings set start at k r =
+    asked 510 (byteAt start at k) (leb 1 r ⇒ isSome (stringZero set)) ∷
+    asked 512 (byteAt start at k) (goodReference (languages set) (entriesOf 3 set) (iSerialNumber (deviceBody set)) r) ∷ []
+
+-- the iInterface of every interface descriptor, from `at` on
+unfoldable pub interfacesFrom : List ℕ → ℕ → ℕ → Cutting → List Finding
+interfacesFrom set start at whole = []
+interfacesFrom set start at broken = []
+interfacesFrom set start at (descriptor d ds) =
+    pick (isWhole d && isInterface d) (referenceFindings set start at 8 (iInterface d)) [] ++ interfacesFrom set start (at + length d) ds
+
+abbrev pub bodyReferences : List ℕ → ℕ → List ℕ → List Finding
+bodyReferences set start body = referenceFindings set start 0 6 (iConfiguration body) ++ interfacesFrom set start 0 (cut body)
+
+unfoldable pub referencesFrom : List ℕ → List Entry → List Finding
+referencesFrom set [] = []
+referencesFrom set (e ∷ es) = pick (isKind 2 e) (bodyReferences set (e .offset) (bodyOf set e)) [] ++ referencesFrom set es
+
+-- the device descriptor is the first body
+abbrev pub deviceReferences : List ℕ → List Finding
+deviceReferences set =
+    referenceFindings set (bodiesAt set) 0 14 (iManufacturer (deviceBody set)) ++
+    (referenceFindings set (bodiesAt set) 0 15 (iProduct (deviceBody set)) ++
+    referenceFindings set (bodiesAt set) 0 16 (iSerialNumber (deviceBody set)))
+
+-- "If there is any string entry .., index 0 is there", where it has to stand: first of all strings, behind the entries of the device and of the configurations
+abbrev pub stringsFindings : List ℕ → List Finding
+stringsFindings set =
+    asked 510 (byteAt 0 (12 + 8 * length (entriesOf 2 set)) 0) (isEmpty (entriesOf 3 set) || isSome (stringZero set)) ∷
+    (stringsFrom set (languages set) (iSerialNumber (deviceBody set)) 4 (entries set) ++ (deviceReferences set ++ referencesFrom set (entries set)))

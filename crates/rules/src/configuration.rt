@@ -1,0 +1,398 @@
+// Group 4, rule by rule: entry by entry, and in a body descriptor by descriptor.
+use crate::Fault;
+use crate::ask;
+use descriptors::Limits;
+use descriptors::Setting;
+use descriptors::Stand;
+use descriptors::check::Progress;
+use octets::table::holds;
+use octets::table::join;
+use sets::Entry;
+use sets::contents::body_of;
+use sets::contents::entry_at;
+ghost use mathlib.Core.Path.{_≡_};
+ghost use mathlib.Core.Bool.{false};
+ghost use Prim.Native.Nat.{_<_};
+ghost use lib.ListN.{length, drop};
+ghost use Rattle.octets.specs.Sentences.{pick};
+ghost use lib.Dec.{leb};
+ghost use Rattle.descriptors.specs.Cut.{cut};
+ghost use Rattle.descriptors.specs.Descriptor.{isInterface};
+ghost use Rattle.descriptors.specs.Walk.{before, settingAt};
+ghost use Rattle.descriptors.specs.Check.{beginning};
+ghost use Rattle.rules.specs.Findings.{asked, byteAt};
+ghost use Rattle.rules.specs.Configuration.{headFindings, headNumbers, placedFindings, interfaceFindings, surplus, numberFindings, sizeFindings, intervalFindings, addressFindings, endpointFindings, typeFindings, descriptorFindings, endFindings, restFindings, bodyFindings, configurationFindings, configurationsFindings};
+ghost use Rattle.rules.specs.After.{orBroken, after};
+
+// ---- one descriptor, which begins at `at` of a body that begins at `start`
+// The first, of a body of so many bytes.
+fn head_fault(found: Fault, d: &[u8], size: usize, start: u16) -> Fault
+    ensures { λ r. ⌜ r ≡ after found (headFindings size start (now (d .entry))) ⌝ }
+{
+    let found = ask(
+        found,
+        404,
+        start,
+        0,
+        0,
+        d.len() == octets::peek(d, 0) as usize,
+    );
+    let found = ask(found, 405, start, 0, 1, octets::peek(d, 1) == 2);
+    let found = ask(found, 406, start, 0, 0, 9 <= d.len());
+    ask(found, 407, start, 0, 2, octets::word(d, 2) as usize == size)
+}
+
+fn head_numbers_fault(found: Fault, d: &[u8], start: u16) -> Fault
+    ensures { λ r. ⌜ r ≡ after found (headNumbers start (now (d .entry))) ⌝ }
+{
+    let attributes = octets::peek(d, 7);
+    let interfaces = octets::peek(d, 4);
+    let found = ask(found, 408, start, 0, 7, attributes / 128 == 1);
+    let found = ask(found, 409, start, 0, 7, attributes % 32 == 0);
+    let found = ask(found, 410, start, 0, 8, octets::peek(d, 8) <= 250);
+    let found = ask(found, 414, start, 0, 4, 1 <= interfaces);
+    ask(found, 415, start, 0, 4, interfaces <= 16)
+}
+
+// Setting `t` after one that stands at `last`: a later one, or the first.
+fn placed_fault(found: Fault, start: u16, at: u16, last: Stand, t: Setting) -> Fault
+    ensures { λ r. ⌜ r ≡ after found (placedFindings (last .inside) start at (settingAt last) t) ⌝ }
+{
+    if last.inside {
+        let same = t.interface == last.interface;
+        let next = t.interface as u16 == last.interface as u16 + 1;
+        let follows = (same & (t.alternate as u16 == last.alternate as u16 + 1))
+            | (next & (t.alternate == 0));
+        return ask(found, 418, start, at, wrong_byte(same | next), follows);
+    }
+    let found = ask(found, 416, start, at, 2, t.interface == 0);
+    ask(found, 417, start, at, 3, t.alternate == 0)
+}
+
+// bAlternateSetting, where the number may stand; else bInterfaceNumber.
+fn wrong_byte(may_number: bool) -> u8
+    ensures { λ r. ⌜ r ≡ pick «may_number» 3 2 ⌝ }
+{
+    if may_number {
+        return 3;
+    }
+    2
+}
+
+// An interface descriptor, which stands at `stand`; the interface descriptor before it begins at `head`.
+fn interface_fault(
+    found: Fault,
+    d: &[u8],
+    start: u16,
+    at: u16,
+    head: u16,
+    progress: Progress,
+    last: Stand,
+    stand: Stand,
+) -> Fault
+    ensures { λ r. ⌜ r ≡ after found (interfaceFindings start at head progress last stand (now (d .entry))) ⌝ }
+{
+    let begun = Setting {
+        interface: stand.interface,
+        alternate: stand.alternate,
+    };
+    let found = ask(found, 421, start, head, 4, progress.coming == 0);
+    let found = ask(found, 412, start, at, 0, 9 <= d.len());
+    let found = placed_fault(found, start, at, last, begun);
+    ask(found, 420, start, at, 3, stand.alternate <= 15)
+}
+
+// The address and the attributes of an endpoint descriptor.
+fn numbers_fault(found: Fault, start: u16, at: u16, address: u8, attributes: u8) -> Fault
+    ensures { λ r. ⌜ r ≡ after found (numberFindings start at address attributes) ⌝ }
+{
+    let transfer = attributes % 4;
+    let found = ask(found, 423, start, at, 2, address / 16 % 8 == 0);
+    let found = ask(found, 424, start, at, 2, 1 <= address % 16);
+    let found = ask(found, 425, start, at, 3, attributes <= 63);
+    let found = ask(found, 426, start, at, 3, 1 <= transfer);
+    ask(
+        found,
+        427,
+        start,
+        at,
+        3,
+        (attributes <= 3) | (transfer == 1),
+    )
+}
+
+fn size_fault(found: Fault, start: u16, at: u16, transfer: u8, size: u16, limits: Limits) -> Fault
+    ensures { λ r. ⌜ r ≡ after found (sizeFindings limits start at transfer size) ⌝ }
+{
+    let bulk = descriptors::check::is_doubled(limits.bulk, size);
+    let interrupt = descriptors::check::is_sized(limits, limits.interrupt, size);
+    let isochronous = descriptors::check::is_sized(limits, limits.isochronous, size);
+    let found = ask(found, 428, start, at, 4, !(transfer == 2) | bulk);
+    let found = ask(found, 429, start, at, 4, !(transfer == 3) | interrupt);
+    ask(found, 430, start, at, 4, !(transfer == 1) | isochronous)
+}
+
+fn interval_fault(
+    found: Fault,
+    start: u16,
+    at: u16,
+    transfer: u8,
+    interval: u8,
+    limits: Limits,
+) -> Fault
+    ensures { λ r. ⌜ r ≡ after found (intervalFindings limits start at transfer interval) ⌝ }
+{
+    let polling = descriptors::check::is_within(limits.polling, interval as u16);
+    let period = descriptors::check::is_within(limits.period, interval as u16);
+    let found = ask(found, 431, start, at, 6, !(transfer == 3) | polling);
+    ask(found, 432, start, at, 6, !(transfer == 1) | period)
+}
+
+// An endpoint's address among those that were seen.
+fn address_fault(found: Fault, start: u16, at: u16, progress: Progress, address: u8) -> Fault
+    ensures { λ r. ⌜ r ≡ after found (addressFindings start at progress address) ⌝ }
+{
+    let e = descriptors::lookup::bit_of(address);
+    let seen = octets::test_bit(progress.seen, e);
+    let here = octets::test_bit(progress.setting, e);
+    let near = octets::test_bit(progress.interface, e);
+    let found = ask(found, 433, start, at, 2, !seen | !here);
+    ask(found, 434, start, at, 2, !seen | near)
+}
+
+// One endpoint more: in a setting, or before the first interface.
+fn surplus_fault(
+    found: Fault,
+    inside: bool,
+    start: u16,
+    at: u16,
+    head: u16,
+    progress: Progress,
+) -> Fault
+    ensures { λ r. ⌜ r ≡ orBroken found (surplus inside start at head progress) ⌝ }
+{
+    if inside {
+        return ask(found, 421, start, head, 4, 1 <= progress.coming);
+    }
+    ask(found, 422, start, at, 0, 1 <= progress.coming)
+}
+
+fn endpoint_fault(
+    found: Fault,
+    d: &[u8],
+    start: u16,
+    at: u16,
+    head: u16,
+    progress: Progress,
+    last: Stand,
+    limits: Limits,
+) -> Fault
+    ensures { λ r. ⌜ r ≡ after found (endpointFindings limits start at head progress last (now (d .entry))) ⌝ }
+{
+    let address = octets::peek(d, 2);
+    let attributes = octets::peek(d, 3);
+    let size = octets::word(d, 4);
+    let interval = octets::peek(d, 6);
+    let found = ask(found, 413, start, at, 0, 7 <= d.len());
+    let found = surplus_fault(found, last.inside, start, at, head, progress);
+    let found = numbers_fault(found, start, at, address, attributes);
+    let found = size_fault(found, start, at, attributes % 4, size, limits);
+    let found = interval_fault(found, start, at, attributes % 4, interval, limits);
+    address_fault(found, start, at, progress, address)
+}
+
+// A descriptor by its type.
+fn type_fault(
+    found: Fault,
+    d: &[u8],
+    start: u16,
+    at: u16,
+    head: u16,
+    progress: Progress,
+    last: Stand,
+    stand: Stand,
+    limits: Limits,
+) -> Fault
+    ensures { λ r. ⌜ r ≡ after found (typeFindings limits start at head progress last stand (now (d .entry))) ⌝ }
+{
+    let t = octets::peek(d, 1);
+    if t == 4 {
+        return interface_fault(found, d, start, at, head, progress, last, stand);
+    }
+    if t == 5 {
+        return endpoint_fault(found, d, start, at, head, progress, last, limits);
+    }
+    found
+}
+
+// Any descriptor after the first.
+fn descriptor_fault(
+    found: Fault,
+    d: &[u8],
+    start: u16,
+    at: u16,
+    head: u16,
+    progress: Progress,
+    last: Stand,
+    stand: Stand,
+    limits: Limits,
+) -> Fault
+    ensures { λ r. ⌜ r ≡ after found (descriptorFindings limits start at head progress last stand (now (d .entry))) ⌝ }
+{
+    let refused = descriptors::check::is_named(limits.refused, octets::peek(d, 1));
+    let found = ask(
+        found,
+        404,
+        start,
+        at,
+        0,
+        d.len() == octets::peek(d, 0) as usize,
+    );
+    let found = ask(found, 411, start, at, 1, !refused);
+    type_fault(found, d, start, at, head, progress, last, stand, limits)
+}
+
+// ---- a body, which begins at `start`
+// Where no step leads on: a bLength below 2, or past the body's end.
+fn stuck_fault(found: Fault, size: u8, start: u16, at: u16) -> Fault
+    ensures { λ r. ⌜ r ≡ orBroken found (asked (pick (leb 2 size) 404 403) (byteAt start at 0) false) ⌝ }
+{
+    if 2 <= size {
+        return ask(found, 404, start, at, 0, false);
+    }
+    ask(found, 403, start, at, 0, false)
+}
+
+fn end_fault(
+    found: Fault,
+    start: u16,
+    interfaces: u8,
+    head: u16,
+    progress: Progress,
+    last: Stand,
+) -> Fault
+    ensures { λ r. ⌜ r ≡ after found (endFindings start interfaces head progress last) ⌝ }
+{
+    let all = last.inside & (last.interface as u16 + 1 == interfaces as u16);
+    let found = ask(found, 421, start, head, 4, progress.coming == 0);
+    ask(found, 419, start, 0, 4, all)
+}
+
+// Where the interface descriptor begins that the next descriptors belong to.
+fn head_of(d: &[u8], at: u16, head: u16) -> u16
+    ensures { λ r. ⌜ r ≡ pick (isInterface (now (d .entry))) at head ⌝ }
+{
+    if octets::peek(d, 1) == 4 {
+        return at;
+    }
+    head
+}
+
+// The descriptors from `from` on, for so many interfaces.
+fn rest_fault(
+    found: Fault,
+    body: &[u8],
+    from: usize,
+    start: u16,
+    interfaces: u8,
+    limits: Limits,
+) -> Fault
+    requires { ⌜ length (now body) < 65536 ⌝ }
+    ensures { λ r. ⌜ r ≡ after found (restFindings limits start interfaces from 0 beginning before (cut (drop from (now (body .entry))))) ⌝ }
+{
+    let mut found = found;
+    let mut progress = descriptors::check::start();
+    let mut last = descriptors::outside();
+    let mut head: u16 = 0;
+    let mut at = from;
+    while at < body.len() {
+        let place = at as u16;
+        let step = descriptors::advance(body, at, last);
+        let end = step.end;
+        if end <= at {
+            return stuck_fault(found, octets::peek(body, at), start, place);
+        }
+        let d = &body[at..end];
+        found = descriptor_fault(
+            found,
+            d,
+            start,
+            place,
+            head,
+            progress,
+            last,
+            step.stand,
+            limits,
+        );
+        progress = descriptors::check::move_on(d, progress, last, step.stand);
+        head = head_of(d, place, head);
+        last = step.stand;
+        at = end;
+    }
+    end_fault(found, start, interfaces, head, progress, last)
+}
+
+fn body_fault(found: Fault, body: &[u8], start: u16, limits: Limits) -> Fault
+    requires { ⌜ length (now body) < 65536 ⌝ }
+    ensures { λ r. ⌜ r ≡ after found (bodyFindings limits start (now (body .entry))) ⌝ }
+{
+    if body.len() == 0 {
+        return ask(found, 405, start, 0, 0, false);
+    }
+    let step = descriptors::advance(body, 0, descriptors::outside());
+    let end = step.end;
+    if end == 0 {
+        return stuck_fault(found, octets::peek(body, 0), start, 0);
+    }
+    let head = &body[..end];
+    let found = head_fault(found, head, body.len(), start);
+    let found = head_numbers_fault(found, head, start);
+    rest_fault(found, body, end, start, octets::peek(head, 4), limits)
+}
+
+// ---- the entries
+// A configuration's entry at `at`: the index that it has to have, its body, and whether its value was there before.
+fn configuration_fault(
+    found: Fault,
+    e: Entry,
+    at: u16,
+    index: u8,
+    body: &[u8],
+    again: bool,
+    limits: Limits,
+) -> Fault
+    requires { ⌜ length (now body) < 65536 ⌝ }
+    ensures { λ r. ⌜ r ≡ after found (configurationFindings limits at index again e (now (body .entry))) ⌝ }
+{
+    let start = e.offset;
+    let found = ask(found, 401, 0, at, 1, e.index == index);
+    let found = ask(found, 402, 0, at, 2, e.language == 0);
+    let found = body_fault(found, body, start, limits);
+    let found = ask(found, 435, start, 0, 5, 1 <= octets::peek(body, 5));
+    ask(found, 436, start, 0, 5, !again)
+}
+
+// Group 4: a pass over the entries, with the index that is next and the values that were there.
+pub fn configurations_fault(set: &[u8], limits: Limits, found: Fault) -> Fault
+    ensures { λ r. ⌜ r ≡ after found (configurationsFindings limits (now (set .entry))) ⌝ }
+{
+    let count = octets::peek(set, 2);
+    let mut found = found;
+    let mut index: u8 = 0;
+    let mut seen = [0u32; 8];
+    let mut i: u8 = 0;
+    while i < count {
+        let e = entry_at(set, i);
+        let at = 4 + 8 * (i as u16);
+        i += 1;
+        if e.kind == 2 {
+            let body = body_of(set, e);
+            let value = octets::peek(body, 5);
+            let again = holds(&seen, value);
+            found = configuration_fault(found, e, at, index, body, again, limits);
+            join(&mut seen, value);
+            index += 1;
+        }
+    }
+    found
+}

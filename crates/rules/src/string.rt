@@ -1,0 +1,269 @@
+// Group 5, rule by rule: the strings entry by entry, then the references.
+use crate::Fault;
+use crate::ask;
+use octets::table::holds;
+use sets::Entry;
+use sets::EntryFound;
+use sets::contents::body_of;
+use sets::contents::count_of;
+use sets::contents::entry_at;
+use sets::contents::find_entry;
+use sets::device::device_body;
+use sets::device::serial_index;
+ghost use mathlib.Core.Path.{_≡_};
+ghost use mathlib.Core.List.{[], _∷_};
+ghost use mathlib.Core.Bool.{_||_};
+ghost use Prim.Native.Nat.{ℕ, _+_, _<_};
+ghost use lib.Dec.{eqb, leb};
+ghost use lib.ListN.{length, drop};
+ghost use Rattle.octets.specs.Sentences.{pick, isSome, _⇒_};
+ghost use Rattle.octets.specs.Table.{has};
+ghost use Rattle.descriptors.specs.Descriptor.{isInterface, iInterface};
+ghost use Rattle.sets.specs.Contents.{bodyOf, entries};
+ghost use Rattle.sets.specs.Strings.{words, stringZero, languages};
+ghost use Rattle.rules.specs.Findings.{asked};
+ghost use Rattle.rules.specs.Strings.{languagesFrom, languageFindings, stringFindings, stringEntryFindings, stringsFrom, bodyReferences, referencesFrom, stringsFindings};
+ghost use Rattle.rules.specs.After.{after, judged, Judges, StringZero};
+
+// ---- the strings
+// The languages that string 0 lists, one after another; it begins at `start`.
+fn languages_fault(found: Fault, zero: &[u8], start: u16) -> Fault
+    requires { ⌜ length (now zero) < 65536 ⌝ }
+    ensures { λ r. ⌜ r ≡ after found (languagesFrom start 2 0 (words (drop 2 (now (zero .entry))))) ⌝ }
+{
+    let mut found = found;
+    let mut last: u16 = 0;
+    let mut at = 2;
+    while at + 1 < zero.len() {
+        let place = at as u16;
+        let language = octets::word(zero, at);
+        found = ask(found, 507, start, place, 0, 1 <= language);
+        found = ask(found, 508, start, place, 0, last < language);
+        last = language;
+        at += 2;
+    }
+    found
+}
+
+// String 0's languages, if this is string 0.
+fn zero_fault(found: Fault, first: bool, zero: &[u8], start: u16) -> Fault
+    requires { ⌜ length (now zero) < 65536 ⌝ }
+    ensures { λ r. ⌜ r ≡ after found (pick first (languageFindings start (words (drop 2 (now (zero .entry))))) []) ⌝ }
+{
+    if first {
+        let found = ask(found, 505, start, 0, 0, 4 <= zero.len());
+        let found = ask(found, 506, start, 0, 10, zero.len() <= 11);
+        return languages_fault(found, zero, start);
+    }
+    found
+}
+
+// A string's body, which begins at `start`.
+fn body_fault(found: Fault, body: &[u8], start: u16) -> Fault
+    ensures { λ r. ⌜ r ≡ after found (stringFindings start (now (body .entry))) ⌝ }
+{
+    let size = body.len();
+    let found = ask(
+        found,
+        501,
+        start,
+        0,
+        0,
+        octets::peek(body, 0) as usize == size,
+    );
+    let found = ask(found, 502, start, 0, 1, octets::peek(body, 1) == 3);
+    ask(found, 503, start, 0, 0, (size % 2 == 0) & (size <= 254))
+}
+
+// A string's entry at `at`, and its body; `zero` is string 0.
+fn entry_fault(found: Fault, e: Entry, at: u16, body: &[u8], zero: &[u8], serial: u8) -> Fault
+    requires { ⌜ length (now zero) < 65536 ⌝ }
+    ensures { λ r. ⌜ r ≡ after found (stringEntryFindings (words (drop 2 (now (zero .entry)))) serial at e (now (body .entry))) ⌝ }
+{
+    let index_zero = e.index == 0;
+    let language_zero = e.language == 0;
+    let first = index_zero & language_zero;
+    let listed = first | sets::string::lists(zero, e.language);
+    let goes = (!language_zero | index_zero) & (!index_zero | language_zero);
+    let found = body_fault(found, body, e.offset);
+    let found = ask(found, 504, 0, at, 2, goes);
+    let found = zero_fault(found, first, zero, e.offset);
+    let found = ask(found, 509, 0, at, 2, listed);
+    ask(found, 511, 0, at, 1, !(1 <= serial) | !(e.index == serial))
+}
+
+// The string entries; `zero` is string 0.
+fn entries_fault(found: Fault, set: &[u8], zero: &[u8], serial: u8) -> Fault
+    requires { ⌜ length (now zero) < 65536 ⌝ }
+    ensures { λ r. ⌜ r ≡ after found (stringsFrom (now (set .entry)) (words (drop 2 (now (zero .entry)))) serial 4 (entries (now (set .entry)))) ⌝ }
+{
+    let count = octets::peek(set, 2);
+    let mut found = found;
+    let mut i: u8 = 0;
+    while i < count {
+        let e = entry_at(set, i);
+        let at = 4 + 8 * (i as u16);
+        i += 1;
+        if e.kind == 3 {
+            found = entry_fault(found, e, at, body_of(set, e), zero, serial);
+        }
+    }
+    found
+}
+
+// ---- the references
+// A reference that is byte k of what begins at `at` of what begins at `start`; `there`: string 0 is there; `table`: the indices that have a string in every
+// listed language.
+fn reference_fault(
+    found: Fault,
+    start: u16,
+    at: u16,
+    k: u8,
+    reference: u8,
+    there: bool,
+    serial: u8,
+    table: &[u32; 8],
+) -> Fault
+    ensures { λ r. ⌜ r ≡ after found (judged there serial (now (table .entry)) start at k reference) ⌝ }
+{
+    let named = (reference == 0) | (reference == serial) | holds(table, reference);
+    let found = ask(found, 510, start, at, k, !(1 <= reference) | there);
+    ask(found, 512, start, at, k, named)
+}
+
+// The reference of a descriptor at `at`, if it is an interface's.
+fn interface_fault(
+    found: Fault,
+    d: &[u8],
+    start: u16,
+    at: u16,
+    there: bool,
+    serial: u8,
+    table: &[u32; 8],
+) -> Fault
+    ensures { λ r. ⌜ r ≡ after found (pick (isInterface (now (d .entry))) (judged there serial (now (table .entry)) start at 8 (iInterface (now (d .entry)))) []) ⌝ }
+{
+    if octets::peek(d, 1) == 4 {
+        return reference_fault(
+            found,
+            start,
+            at,
+            8,
+            octets::peek(d, 8),
+            there,
+            serial,
+            table,
+        );
+    }
+    found
+}
+
+// The references of a configuration: its own, and those of its interface descriptors.
+fn configuration_fault(
+    found: Fault,
+    set: &[u8],
+    e: Entry,
+    there: bool,
+    serial: u8,
+    table: &[u32; 8],
+) -> Fault
+    requires { ⌜ Judges (now set) there serial (now table) × (e .length < 65536) ⌝ }
+    ensures { λ r. ⌜ r ≡ after found (bodyReferences (now (set .entry)) (e .offset) (bodyOf (now (set .entry)) e)) ⌝ }
+{
+    let body = body_of(set, e);
+    let reference = octets::peek(body, 6);
+    let mut found = reference_fault(found, e.offset, 0, 6, reference, there, serial, table);
+    let mut last = descriptors::outside();
+    let mut at = 0;
+    while at < body.len() {
+        let place = at as u16;
+        let step = descriptors::advance(body, at, last);
+        let end = step.end;
+        if end <= at {
+            return found;
+        }
+        found = interface_fault(found, &body[at..end], e.offset, place, there, serial, table);
+        last = step.stand;
+        at = end;
+    }
+    found
+}
+
+fn references_fault(found: Fault, set: &[u8], there: bool, serial: u8, table: &[u32; 8]) -> Fault
+    requires { ⌜ Judges (now set) there serial (now table) ⌝ }
+    ensures { λ r. ⌜ r ≡ after found (referencesFrom (now (set .entry)) (entries (now (set .entry)))) ⌝ }
+{
+    let count = octets::peek(set, 2);
+    let mut found = found;
+    let mut i: u8 = 0;
+    while i < count {
+        let e = entry_at(set, i);
+        i += 1;
+        if e.kind == 2 {
+            found = configuration_fault(found, set, e, there, serial, table);
+        }
+    }
+    found
+}
+
+// ---- the group
+fn judged_fault(found: Fault, set: &[u8], zero: &[u8], there: bool) -> Fault
+    requires { ⌜ StringZero (now set) (now zero) there ⌝ }
+    ensures { λ r. ⌜ r ≡ after found (stringsFindings (now (set .entry))) ⌝ }
+{
+    let serial = serial_index(set);
+    let table = sets::string::in_every_language(set, zero);
+    let device = device_body(set);
+    let start = 4 + 8 * (octets::peek(set, 2) as u16);
+    let none = count_of(set, 3) == 0;
+    let found = ask(
+        found,
+        510,
+        0,
+        12 + 8 * (count_of(set, 2) as u16),
+        0,
+        none | there,
+    );
+    let found = entries_fault(found, set, zero, serial);
+    let found = reference_fault(
+        found,
+        start,
+        0,
+        14,
+        octets::peek(device, 14),
+        there,
+        serial,
+        &table,
+    );
+    let found = reference_fault(
+        found,
+        start,
+        0,
+        15,
+        octets::peek(device, 15),
+        there,
+        serial,
+        &table,
+    );
+    let found = reference_fault(
+        found,
+        start,
+        0,
+        16,
+        octets::peek(device, 16),
+        there,
+        serial,
+        &table,
+    );
+    references_fault(found, set, there, serial, &table)
+}
+
+// Group 5.
+pub fn strings_fault(set: &[u8], found: Fault) -> Fault
+    ensures { λ r. ⌜ r ≡ after found (stringsFindings (now (set .entry))) ⌝ }
+{
+    match find_entry(set, 3, 0, 0) {
+        EntryFound::At(e) => judged_fault(found, set, body_of(set, e), true),
+        EntryFound::Nothing => judged_fault(found, set, &set[0..0], false),
+    }
+}
