@@ -1,4 +1,4 @@
--- The rule that is named belongs to the group that opening names, for all inputs; an accepted set gives rule 0. No axiom.
+-- The rule that is named belongs to the group that opening names, for all inputs, of a kind without companions and BOS entries; an accepted set gives rule 0. No axiom.
 use Prim.Native.Nat.{ℕ, _/_}
 use mathlib.Core.Path.{_≡_, refl, sym, ap, _∙_}
 use mathlib.Core.List.{List, [], _∷_, _++_}
@@ -7,6 +7,7 @@ use lib.Dec.{eqb, leb}
 use Rattle.octets.specs.Sentences.{pick, every, first, pairs}
 use Rattle.octets.proofs.Sentences.{conjunct}
 use Rattle.descriptors.specs.declared.Limits.{Limits}
+use Rattle.descriptors.specs.Limits.{named, fullSpeed}
 use Rattle.descriptors.specs.Configuration.{bConfigurationValue, goodConfiguration}
 use Rattle.sets.specs.Contents.{bodies, entries, entriesOf, total, bodiesAt, goodFrame, goodContents}
 use Rattle.sets.specs.Device.{deviceBody, iSerialNumber}
@@ -40,23 +41,27 @@ good-bodies limits set g =
     ∷ pairs (λ a b. not (eqb (bConfigurationValue a) (bConfigurationValue b))) (bodies 2 set) ∷ [])
     g
 
-named-group : (limits : Limits) (b : Board) → groupOf (first isBroken (findings limits b)) ≡ opening limits b
+named-group : (limits : Limits) → limits .companions ≡ false → named (limits .entries) 15 ≡ false → (b : Board) → groupOf (first isBroken (findings limits b)) ≡ opening limits b
 unfolding findings opening
-named-group limits b =
+named-group limits single storeless b =
     let set = b .set in
     group-first 1 (frameFindings set) _ (frames set)
     ∙ step _ _ 1 _ _ (frame-same set) (λ f.
     group-first 2 (contentsFindings limits set) _ (contents limits (total set) 4 true noEntry (bodiesAt set) (entries set))
     ∙ step _ _ 2 _ _ (contents-same limits set) (λ c.
     group-first 3 (deviceFindings limits set) _ (devices limits set (entriesOf 1 set))
-    ∙ step _ _ 3 _ _ (devices-same limits set) (λ d.
+    ∙ step _ _ 3 _ _ (devices-same limits storeless set) (λ d.
     group-first 4 (configurationsFindings limits set) _ (configurations limits set 4 0 [] (entries set))
-    ∙ step _ _ 4 _ _ (configurations-same limits set) (λ g.
+    ∙ step _ _ 4 _ _ (configurations-same limits set single) (λ g.
     group-first 5 (stringsFindings set) _ (group-5 set)
     ∙ step _ _ 5 _ _ (strings-same limits set (good-bodies limits set g)) (λ s.
     group-last 6 (serialFindings (iSerialNumber (deviceBody set)) (b .serial)) (serials (eqb (iSerialNumber (deviceBody set)) 0) (b .serial))
     ∙ step _ _ 6 0 0 (block-same set (b .serial)) (λ t. refl))))))
 
-pub belongs : (limits : Limits) (b : Board) → explained limits b .rule / 100 ≡ opening limits b
+pub belongs : (limits : Limits) → limits .companions ≡ false → named (limits .entries) 15 ≡ false → (b : Board) → explained limits b .rule / 100 ≡ opening limits b
 unfolding explained
-belongs limits b = named-group limits b
+belongs limits single storeless b = named-group limits single storeless b
+
+-- document 01's kind has neither
+pub belongs-here : (b : Board) → explained fullSpeed b .rule / 100 ≡ opening fullSpeed b
+belongs-here = belongs fullSpeed refl refl

@@ -1,4 +1,4 @@
--- Group 4: all its rules hold exactly where opening's definition of the group does. No axiom.
+-- Group 4, of a kind without companions: all its rules hold exactly where opening's definition of the group does. No axiom.
 use Prim.Native.Nat.{ℕ, zero, suc, _+_, _-_, _/_, _%_, _<_, _≤_}
 use native.Mathlib.Omega.{arith}
 use mathlib.Core.Path.{_≡_, refl, sym, ap, _∙_}
@@ -21,12 +21,14 @@ use Rattle.descriptors.specs.Limits.{within, doubled, named}
 use Rattle.descriptors.specs.Cut.{Cutting, whole, broken, descriptor, cut, cutAfter, descriptorsOf, wellCut}
 use Rattle.descriptors.specs.Descriptor.{bDescriptorType, isInterface, isEndpoint, bEndpointAddress, bmAttributes, wMaxPacketSize, bInterval, transferType, sized, goodDescriptor}
 use Rattle.descriptors.specs.Interfaces.{grouped, follows, goodInterfaces}
+use Rattle.descriptors.specs.Companion.{goodCompanions}
 use Rattle.descriptors.specs.Configuration.{bNumInterfaces, bConfigurationValue, bitOf, goodHead, goodDescriptors, goodConfiguration}
 use Rattle.descriptors.specs.Walk.{settingAt, before, standOf, orElse, walked}
-use Rattle.descriptors.specs.Check.{placed, fresh, allowed, onward, ended, beginning, checking}
+use Rattle.descriptors.specs.Check.{placed, fresh, allowed, accompanied, ended, Course, starting, passing, checking}
 use Rattle.descriptors.proofs.Walk.{after-short}
+use Rattle.descriptors.proofs.CheckCompanions.{after}
 use Rattle.descriptors.proofs.CheckOrder.{kinds, eqb-swap}
-use Rattle.descriptors.proofs.CheckWhole.{rest-same}
+use Rattle.descriptors.proofs.CheckWhole.{rest-same, unasked}
 use Rattle.sets.specs.declared.Entry.{Entry}
 use Rattle.sets.specs.Contents.{bodyOf, bodies, isKind, entries, entriesOf}
 use Rattle.sets.specs.Opening.{numberedFrom, goodConfigurations}
@@ -130,51 +132,61 @@ swap : (a b : Bool) → (a && (b && true)) ≡ (b && a)
 swap true b = refl
 swap false b = sym (and-false b)
 
-rest-holds : (limits : Limits) (start n at head : ℕ) (w : Progress) (last : Stand) {cs : Cutting} → Proper cs
-    → allHold (restFindings limits start n at head w last cs) ≡ walked (checking limits n) w last cs
+-- nothing is asked beside it of a kind without companions
+alone : {companions : Bool} (a b : Bool) → companions ≡ false → (a && (companions ⇒ b)) ≡ a
+alone a b p = ap (λ t. a && t) (unasked b p) ∙ and-true a
+
+rest-holds : (limits : Limits) → limits .companions ≡ false → (start n at head : ℕ) (c : Course) (last : Stand) {cs : Cutting} → Proper cs
+    → allHold (restFindings limits start n at head (c .progress) last cs) ≡ walked (checking limits n) c last cs
 unfolding every restFindings walked Same
-rest-holds limits start n at head w last ends = swap (eqb (w .coming) 0) (last .inside && eqb (last .interface + 1) n)
-rest-holds limits start n at head w last breaks = refl
-rest-holds limits start n at head w last (cutOff {d}) =
+rest-holds limits single start n at head c last ends =
+    swap (eqb (c .progress .coming) 0) (last .inside && eqb (last .interface + 1) n) ∙ sym (alone (ended n (c .progress) last) (not (c .due)) single)
+rest-holds limits single start n at head c last breaks = refl
+rest-holds limits single start n at head c last (cutOff {d}) =
     let stand = standOf last d in
-    let found = descriptorFindings limits start at head w last stand d in
-    every-append (λ x. x .holds) found (asked 403 (byteAt start (at + length d) 0) false ∷ []) ∙ and-false (allHold found)
-    ∙ sym (stop-same (allowed limits w last stand d) false ∙ and-false (allowed limits w last stand d))
-rest-holds limits start n at head w last (goes {d} {ds} p q) =
+    let found = descriptorFindings limits start at head (c .progress) last stand d in
+    let asks = allowed limits (c .progress) last stand d && (limits .companions ⇒ accompanied (c .due) d) in
+    every-append (λ x. x .holds) found (asked 403 (byteAt start (at + length d) 0) false ∷ []) ∙ and-false (allHold found) ∙ sym (stop-same asks false ∙ and-false asks)
+rest-holds limits single start n at head c last (goes {d} {ds} p q) =
     let stand = standOf last d in
     let next = pick (isInterface d) at head in
-    let v = onward w last stand d in
+    let w = c .progress in
+    let v = passing limits c last stand d in
     let found = descriptorFindings limits start at head w last stand d in
-    every-append (λ x. x .holds) found (restFindings limits start n (at + length d) next v stand ds)
-    ∙ ap (λ b. b && allHold (restFindings limits start n (at + length d) next v stand ds)) (descriptor-same limits start at head w last stand d p)
-    ∙ ap (λ b. allowed limits w last stand d && b) (rest-holds limits start n (at + length d) next v stand q)
-    ∙ sym (stop-same (allowed limits w last stand d) (walked (checking limits n) v stand ds))
+    let asks = allowed limits w last stand d && (limits .companions ⇒ accompanied (c .due) d) in
+    every-append (λ x. x .holds) found (restFindings limits start n (at + length d) next (v .progress) stand ds)
+    ∙ ap (λ b. b && allHold (restFindings limits start n (at + length d) next (v .progress) stand ds))
+    (descriptor-same limits start at head w last stand d p ∙ sym (alone (allowed limits w last stand d) (accompanied (c .due) d) single))
+    ∙ ap (λ b. asks && b) (rest-holds limits single start n (at + length d) next v stand q)
+    ∙ sym (stop-same asks (walked (checking limits n) v stand ds))
 
 -- ---- a body
-past : (well head rest kinds interfaces : Bool) → rest ≡ (well && (kinds && interfaces)) → (well && (head && kinds && interfaces)) ≡ (head && rest)
-past well true rest k i p = sym p
-past true false rest k i p = refl
-past false false rest k i p = refl
+past : {companions : Bool} (well head rest kinds interfaces whole behind : Bool) → companions ≡ false → rest ≡ (well && ((kinds && interfaces) && (companions ⇒ behind)))
+    → (well && (head && kinds && interfaces && (companions ⇒ whole))) ≡ (head && rest)
+past well true rest k i c b s p = sym (p ∙ ap (λ t. well && t) (alone (k && i) b s ∙ sym (alone (k && i) c s)))
+past true false rest k i c b s p = refl
+past false false rest k i c b s p = refl
 
 head-same : (size start : ℕ) (d : List ℕ) → isWhole d ≡ true → (xs : List Finding)
     → allHold (headFindings size start d ++ (headNumbers start d ++ xs)) ≡ (goodHead size d && allHold xs)
 unfolding every
 head-same size start d p xs = rw p (simp and-assoc)
 
-cut-same : (limits : Limits) (size start : ℕ) {cs : Cutting} → Proper cs
+cut-same : (limits : Limits) → limits .companions ≡ false → (size start : ℕ) {cs : Cutting} → Proper cs
     → allHold (cutFindings limits size start cs) ≡ (wellCut cs && goodDescriptors limits size (descriptorsOf cs))
 unfolding every restFindings wellCut goodDescriptors descriptorsOf
-cut-same limits size start ends = refl
-cut-same limits size start breaks = refl
-cut-same limits size start (cutOff {d}) = simp and-false
-cut-same limits size start (goes {d} {ds} p q) =
-    head-same size start d p (restFindings limits start (bNumInterfaces d) (length d) 0 beginning before ds)
-    ∙ ap (λ b. goodHead size d && b) (rest-holds limits start (bNumInterfaces d) (length d) 0 beginning before q)
-    ∙ sym (past (wellCut ds) (goodHead size d) _ (every (goodDescriptor limits) (descriptorsOf ds)) (goodInterfaces (bNumInterfaces d) (grouped (descriptorsOf ds))) (rest-same limits (bNumInterfaces d) ds))
+cut-same limits single size start ends = refl
+cut-same limits single size start breaks = refl
+cut-same limits single size start (cutOff {d}) = simp and-false
+cut-same limits single size start (goes {d} {ds} p q) =
+    let rest = descriptorsOf ds in
+    head-same size start d p (restFindings limits start (bNumInterfaces d) (length d) 0 (starting .progress) before ds)
+    ∙ ap (λ b. goodHead size d && b) (rest-holds limits single start (bNumInterfaces d) (length d) 0 starting before q)
+    ∙ sym (past (wellCut ds) (goodHead size d) _ (every (goodDescriptor limits) rest) (goodInterfaces (bNumInterfaces d) (grouped rest)) (goodCompanions (d ∷ rest)) (after false rest) single (rest-same limits (bNumInterfaces d) ds))
 
-pub body-same : (limits : Limits) (start : ℕ) (body : List ℕ) → allHold (bodyFindings limits start body) ≡ goodConfiguration limits body
+pub body-same : (limits : Limits) → limits .companions ≡ false → (start : ℕ) (body : List ℕ) → allHold (bodyFindings limits start body) ≡ goodConfiguration limits body
 unfolding goodConfiguration
-body-same limits start body = cut-same limits (length body) start (proper 0 body)
+body-same limits single start body = cut-same limits single (length body) start (proper 0 body)
 
 -- ---- the entries
 abbrev isNew : List ℕ → List ℕ → Bool
@@ -205,15 +217,15 @@ all-new (b ∷ bs) = all-new bs
 five : (i l g v s : Bool) → (i && (l && (g && (v && (s && true))))) ≡ (i && l && g && v && s)
 five i l g v s = simp (and-true, and-assoc)
 
-configuration-same : (limits : Limits) (at n : ℕ) (again : Bool) (e : Entry) (body : List ℕ)
+configuration-same : (limits : Limits) → limits .companions ≡ false → (at n : ℕ) (again : Bool) (e : Entry) (body : List ℕ)
     → allHold (configurationFindings limits at n again e body)
     ≡ (eqb (e .index) n && eqb (e .language) 0 && goodConfiguration limits body && leb 1 (bConfigurationValue body) && not again)
 unfolding every
-configuration-same limits at n again e body =
+configuration-same limits single at n again e body =
     let v = leb 1 (bConfigurationValue body) in
     ap (λ b. eqb (e .index) n && (eqb (e .language) 0 && b))
     (every-append (λ x. x .holds) (bodyFindings limits (e .offset) body) (asked 435 (byteAt (e .offset) 0 5) v ∷ asked 436 (byteAt (e .offset) 0 5) (not again) ∷ [])
-    ∙ ap (λ g. g && (v && (not again && true))) (body-same limits (e .offset) body))
+    ∙ ap (λ g. g && (v && (not again && true))) (body-same limits single (e .offset) body))
     ∙ five (eqb (e .index) n) (eqb (e .language) 0) (goodConfiguration limits body) v (not again)
 
 moved : (s d p : Bool) → (s && (d && p)) ≡ ((d && s) && p)
@@ -241,23 +253,23 @@ module _ (limits : Limits) (set : List ℕ) where
       every (λ b. leb 1 (bConfigurationValue b)) (map (bodyOf set) es) &&
       (every (isNew earlier) (map (bodyOf set) es) && pairs differ (map (bodyOf set) es))
 
-  more : (at n : ℕ) (earlier : List ℕ) (e : Entry) (es : List Entry)
+  more : limits .companions ≡ false → (at n : ℕ) (earlier : List ℕ) (e : Entry) (es : List Entry)
       → (allHold (configurationFindings limits at n (member (bConfigurationValue (bodyOf set e)) earlier) e (bodyOf set e)) && goodFrom (n + 1) (bConfigurationValue (bodyOf set e) ∷ earlier) es)
       ≡ goodFrom n earlier (e ∷ es)
   unfolding goodFrom numberedFrom every pairs
-  more at n earlier e es =
+  more single at n earlier e es =
       let b = bodyOf set e in
       let bs = map (bodyOf set) es in
-      ap (λ c. c && goodFrom (n + 1) (bConfigurationValue b ∷ earlier) es) (configuration-same limits at n (member (bConfigurationValue b) earlier) e b)
+      ap (λ c. c && goodFrom (n + 1) (bConfigurationValue b ∷ earlier) es) (configuration-same limits single at n (member (bConfigurationValue b) earlier) e b)
       ∙ rw (new-more b earlier bs)
       (sym
       (ordered (eqb (e .index) n) (eqb (e .language) 0) (goodConfiguration limits b) (leb 1 (bConfigurationValue b)) (isNew earlier b)
       (numberedFrom (n + 1) es) (every (goodConfiguration limits) bs) (every (λ b. leb 1 (bConfigurationValue b)) bs) (every (isNew earlier) bs) (every (differ b) bs) (pairs differ bs)))
 
-  from-same : (at n : ℕ) (earlier : List ℕ) (es : List Entry) → allHold (configurationsFrom limits set at n earlier es) ≡ goodFrom n earlier (only (isKind 2) es)
+  from-same : limits .companions ≡ false → (at n : ℕ) (earlier : List ℕ) (es : List Entry) → allHold (configurationsFrom limits set at n earlier es) ≡ goodFrom n earlier (only (isKind 2) es)
   unfolding every configurationsFrom only goodFrom numberedFrom pairs
-  from-same at n earlier [] = refl
-  from-same at n earlier (e ∷ es) = go (isKind 2 e) (from-same (at + 8) (n + 1) (bConfigurationValue (bodyOf set e) ∷ earlier) es) (from-same (at + 8) n earlier es)
+  from-same single at n earlier [] = refl
+  from-same single at n earlier (e ∷ es) = go (isKind 2 e) (from-same single (at + 8) (n + 1) (bConfigurationValue (bodyOf set e) ∷ earlier) es) (from-same single (at + 8) n earlier es)
     where
       found : List Finding
       found = configurationFindings limits at n (member (bConfigurationValue (bodyOf set e)) earlier) e (bodyOf set e)
@@ -268,9 +280,9 @@ module _ (limits : Limits) (set : List ℕ) where
       go : (b : Bool) → allHold later ≡ goodFrom (n + 1) (bConfigurationValue (bodyOf set e) ∷ earlier) (only (isKind 2) es)
           → allHold (configurationsFrom limits set (at + 8) n earlier es) ≡ goodFrom n earlier (only (isKind 2) es)
           → allHold (pick b (found ++ later) (configurationsFrom limits set (at + 8) n earlier es)) ≡ goodFrom n earlier (pick b (e ∷ only (isKind 2) es) (only (isKind 2) es))
-      go true p q = every-append (λ x. x .holds) found later ∙ ap (λ b. allHold found && b) p ∙ more at n earlier e (only (isKind 2) es)
+      go true p q = every-append (λ x. x .holds) found later ∙ ap (λ b. allHold found && b) p ∙ more single at n earlier e (only (isKind 2) es)
       go false p q = q
 
-  pub configurations-same : allHold (configurationsFindings limits set) ≡ goodConfigurations limits set
+  pub configurations-same : limits .companions ≡ false → allHold (configurationsFindings limits set) ≡ goodConfigurations limits set
   unfolding goodConfigurations goodFrom
-  configurations-same = from-same 4 0 [] (entries set) ∙ rw (all-new (bodies 2 set))
+  configurations-same single = from-same single 4 0 [] (entries set) ∙ rw (all-new (bodies 2 set))

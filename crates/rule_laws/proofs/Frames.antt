@@ -73,9 +73,10 @@ device-same limits set (e ∷ []) =
     ∷ leb 1 (bNumConfigurations d) ∷ leb (bNumConfigurations d) 8 ∷ eqb (bNumConfigurations d) (length (entriesOf 2 set)) ∷ [])))
 device-same limits set (e ∷ f ∷ es) = refl
 
-pub devices-same : (limits : Limits) (set : List ℕ) → allHold (deviceFindings limits set) ≡ goodDevices limits set
+-- of a kind without BOS entries
+pub devices-same : (limits : Limits) → named (limits .entries) 15 ≡ false → (set : List ℕ) → allHold (deviceFindings limits set) ≡ goodDevices limits set
 unfolding goodDevices
-devices-same limits set = device-same limits set (entriesOf 1 set)
+devices-same limits storeless set = rw storeless (device-same limits set (entriesOf 1 set))
 
 -- ---- group 6
 even-first : (e f t a b : Bool) → (e && (f && (t && (a && (b && true))))) ≡ (f && t && e && a && b)

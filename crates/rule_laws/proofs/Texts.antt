@@ -14,6 +14,7 @@ use Rattle.descriptors.specs.declared.Limits.{Limits}
 use Rattle.descriptors.specs.Cut.{Cutting, whole, broken, descriptor, cut, descriptorsOf, wellCut}
 use Rattle.descriptors.specs.Descriptor.{bDescriptorType, isInterface, iInterface, goodDescriptor}
 use Rattle.descriptors.specs.Interfaces.{grouped, goodInterfaces}
+use Rattle.descriptors.specs.Companion.{goodCompanions}
 use Rattle.descriptors.specs.Configuration.{iConfiguration, wTotalLength, bNumInterfaces, configurationAttributes, bMaxPower, behind, goodHead, goodDescriptors, goodConfiguration, configurationReferences}
 use Rattle.descriptors.proofs.CheckReferences.{ofInterface, references-all}
 use Rattle.sets.specs.declared.Entry.{Entry}
@@ -148,8 +149,7 @@ module _ (set : List ℕ) where
   unfolding every goodDescriptors
   first-passed limits size [] g = refl
   first-passed limits size (d ∷ ds) g =
-      let (h, i) = both (goodHead size d && every (goodDescriptor limits) ds) (goodInterfaces (bNumInterfaces d) (grouped ds)) g in
-      let k = kind (both (goodHead size d) (every (goodDescriptor limits) ds) h .0) in
+      let k = kind (conjunct 0 (goodHead size d ∷ every (goodDescriptor limits) ds ∷ goodInterfaces (bNumInterfaces d) (grouped ds) ∷ (limits .companions ⇒ goodCompanions (d ∷ ds)) ∷ []) g) in
       rw (ne-eqb (bDescriptorType d) 4 (λ q. omega (arith, k)))
     where
       kind : goodHead size d ≡ true → bDescriptorType d ≡ 2
