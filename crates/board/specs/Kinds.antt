@@ -9,7 +9,7 @@ use borrow.Author.Tests.{eq-eqb}
 use Rattle.octets.proofs.Sentences.{cases}
 use Rattle.descriptors.specs.declared.Limits.{Limits}
 use Rattle.descriptors.specs.Limits.{fullSpeed, superSpeed}
-use Rattle.sets.specs.Opening.{Board, opening}
+use Rattle.sets.specs.Opening.{Board, lent, opening}
 use Rattle.events.specs.declared.Event.{Event}
 use Rattle.events.specs.declared.Event.the-variants.{BusReset}
 use Rattle.events.specs.Answer.{numberOf}
@@ -17,16 +17,16 @@ use Rattle.events.specs.Step.{opened, event}
 use Rattle.promises.specs.Examples.{computed}
 use Rattle.promises.specs.Opening.{groups, AllHold, FirstBroken, acceptsExactly, refusesExactly}
 use Rattle.promises.specs.Refusal.{freshImage}
-use Rattle.promises.specs.Kinds.{notSuperSpeed, refusedEvents}
+use Rattle.promises.specs.Kinds.{notOpened, refusedEvents}
 use Rattle.promises.specs.SuperSpeed.{S3}
 use Rattle.board.specs.Exports.{Opens, Happens}
 use Rattle.board.specs.Makers.{OpensAs}
 use Rattle.board.specs.InhabitedRuns.{start}
 
 -- the same call for another kind
-pub asFullSpeed : {b : Board} {image : List ℕ} {n : ℕ} {left : List ℕ} → OpensAs fullSpeed b image n left → Opens b image n left
+pub asFullSpeed : {set serial image : List ℕ} {n : ℕ} {left : List ℕ} → OpensAs fullSpeed (lent set serial) image n left → Opens (lent set serial) image n left
 unfolding opened
-asFullSpeed {b} {image} o = cases (eqb (length image) 32)
+asFullSpeed {image = image} o = cases (eqb (length image) 32)
     (λ p. record { number = o .number ∙ rw p; leaves = o .leaves ∙ rw p })
     (λ p. record { number = o .number ∙ rw p; leaves = o .leaves ∙ rw p })
 
@@ -46,7 +46,7 @@ module _ {limits : Limits} {b : Board} {image : List ℕ} {n : ℕ} {left : List
 module _ {b : Board} {image : List ℕ} {left : List ℕ} (l : length image ≡ 32) (o : OpensAs superSpeed b image 0 left) where
   pub superNotOpens : {other after : List ℕ} → length other ≡ 32 → Opens b other 0 after → ⊥
   unfolding opened
-  superNotOpens {other} m p = notSuperSpeed b (sym (numbers l o)) (sym (rw (eq-eqb (length other) 32 m) at (p .number)))
+  superNotOpens {other} m p = notOpened b (sym (numbers l o)) (sym (rw (eq-eqb (length other) 32 m) at (p .number)))
 
   pub superEvents : {was after : List ℕ} {n : ℕ} {e : Event} → Happens b was e n after → n ≡ 7
   superEvents {was} {e = e} h = h .number ∙ ap numberOf (refusedEvents b (sym (numbers l o)) was e)
@@ -62,6 +62,6 @@ opensS3Short = record { number = refl; leaves = refl }
 pub holdsS3 : AllHold (groups superSpeed S3)
 holdsS3 = kindAccepts {image = start} refl opensS3 .0 refl
 
-pub resetS3 : Happens S3 freshImage BusReset 7 freshImage
+pub resetS3 : Happens S3 freshImage (BusReset 0) 7 freshImage
 unfolding computed
 resetS3 = record { number = refl; leaves = refl }

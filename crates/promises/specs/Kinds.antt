@@ -87,8 +87,12 @@ unfolding opening
 closed b p none q = notSuperSpeed b p q
 closed b p (some high) q = notTwoKinds superSpeed pairedFull nine-alone (lent (b .set) (b .serial)) p (opened (b .set) high (b .serial) q .slow)
 
+-- a board with such a set does not open
+pub notOpened : (b : Board) → opening superSpeed b ≡ 0 → openingOf b ≡ 0 → ⊥
+notOpened b p = closed b p (b .high)
+
 pub refusedEvents : (b : Board) → opening superSpeed b ≡ 0 → (image : List ℕ) (e : Event) → event b image e .answer ≡ Refused 7
-refusedEvents b p image e = unopened b (closed b p (b .high)) image e
+refusedEvents b p image e = unopened b (notOpened b p) image e
 
 pub refusedHigh : (full high serial : List ℕ) → opening superSpeed (lent high serial) ≡ 0 → (image : List ℕ) (e : Event) → event (lentTwo full high serial) image e .answer ≡ Refused 7
 refusedHigh full high serial p image e =
