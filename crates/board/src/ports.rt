@@ -6,9 +6,9 @@ ghost use mathlib.Core.Path.{_≡_};
 ghost use mathlib.Core.List.{[]};
 ghost use Prim.Native.Nat.{_<_};
 ghost use lib.ListN.{length, set, getD};
-ghost use Rattle.sets.specs.Opening.{lent, lentTwo};
+ghost use Rattle.sets.specs.Opening.{lent};
 ghost use Rattle.steps.specs.Gathering.{Openable, viewIn, eventIn};
-ghost use Rattle.board.specs.Exports.{spotOf, spots, spotsTwo, numbered, AnswersPortEvent};
+ghost use Rattle.board.specs.Exports.{spotOf, spots, numbered, AnswersPortEvent};
 
 // A record by value: of a parameter it is known that it is 32 bytes long, of an element of the row it is not.
 fn taken(image: [u8; 32]) -> [u8; 32]
@@ -18,7 +18,7 @@ fn taken(image: [u8; 32]) -> [u8; 32]
 }
 
 // An event at a port that is there: its record is picked, lent on and put back; every other record is left.
-fn happen_at(
+pub fn happen_at(
     number: u8,
     paired: bool,
     used: &[u8],
@@ -61,33 +61,4 @@ pub extern "C" fn hk_port_event<'a>(
     let what = numbers::event_of(kind, value, setup);
     let answer = happen_at(number, false, set, serial, row, port, what);
     numbers::hand_out(set, serial, answer, bytes, count, part)
-}
-
-// The same, of a board that lends two sets.
-#[no_mangle]
-pub extern "C" fn hk_two_port_event<'a>(
-    full: &'a [u8],
-    high: &'a [u8],
-    serial: &'a [u8],
-    row: &mut [[u8; 32]],
-    port: usize,
-    kind: u8,
-    value: u8,
-    setup: &[u8],
-    bytes: &mut [u8; 2],
-    count: &mut u8,
-    part: &mut &'a [u8],
-) -> u8
-    ensures { λ r. ⌜ AnswersPortEvent (lentTwo (now (full .entry)) (now (high .entry)) (now (serial .entry)))
-        (spotsTwo (spotOf ((full .entry) .ptr)) (spotOf ((high .entry) .ptr)) (spotOf ((serial .entry) .ptr))) (now (row .entry)) port (numbered kind value (now (setup .entry)))
-        r (now (row .exit)) (now (bytes .exit)) (now (count .exit)) (now (now (part .exit))) (spotOf ((now (part .exit)) .ptr)) ⌝ }
-{
-    if row.len() <= port {
-        return numbers::hand_out_of(full, full, serial, Answer::Refused(18), bytes, count, part);
-    }
-    let number = pairs::opening_two(full, high, serial);
-    let set = steps::in_use(full, high, row[port][7]);
-    let what = numbers::event_of(kind, value, setup);
-    let answer = happen_at(number, true, set, serial, row, port, what);
-    numbers::hand_out_of(full, set, serial, answer, bytes, count, part)
 }

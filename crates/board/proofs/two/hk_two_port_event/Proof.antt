@@ -1,4 +1,4 @@
--- `board::ports::hk_two_port_event` meets its contract: 18, or the answer of the set in use at the port's record, handed out. No axiom.
+-- `board::two::hk_two_port_event` meets its contract: 18, or the answer of the set in use at the port's record, handed out. No axiom.
 use Prim.Native.Nat.{_<_}
 use mathlib.Core.Path.{_≡_, refl, ap, _∙_}
 use lib.ListN.{length, set}
@@ -11,8 +11,8 @@ use Rattle.promises.specs.Refusals.{eventInside}
 use Rattle.board.specs.Exports.{spotOf, spotsTwo, numbered, recordAt}
 use Rattle.board.proofs.TwoSets.{used, chosen, place, openable, event-two, hands-two}
 use Rattle.board.proofs.PortAnswers.{absent, present, refused-two}
-use Rattle.board.proofs.ports.hk_two_port_event.Statement.{statement}
-use Rattle.board.proofs.ports.hk_two_port_event.Tie as tie
+use Rattle.board.proofs.two.hk_two_port_event.Statement.{statement}
+use Rattle.board.proofs.two.hk_two_port_event.Tie as tie
 
 hand-out-of-requires : tie.Need-hand-out-of-requires
 hand-out-of-requires c κs = search needs
