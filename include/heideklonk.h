@@ -56,6 +56,7 @@ extern "C" {
 #define HK_NO_SUCH_PACKET 15          /* packet: size, lengths or packet number */
 #define HK_ENDPOINT_UNFIT 16          /* function event on an unfit endpoint; power value above 1; no such endpoint; no such speed */
 #define HK_TEST_MODE_ENTERED 17       /* a setup of 8 bytes, once a test mode is entered */
+#define HK_NO_SUCH_PORT 18            /* port not below the row's length */
 #define HK_WAKE_NOT_ALLOWED 19        /* wake event: not suspended, or the host has not allowed it */
 #define HK_PIECES_BROKEN 20           /* makers: the pieces do not end where their lengths say */
 #define HK_SET_REFUSED 21             /* makers: over 64 pieces or 16,384 bytes, or hk_open would refuse the set */
@@ -206,7 +207,7 @@ typedef struct hk_record {
     uint32_t toggles;       /* the data toggles, in the same order */
 } hk_record;
 
-/* The events of hk_record_event and hk_two_event. */
+/* The events of hk_record_event, hk_two_event, hk_port_event and hk_two_port_event. */
 #define HK_EVENT_SETUP 0         /* as hk_setup: reads setup */
 #define HK_EVENT_STATUS_END 1    /* as hk_status_end */
 #define HK_EVENT_BUS_RESET 2     /* as hk_bus_reset_to: value is the speed */
@@ -260,6 +261,25 @@ uint8_t hk_two_event(const uint8_t *full, size_t full_length, const uint8_t *hig
 uint8_t hk_two_endpoint(const uint8_t *full, size_t full_length, const uint8_t *high, size_t high_length,
                         const uint8_t *serial, size_t serial_length, uint8_t *image, size_t image_length,
                         uint8_t number, hk_part *descriptor);
+
+/* ---- A board with several ports: a row of records, one for each port, the same set or the same two sets at all of them,
+ * and a serial block for each. hk_open or hk_two_open opens the record of each port. */
+
+/* Any event, by its number HK_EVENT_.., at one port: what hk_record_event does, on the record at that port. Every other
+ * record is left as it was, and none of them is read: events at different ports may come in any order. serial is the
+ * serial block of that port.
+ *
+ * HK_NO_SUCH_PORT: port is not below row_length, whatever else is passed; nothing is changed, and *part is the set's first
+ * 0 bytes. A row of no records may be NULL. The row overlaps nothing else that is passed. */
+uint8_t hk_port_event(const uint8_t *set, size_t set_length, const uint8_t *serial, size_t serial_length,
+                      hk_record *row, size_t row_length, size_t port, uint8_t event, uint8_t value,
+                      const uint8_t *setup, size_t setup_length, uint8_t bytes[2], uint8_t *count, hk_part *part);
+
+/* The same on a board that lends two sets, as hk_two_event: each port has its own speed and test mode. */
+uint8_t hk_two_port_event(const uint8_t *full, size_t full_length, const uint8_t *high, size_t high_length,
+                          const uint8_t *serial, size_t serial_length, hk_record *row, size_t row_length, size_t port,
+                          uint8_t event, uint8_t value, const uint8_t *setup, size_t setup_length,
+                          uint8_t bytes[2], uint8_t *count, hk_part *part);
 
 /* Cuts packet `number` (from 0) out of a reply: asked is the setup's wLength, size is bMaxPacketSize0.
  *

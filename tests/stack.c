@@ -26,20 +26,20 @@
 
 enum function {
     EMPTY, OPEN, SETUP, STATUS_END, BUS_RESET, BUS_RESET_TO, HALT, PACKET_PASSED, POWER, SUSPEND, RESUME, WAKE, RECORD_EVENT, PACKET, ENDPOINT,
-    TWO_OPEN, TWO_EVENT, TWO_ENDPOINT, EXPORT, TRIM,
+    TWO_OPEN, TWO_EVENT, TWO_ENDPOINT, PORT_EVENT, TWO_PORT_EVENT, EXPORT, TRIM,
     FUNCTIONS
 };
 
 static const char *const names[FUNCTIONS] = {
     "an empty call", "hk_open", "hk_setup", "hk_status_end", "hk_bus_reset", "hk_bus_reset_to", "hk_halt", "hk_packet_passed",
     "hk_power", "hk_suspend", "hk_resume", "hk_wake", "hk_record_event", "hk_packet", "hk_endpoint",
-    "hk_two_open", "hk_two_event", "hk_two_endpoint", "hk_export", "hk_trim",
+    "hk_two_open", "hk_two_event", "hk_two_endpoint", "hk_port_event", "hk_two_port_event", "hk_export", "hk_trim",
 };
 
 /* What the next call takes; static, so that nothing of it lies on the painted stack. */
 static enum function function;
 static uint8_t set[20000], high[20000], serial[20000], image[HK_IMAGE_LENGTH], setup[HK_SETUP_LENGTH], bytes[2], count;
-static hk_record record;
+static hk_record record, row[2];
 static uint8_t event, event_value, number;
 static size_t set_length, high_length, serial_length;
 /* two sets are lent */
@@ -103,6 +103,13 @@ static void call(void) {
     case TWO_ENDPOINT:
         hk_two_endpoint(set, set_length, high, high_length, serial, serial_length, image, sizeof image, event_value, &part);
         break;
+    case PORT_EVENT:
+        hk_port_event(set, set_length, serial, serial_length, row, 2, 1, event, event_value, setup, sizeof setup, bytes, &count, &part);
+        break;
+    case TWO_PORT_EVENT:
+        hk_two_port_event(set, set_length, high, high_length, serial, serial_length, row, 2, 1, event, event_value, setup, sizeof setup,
+                          bytes, &count, &part);
+        break;
     case PACKET:
         hk_packet(set, set_length, UINT16_MAX, 8, event_value, &part);
         break;
@@ -142,10 +149,12 @@ static void measure(enum function measured) {
     function = measured;
     memcpy(before, image, sizeof image);
     memcpy(&record, before, sizeof record);
+    memcpy(row + 1, before, sizeof *row);
     memcpy(trimmed, set, sizeof trimmed);
     depth_of_call();
     memcpy(image, before, sizeof image);
     memcpy(&record, before, sizeof record);
+    memcpy(row + 1, before, sizeof *row);
     memcpy(trimmed, set, sizeof trimmed);
     depth = depth_of_call();
     if (depth > deepest[measured])
@@ -156,10 +165,12 @@ static void measure(enum function measured) {
 static void measure_event(uint8_t measured, enum function alone) {
     event = measured;
     if (paired) {
+        measure(TWO_PORT_EVENT);
         measure(TWO_EVENT);
         return;
     }
     measure(RECORD_EVENT);
+    measure(PORT_EVENT);
     measure(alone);
 }
 

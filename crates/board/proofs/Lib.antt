@@ -2,3 +2,4 @@ pub mod Lengths
 pub mod Spots
 pub mod EndpointImages
 pub mod TwoSets
+pub mod PortAnswers

@@ -6,7 +6,7 @@ use Rattle.sets.specs.Opening.{Board}
 use Rattle.events.specs.declared.Answer.{Answer}
 use Rattle.events.specs.declared.Event.{Event}
 use Rattle.records.specs.declared.Device.{Device}
-use Rattle.board.specs.Exports.{Opens, Happens, Spot, Spots, Hands, AnswersSetup, CutsPacket, AnswersRecordEvent, AnswersImage, GivesEndpoint}
+use Rattle.board.specs.Exports.{Opens, Happens, Spot, Spots, Hands, AnswersSetup, CutsPacket, AnswersRecordEvent, AnswersImage, AnswersPortEvent, GivesEndpoint}
 
 -- two things that are one third thing are equal
 same : {A : Type 0} {x y z : A} → x ≡ z → y ≡ z → x ≡ y
@@ -38,6 +38,11 @@ pub answersImage : {b : Board} {lie : Spots} {image : List ℕ} {e : Event} {n m
     → AnswersImage b lie image e n left bytes count part spot → AnswersImage b lie image e m other others also piece place
     → (left ≡ other) × ((n ≡ m) × (bytes ≡ others) × (count ≡ also) × (part ≡ piece) × (spot ≡ place))
 answersImage p q = (same (p .leaves) (q .leaves), hands (p .answers) (q .answers))
+
+pub answersPortEvent : {b : Board} {lie : Spots} {row : List (List ℕ)} {port : ℕ} {e : Event} {n m : ℕ} {left other : List (List ℕ)} {bytes others : List ℕ} {count also : ℕ} {part piece : List ℕ} {spot place : Spot}
+    → AnswersPortEvent b lie row port e n left bytes count part spot → AnswersPortEvent b lie row port e m other others also piece place
+    → (left ≡ other) × ((n ≡ m) × (bytes ≡ others) × (count ≡ also) × (part ≡ piece) × (spot ≡ place))
+answersPortEvent p q = (same (p .leaves) (q .leaves), hands (p .answers) (q .answers))
 
 pub cutsPacket : {reply : List ℕ} {replySpot : Spot} {asked size k n m : ℕ} {part piece : List ℕ} {spot place : Spot}
     → CutsPacket reply replySpot asked size k n part spot → CutsPacket reply replySpot asked size k m piece place → (n ≡ m) × (part ≡ piece) × (spot ≡ place)

@@ -2,8 +2,8 @@
 use Prim.Native.Nat.{ℕ, _+_}
 use mathlib.Core.Path.{_≡_}
 use mathlib.Core.List.{List, [], _∷_}
-use lib.ListN.{length}
-use lib.Dec.{eqb}
+use lib.ListN.{length, getD, set}
+use lib.Dec.{eqb, ltb}
 use Rattle.octets.specs.Octets.{part}
 use Rattle.octets.specs.Sentences.{pick}
 use Rattle.sets.specs.Opening.{Board}
@@ -11,6 +11,7 @@ use Rattle.records.specs.declared.Device.{Device}
 use Rattle.records.specs.Image.{deviceOf}
 use Rattle.records.specs.Current.{inUse}
 use Rattle.events.specs.declared.Answer.{Answer}
+use Rattle.events.specs.declared.Answer.the-variants.{Refused}
 use Rattle.events.specs.declared.Event.{Event}
 use Rattle.events.specs.declared.Event.the-variants.{Malformed, StatusEnd, BusReset, Halt, PacketPassed, Power, Suspend, Resume, Wake}
 use Rattle.events.specs.Answer.{Part, numberOf, bytesOf, partOf}
@@ -101,6 +102,27 @@ pub record AnswersRecordEvent (b : Board) (lie : Spots) (device : Device) (e : E
 pub record AnswersImage (b : Board) (lie : Spots) (image : List ℕ) (e : Event) (answer : ℕ) (left : List ℕ) (bytes : List ℕ) (count : ℕ) (shown : List ℕ) (spot : Spot) : Type 0 where
   pub leaves : left ≡ event b image e .image
   pub answers : Hands b (deviceOf image .speed) lie (event b image e .answer) answer bytes count shown spot
+
+-- ---- hk_port_event, of a board that lends one set at every port, and hk_two_port_event, of one that lends two: any event, by its number, at a port of a row of records, each by its image
+-- 02, L8: "18 for a port that is not there", before everything; else the event on that port's record, "and every other record is left as it was"
+pub record RowReply : Type 0 where
+  pub answer : Answer
+  pub row : List (List ℕ)
+
+-- the record at a port
+abbrev pub recordAt : List (List ℕ) → ℕ → List ℕ
+recordAt row port = getD row port []
+
+abbrev pub eventAt : Board → List (List ℕ) → ℕ → Event → RowReply
+eventAt b row port e = record {
+  answer = pick (ltb port (length row)) (event b (recordAt row port) e .answer) (Refused 18);
+  row = pick (ltb port (length row)) (set row port (event b (recordAt row port) e .image)) row;
+}
+
+-- the whole row left, and the answer handed out
+pub record AnswersPortEvent (b : Board) (lie : Spots) (row : List (List ℕ)) (port : ℕ) (e : Event) (answer : ℕ) (left : List (List ℕ)) (bytes : List ℕ) (count : ℕ) (shown : List ℕ) (spot : Spot) : Type 0 where
+  pub leaves : left ≡ eventAt b row port e .row
+  pub answers : Hands b (deviceOf (recordAt row port) .speed) lie (eventAt b row port e .answer) answer bytes count shown spot
 
 -- ---- hk_packet: its number, the packet and where it lies in the reply
 pub record CutsPacket (reply : List ℕ) (replySpot : Spot) (asked size k : ℕ) (answer : ℕ) (shown : List ℕ) (spot : Spot) : Type 0 where

@@ -8,6 +8,7 @@ pub mod Endpoints
 pub mod Order
 pub mod Places
 pub mod Unnoticed
+pub mod Ports
 pub mod Records
 pub mod InhabitedRuns
 pub mod InhabitedTwo

@@ -14,6 +14,7 @@ ghost use Rattle.board.specs.Exports.{Opens, Happens, AnswersSetup, Cuts
 mod endpoint;
 mod makers;
 mod numbers;
+mod ports;
 mod two;
 
 // Opens a set with its serial block: the image becomes the fresh record, whether they are accepted or not.

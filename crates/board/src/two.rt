@@ -1,10 +1,12 @@
 // A board that lends two sets, one for each speed, and one serial block. Both sets are opened, one after the other, before the event's frame stands.
 use crate::endpoint;
 use crate::numbers;
+use crate::ports;
+use events::Answer;
 use events::reply;
 use records::Change;
 ghost use Rattle.sets.specs.Opening.{lentTwo};
-ghost use Rattle.board.specs.Exports.{Opens, spotOf, spotsTwo, numbered, AnswersImage, GivesEndpoint};
+ghost use Rattle.board.specs.Exports.{Opens, spotOf, spotsTwo, numbered, AnswersImage, AnswersPortEvent, GivesEndpoint};
 
 // Opens two sets with their serial block: the image becomes the fresh record, whether they are accepted or not.
 #[no_mangle]
@@ -40,6 +42,35 @@ pub extern "C" fn hk_two_event<'a>(
     let set = steps::in_use(full, high, octets::peek(image, 7));
     let what = numbers::event_of(kind, value, setup);
     let answer = crate::happen(number, true, set, serial, image, what);
+    numbers::hand_out_of(full, set, serial, answer, bytes, count, part)
+}
+
+// Any event, by its number, at a port of a row of records; 18 for a port that is not there, before everything else.
+#[no_mangle]
+pub extern "C" fn hk_two_port_event<'a>(
+    full: &'a [u8],
+    high: &'a [u8],
+    serial: &'a [u8],
+    row: &mut [[u8; 32]],
+    port: usize,
+    kind: u8,
+    value: u8,
+    setup: &[u8],
+    bytes: &mut [u8; 2],
+    count: &mut u8,
+    part: &mut &'a [u8],
+) -> u8
+    ensures { λ r. ⌜ AnswersPortEvent (lentTwo (now (full .entry)) (now (high .entry)) (now (serial .entry)))
+        (spotsTwo (spotOf ((full .entry) .ptr)) (spotOf ((high .entry) .ptr)) (spotOf ((serial .entry) .ptr))) (now (row .entry)) port (numbered kind value (now (setup .entry)))
+        r (now (row .exit)) (now (bytes .exit)) (now (count .exit)) (now (now (part .exit))) (spotOf ((now (part .exit)) .ptr)) ⌝ }
+{
+    if row.len() <= port {
+        return numbers::hand_out_of(full, full, serial, Answer::Refused(18), bytes, count, part);
+    }
+    let number = pairs::opening_two(full, high, serial);
+    let set = steps::in_use(full, high, row[port][7]);
+    let what = numbers::event_of(kind, value, setup);
+    let answer = ports::happen_at(number, true, set, serial, row, port, what);
     numbers::hand_out_of(full, set, serial, answer, bytes, count, part)
 }
 
