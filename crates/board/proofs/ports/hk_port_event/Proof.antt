@@ -24,7 +24,7 @@ returns : tie.Need-returns
 returns c =
     let a = c .before .before .before .before .before .before .before .before .args in
     absent (lent (a .set .now) (a .serial .now)) (spots (spotOf (a .set .ptr)) (spotOf (a .serial .ptr))) (a .row .now) (a .port) (numbered (a .kind) (a .value) (a .setup .now))
-    (c .before .before .before .before .if1 .taken) (c .hand-out .ensures (deviceOf (recordAt (a .row .now) (a .port)) .speed))
+    (omega (arith, c .before .before .before .before .if1 .taken)) (c .hand-out .ensures (deviceOf (recordAt (a .row .now) (a .port)) .speed))
 
 opening-requires : tie.Need-opening-requires
 opening-requires c κs = search needs

@@ -24,7 +24,7 @@ returns c =
     let h = spotOf (a .high .ptr) in
     let s = spotOf (a .serial .ptr) in
     absent (lentTwo (a .full .now) (a .high .now) (a .serial .now)) (spotsTwo f h s) (a .row .now) (a .port) (numbered (a .kind) (a .value) (a .setup .now))
-    (c .before .before .before .before .if1 .taken) (refused-two (a .full .now) (a .high .now) (a .serial .now) (deviceOf (recordAt (a .row .now) (a .port)) .speed) f h s (c .hand-out-of .ensures))
+    (omega (arith, c .before .before .before .before .if1 .taken)) (refused-two (a .full .now) (a .high .now) (a .serial .now) (deviceOf (recordAt (a .row .now) (a .port)) .speed) f h s (c .hand-out-of .ensures))
 
 opening-two-requires : tie.Need-opening-two-requires
 opening-two-requires c κs = search needs
