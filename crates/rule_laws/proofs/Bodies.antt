@@ -32,7 +32,7 @@ use Rattle.descriptors.proofs.CheckWhole.{rest-same, unasked}
 use Rattle.sets.specs.declared.Entry.{Entry}
 use Rattle.sets.specs.Contents.{bodyOf, bodies, isKind, entries, entriesOf}
 use Rattle.sets.specs.Opening.{numberedFrom, goodConfigurations}
-use Rattle.sets.proofs.Configurations.{every-both}
+use Rattle.sets.proofs.Configurations.{every-both, ordered}
 use Rattle.rules.specs.Findings.{Finding, asked, byteAt}
 use Rattle.rules.specs.Configuration.{isWhole, headFindings, headNumbers, placedFindings, surplus, descriptorFindings, restFindings, cutFindings, bodyFindings, configurationFindings, configurationsFrom, configurationsFindings}
 use Rattle.rule_laws.proofs.Frames.{allHold}
@@ -227,22 +227,6 @@ configuration-same limits single at n again e body =
     (every-append (λ x. x .holds) (bodyFindings limits (e .offset) body) (asked 435 (byteAt (e .offset) 0 5) v ∷ asked 436 (byteAt (e .offset) 0 5) (not again) ∷ [])
     ∙ ap (λ g. g && (v && (not again && true))) (body-same limits single (e .offset) body))
     ∙ five (eqb (e .index) n) (eqb (e .language) 0) (goodConfiguration limits body) v (not again)
-
-moved : (s d p : Bool) → (s && (d && p)) ≡ ((d && s) && p)
-moved true d p = rw (and-true d)
-moved false d p = rw (and-false d)
-
-ordered : (i l g v s n′ g′ v′ s′ d′ p′ : Bool)
-    → ((i && l && n′) && (g && g′) && (v && v′) && ((s && s′) && (d′ && p′))) ≡ ((i && l && g && v && s) && (n′ && g′ && v′ && ((d′ && s′) && p′)))
-ordered false l g v s n′ g′ v′ s′ d′ p′ = refl
-ordered true false g v s n′ g′ v′ s′ d′ p′ = refl
-ordered true true g v s false g′ v′ s′ d′ p′ = sym (and-false (g && v && s))
-ordered true true false v s true g′ v′ s′ d′ p′ = refl
-ordered true true true v s true false v′ s′ d′ p′ = sym (and-false (v && s))
-ordered true true true false s true true v′ s′ d′ p′ = refl
-ordered true true true true s true true false s′ d′ p′ = sym (and-false s)
-ordered true true true true false true true true s′ d′ p′ = refl
-ordered true true true true true true true true s′ d′ p′ = moved s′ d′ p′
 
 module _ (limits : Limits) (set : List ℕ) where
   -- the configurations that are left, from index n on
