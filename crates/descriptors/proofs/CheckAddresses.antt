@@ -161,9 +161,10 @@ at-interface s w d e i (inr (p, q)) l =
     (new-interface s (begunBy d) e (marked (w .seen) e) (marked (w .interface) e) (marked (w .setting) e) p l)
 
 -- at an endpoint: what is clear of the words with its address in them is clear of the words, and apart from it
-met : (seen interface setting same alike : Bool) → (seen ⇒ (interface && not setting)) ≡ true
+met : (seen interface setting same alike : Bool) → ((seen ⇒ not setting) && (seen ⇒ interface)) ≡ true
     → (same && not (alike && true)) ≡ ((seen ⇒ (same && (interface && not (alike && setting)))) && (same && not alike))
-met true false setting same alike p = absurd (false≢true p)
+met true false true same alike p = absurd (false≢true p)
+met true false false same alike p = absurd (false≢true p)
 met true true true same alike p = absurd (false≢true p)
 met true true false true true p = refl
 met true true false true false p = refl
@@ -201,9 +202,18 @@ every-and f g (x ∷ xs) = rw (every-and f g xs) (go (f x) (g x) (every f xs) (e
 Apart : Setting → Progress → List Endpoint → Bool
 Apart s w es = every (clear s w) es && pairs apart es
 
+pub both-asked : (seen interface setting : Bool) → (seen ⇒ (interface && not setting)) ≡ ((seen ⇒ not setting) && (seen ⇒ interface))
+both-asked false interface setting = refl
+both-asked true true true = refl
+both-asked true true false = refl
+both-asked true false true = refl
+both-asked true false false = refl
+
 own-clear : (s : Setting) (w : Progress) (d : List ℕ) → clear s w (endpointOf s d) ≡ fresh w (bEndpointAddress d)
 unfolding clear
-own-clear s w d = rw (eq-eqb (s .interface) (s .interface) refl, eq-eqb (s .alternate) (s .alternate) refl)
+own-clear s w d =
+    let k = bitOf (bEndpointAddress d) in
+    rw (eq-eqb (s .interface) (s .interface) refl, eq-eqb (s .alternate) (s .alternate) refl) (both-asked (bit (w .seen) k) (bit (w .interface) k) (bit (w .setting) k))
 
 one-more : {rest : Bool} (f x y z : Bool) → (f ≡ true → rest ≡ ((x && y) && z)) → f && rest ≡ (f && x) && (y && z)
 one-more true x y z h = h refl ∙ and-assoc x y z

@@ -1,5 +1,5 @@
 -- Working definitions for the check of a configuration body, a descriptor at a time; no promise cites them.
-use Prim.Native.Nat.{ℕ, _+_, _-_}
+use Prim.Native.Nat.{ℕ, _-_}
 use mathlib.Core.List.{List, [], _∷_}
 use mathlib.Core.Bool.{Bool, false, _&&_, _||_, not}
 use lib.ListN.{length}
@@ -11,10 +11,9 @@ use Rattle.descriptors.specs.declared.Setting.{Setting}
 use Rattle.descriptors.specs.declared.Stand.{Stand}
 use Rattle.descriptors.specs.declared.check.Progress.{Progress}
 use Rattle.descriptors.specs.declared.check.Verdict.{Verdict}
-use Rattle.descriptors.specs.Limits.{named}
 use Rattle.descriptors.specs.Companion.{isCompanion}
-use Rattle.descriptors.specs.Descriptor.{isInterface, isEndpoint, bNumEndpoints, iInterface, bEndpointAddress, goodEndpoint, goodDescriptor}
-use Rattle.descriptors.specs.Interfaces.{follows}
+use Rattle.descriptors.specs.Descriptor.{isInterface, isEndpoint, bNumEndpoints, iInterface, bEndpointAddress, typeAllowed, interfaceLongEnough, goodEndpoint, goodDescriptor}
+use Rattle.descriptors.specs.Interfaces.{follows, numberZero, alternateZero, alternateWithin, isLastNumber}
 use Rattle.descriptors.specs.Configuration.{bitOf, configurationReferences}
 use Rattle.descriptors.specs.Walk.{settingAt, Walk, testing}
 use Rattle.octets.specs.Table.{has}
@@ -23,18 +22,31 @@ use Rattle.octets.specs.Table.{has}
 -- alternates end at 15
 abbrev pub placed : Stand → Setting → Bool
 placed last t =
-    ((last .inside && follows (settingAt last) t) || (not (last .inside) && eqb (t .interface) 0 && eqb (t .alternate) 0)) &&
-    leb (t .alternate) 15
+    ((last .inside && follows (settingAt last) t) || (not (last .inside) && numberZero t && alternateZero t)) && alternateWithin t
 
--- an address that was seen before stands in this interface, and not in this setting
+-- "An address occurs once in a setting": one that was seen before does not stand in this setting
+abbrev pub onceInSetting : Progress → ℕ → Bool
+onceInSetting w address = bit (w .seen) (bitOf address) ⇒ not (bit (w .setting) (bitOf address))
+
+-- "and in no second interface": one that was seen before stands in this interface
+abbrev pub inNoSecondInterface : Progress → ℕ → Bool
+inNoSecondInterface w address = bit (w .seen) (bitOf address) ⇒ bit (w .interface) (bitOf address)
+
 abbrev pub fresh : Progress → ℕ → Bool
-fresh w address = bit (w .seen) (bitOf address) ⇒ (bit (w .interface) (bitOf address) && not (bit (w .setting) (bitOf address)))
+fresh w address = onceInSetting w address && inNoSecondInterface w address
+
+-- "The endpoints after an interface, before the next, number its bNumEndpoints": all of them came; and one more may come, which is never so before the first interface
+abbrev pub allCame : Progress → Bool
+allCame w = eqb (w .coming) 0
+
+abbrev pub oneMayCome : Progress → Bool
+oneMayCome w = leb 1 (w .coming)
 
 -- a descriptor may come next: by where it and the one before it stand and the count of endpoints, and by its address
 abbrev pub inOrder : Progress → Stand → Stand → List ℕ → Bool
 inOrder w last stand d =
-    (isInterface d ⇒ (eqb (w .coming) 0 && placed last (settingAt stand))) &&
-    (isEndpoint d ⇒ leb 1 (w .coming))
+    (isInterface d ⇒ (allCame w && placed last (settingAt stand))) &&
+    (isEndpoint d ⇒ oneMayCome w)
 
 abbrev pub unshared : Progress → Stand → Stand → List ℕ → Bool
 unshared w last stand d = isEndpoint d ⇒ fresh w (bEndpointAddress d)
@@ -44,10 +56,10 @@ allowed limits w last stand d = goodDescriptor limits d && inOrder w last stand 
 
 -- the same of an interface descriptor, and of an endpoint descriptor
 abbrev pub mayBegin : Limits → Progress → Stand → Stand → List ℕ → Bool
-mayBegin limits w last stand d = leb 9 (length d) && (not (named (limits .refused) 4) && eqb (w .coming) 0 && placed last (settingAt stand))
+mayBegin limits w last stand d = interfaceLongEnough d && (typeAllowed limits 4 && allCame w && placed last (settingAt stand))
 
 abbrev pub mayList : Limits → Progress → List ℕ → Bool
-mayList limits w d = not (named (limits .refused) 5) && goodEndpoint limits d && leb 1 (w .coming) && fresh w (bEndpointAddress d)
+mayList limits w d = typeAllowed limits 5 && goodEndpoint limits d && oneMayCome w && fresh w (bEndpointAddress d)
 
 -- what is known after it: after an interface descriptor, after an endpoint descriptor, and after either, or another
 abbrev pub atInterface : Progress → Stand → Stand → List ℕ → Progress
@@ -69,9 +81,13 @@ atEndpoint w d = record {
 abbrev pub onward : Progress → Stand → Stand → List ℕ → Progress
 onward w last stand d = pick (isInterface d) (atInterface w last stand d) (pick (isEndpoint d) (atEndpoint w d) w)
 
--- the body may end where the last descriptor stands at `last`, for n interfaces
+-- "the last number is bNumInterfaces − 1", and so there is one: the last descriptor stands at `last`
+abbrev pub reachesLast : ℕ → Stand → Bool
+reachesLast n last = last .inside && isLastNumber n (settingAt last)
+
+-- the body may end there, for n interfaces
 abbrev pub ended : ℕ → Progress → Stand → Bool
-ended n w last = last .inside && eqb (last .interface + 1) n && eqb (w .coming) 0
+ended n w last = reachesLast n last && allCame w
 
 abbrev pub beginning : Progress
 beginning = record { coming = 0; setting = 0; interface = 0; seen = 0 }

@@ -35,16 +35,41 @@ configurationAttributes d = byte d 7
 abbrev pub bMaxPower : List ℕ → ℕ
 bMaxPower d = byte d 8
 
--- "The first descriptor is type 2, at least 9 long; wTotalLength equals the body's length; bmAttributes has bit 7 one and bits 4–0 zero;
--- bMaxPower at most 250." "bNumInterfaces 1–16."
+-- "The first descriptor is type 2"
+abbrev pub isConfiguration : List ℕ → Bool
+isConfiguration d = eqb (bDescriptorType d) 2
+
+-- "at least 9 long"
+abbrev pub headLongEnough : List ℕ → Bool
+headLongEnough d = leb 9 (length d)
+
+-- "wTotalLength equals the body's length"
+abbrev pub totalIsSize : ℕ → List ℕ → Bool
+totalIsSize size d = eqb (wTotalLength d) size
+
+-- "bmAttributes has bit 7 one"
+abbrev pub bitSevenOne : List ℕ → Bool
+bitSevenOne d = eqb (configurationAttributes d / 128) 1
+
+-- "and bits 4–0 zero"
+abbrev pub lowBitsZero : List ℕ → Bool
+lowBitsZero d = eqb (configurationAttributes d % 32) 0
+
+-- "bMaxPower at most 250"
+abbrev pub powerWithin : List ℕ → Bool
+powerWithin d = leb (bMaxPower d) 250
+
+-- "bNumInterfaces 1–16": at least 1, and at most 16
+abbrev pub countsInterface : List ℕ → Bool
+countsInterface d = leb 1 (bNumInterfaces d)
+
+abbrev pub atMost16Interfaces : List ℕ → Bool
+atMost16Interfaces d = leb (bNumInterfaces d) 16
+
+-- the first descriptor of a body of size bytes
 abbrev pub goodHead : ℕ → List ℕ → Bool
 goodHead size d =
-    eqb (bDescriptorType d) 2 &&
-    leb 9 (length d) &&
-    eqb (wTotalLength d) size &&
-    eqb (configurationAttributes d / 128) 1 && eqb (configurationAttributes d % 32) 0 &&
-    leb (bMaxPower d) 250 &&
-    leb 1 (bNumInterfaces d) && leb (bNumInterfaces d) 16
+    isConfiguration d && headLongEnough d && totalIsSize size d && bitSevenOne d && lowBitsZero d && powerWithin d && countsInterface d && atMost16Interfaces d
 
 -- the descriptors of a body of size bytes
 unfoldable pub goodDescriptors : Limits → ℕ → List (List ℕ) → Bool

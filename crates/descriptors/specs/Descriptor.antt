@@ -48,43 +48,85 @@ bInterval d = byte d 6
 abbrev pub transferType : ℕ → ℕ
 transferType attributes = attributes % 4
 
--- "address bits 6–4 zero, number 1–15"
-abbrev pub goodAddress : ℕ → Bool
-goodAddress address = eqb (address / 16 % 8) 0 && leb 1 (address % 16)
+-- "address bits 6–4 zero"
+abbrev pub addressBitsZero : ℕ → Bool
+addressBitsZero address = eqb (address / 16 % 8) 0
 
--- "Attributes bits 7–6 zero; transfer type 1 (isochronous), 2 (bulk) or 3 (interrupt); bits 5–2 zero unless isochronous"
+-- "number 1–15"
+abbrev pub numberNotZero : ℕ → Bool
+numberNotZero address = leb 1 (address % 16)
+
+abbrev pub goodAddress : ℕ → Bool
+goodAddress address = addressBitsZero address && numberNotZero address
+
+-- "Attributes bits 7–6 zero"
+abbrev pub highBitsZero : ℕ → Bool
+highBitsZero attributes = leb attributes 63
+
+-- "transfer type 1 (isochronous), 2 (bulk) or 3 (interrupt)"
+abbrev pub notControl : ℕ → Bool
+notControl attributes = leb 1 (transferType attributes)
+
+-- "bits 5–2 zero unless isochronous"
+abbrev pub middleBitsZero : ℕ → Bool
+middleBitsZero attributes = leb attributes 3 || eqb (transferType attributes) 1
+
 abbrev pub goodAttributes : ℕ → Bool
-goodAttributes attributes =
-    leb attributes 63 && leb 1 (transferType attributes) && (leb attributes 3 || eqb (transferType attributes) 1)
+goodAttributes attributes = highBitsZero attributes && notControl attributes && middleBitsZero attributes
 
 -- a size of interrupt or isochronous: its bits 10–0 in the range, its bits 15–11 at most the speed's
 abbrev pub sized : Limits → ℕ → ℕ → ℕ → Bool
 sized limits least most size = leb least (size % 2048) && leb (size % 2048) most && leb (size / 2048) (limits .bursts)
 
--- "wMaxPacketSize: bulk 8, 16, 32 or 64; interrupt 0–64; isochronous 0–1,023"
-abbrev pub goodSize : Limits → ℕ → ℕ → Bool
-goodSize limits transfer size =
-    (eqb transfer 2 ⇒ doubled (limits .bulk) size) &&
-    (eqb transfer 3 ⇒ sized limits (limits .interrupt .least) (limits .interrupt .most) size) &&
-    (eqb transfer 1 ⇒ sized limits (limits .isochronous .least) (limits .isochronous .most) size)
+-- "wMaxPacketSize: bulk 8, 16, 32 or 64"
+abbrev pub bulkSize : Limits → ℕ → ℕ → Bool
+bulkSize limits transfer size = eqb transfer 2 ⇒ doubled (limits .bulk) size
 
--- "bInterval: interrupt 1–255, isochronous 1–16, bulk free"
+-- "interrupt 0–64"
+abbrev pub interruptSize : Limits → ℕ → ℕ → Bool
+interruptSize limits transfer size = eqb transfer 3 ⇒ sized limits (limits .interrupt .least) (limits .interrupt .most) size
+
+-- "isochronous 0–1,023"
+abbrev pub isochronousSize : Limits → ℕ → ℕ → Bool
+isochronousSize limits transfer size = eqb transfer 1 ⇒ sized limits (limits .isochronous .least) (limits .isochronous .most) size
+
+abbrev pub goodSize : Limits → ℕ → ℕ → Bool
+goodSize limits transfer size = bulkSize limits transfer size && interruptSize limits transfer size && isochronousSize limits transfer size
+
+-- "bInterval: interrupt 1–255"
+abbrev pub interruptInterval : Limits → ℕ → ℕ → Bool
+interruptInterval limits transfer interval = eqb transfer 3 ⇒ within (limits .polling) interval
+
+-- "isochronous 1–16, bulk free"
+abbrev pub isochronousInterval : Limits → ℕ → ℕ → Bool
+isochronousInterval limits transfer interval = eqb transfer 1 ⇒ within (limits .period) interval
+
 abbrev pub goodInterval : Limits → ℕ → ℕ → Bool
-goodInterval limits transfer interval =
-    (eqb transfer 3 ⇒ within (limits .polling) interval) &&
-    (eqb transfer 1 ⇒ within (limits .period) interval)
+goodInterval limits transfer interval = interruptInterval limits transfer interval && isochronousInterval limits transfer interval
+
+-- "5 at least 7"
+abbrev pub endpointLongEnough : List ℕ → Bool
+endpointLongEnough d = leb 7 (length d)
 
 abbrev pub goodEndpoint : Limits → List ℕ → Bool
 goodEndpoint limits d =
-    leb 7 (length d) &&
+    endpointLongEnough d &&
     goodAddress (bEndpointAddress d) &&
     goodAttributes (bmAttributes d) &&
     goodSize limits (transferType (bmAttributes d)) (wMaxPacketSize d) &&
     goodInterval limits (transferType (bmAttributes d)) (bInterval d)
 
--- "After it, types 1, 2, 3, 6 and 7 are refused; 4 needs at least 9 bytes, 5 at least 7; any other type is stepped over."
+-- "After it, types 1, 2, 3, 6 and 7 are refused"
+abbrev pub typeAllowed : Limits → ℕ → Bool
+typeAllowed limits t = not (named (limits .refused) t)
+
+-- "4 needs at least 9 bytes"
+abbrev pub interfaceLongEnough : List ℕ → Bool
+interfaceLongEnough d = leb 9 (length d)
+
+-- "any other type is stepped over"
 abbrev pub goodDescriptor : Limits → List ℕ → Bool
 goodDescriptor limits d =
-    not (named (limits .refused) (bDescriptorType d)) &&
-    (isInterface d ⇒ leb 9 (length d)) &&
+    typeAllowed limits (bDescriptorType d) &&
+    (isInterface d ⇒ interfaceLongEnough d) &&
     (isEndpoint d ⇒ goodEndpoint limits d)

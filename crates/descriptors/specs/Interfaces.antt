@@ -41,26 +41,45 @@ unfoldable pub endpointsOf : List Group → List Endpoint
 endpointsOf [] = []
 endpointsOf (g ∷ gs) = map (endpointOf (settingOf g)) (g .endpoints) ++ endpointsOf gs
 
+-- "number 0"
+abbrev pub numberZero : Setting → Bool
+numberZero s = eqb (s .interface) 0
+
+-- "alternate 0"
+abbrev pub alternateZero : Setting → Bool
+alternateZero s = eqb (s .alternate) 0
+
+-- "the same number", and "the number one higher"
+abbrev pub sameNumber : Setting → Setting → Bool
+sameNumber s t = eqb (t .interface) (s .interface)
+
+abbrev pub nextNumber : Setting → Setting → Bool
+nextNumber s t = eqb (t .interface) (s .interface + 1)
+
 -- "each later one has either the same number and the alternate one higher, or the number one higher and alternate 0"
 abbrev pub follows : Setting → Setting → Bool
-follows s t =
-    (eqb (t .interface) (s .interface) && eqb (t .alternate) (s .alternate + 1)) ||
-    (eqb (t .interface) (s .interface + 1) && eqb (t .alternate) 0)
+follows s t = (sameNumber s t && eqb (t .alternate) (s .alternate + 1)) || (nextNumber s t && alternateZero t)
 
 -- "The first is number 0, alternate 0": at least one is there
 abbrev pub startsAtZero : List Setting → Bool
 startsAtZero [] = false
-startsAtZero (s ∷ ss) = eqb (s .interface) 0 && eqb (s .alternate) 0
+startsAtZero (s ∷ ss) = numberZero s && alternateZero s
 
 -- "the last number is bNumInterfaces − 1"
+abbrev pub isLastNumber : ℕ → Setting → Bool
+isLastNumber n s = eqb (s .interface + 1) n
+
 unfoldable pub endsAt : ℕ → List Setting → Bool
 endsAt n [] = false
-endsAt n (s ∷ []) = eqb (s .interface + 1) n
+endsAt n (s ∷ []) = isLastNumber n s
 endsAt n (s ∷ t ∷ ts) = endsAt n (t ∷ ts)
 
 -- "alternates end at 15"
+abbrev pub alternateWithin : Setting → Bool
+alternateWithin s = leb (s .alternate) 15
+
 abbrev pub goodSettings : ℕ → List Setting → Bool
-goodSettings n ss = startsAtZero ss && neighbours follows ss && endsAt n ss && every (λ s. leb (s .alternate) 15) ss
+goodSettings n ss = startsAtZero ss && neighbours follows ss && endsAt n ss && every alternateWithin ss
 
 -- "The endpoints after an interface, before the next, number its bNumEndpoints"
 abbrev pub counted : Group → Bool

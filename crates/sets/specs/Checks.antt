@@ -4,27 +4,30 @@ use mathlib.Core.Path.{_≡_}
 use mathlib.Core.List.{List, [], _∷_}
 use mathlib.Core.Bool.{Bool, true, _&&_, _||_, not}
 use lib.ListN.{length}
-use lib.Dec.{eqb, leb}
+use lib.Dec.{eqb}
 use Rattle.octets.specs.Sentences.{pick, every, neighbours}
 use Rattle.descriptors.specs.declared.Limits.{Limits}
-use Rattle.descriptors.specs.Limits.{named}
-use Rattle.descriptors.specs.Configuration.{bConfigurationValue, goodConfiguration}
+use Rattle.descriptors.specs.Configuration.{goodConfiguration}
 use Rattle.octets.specs.Table.{has}
 use Rattle.descriptors.specs.Check.{configurationRefers}
 use Rattle.sets.specs.declared.Entry.{Entry}
-use Rattle.sets.specs.Contents.{bodyOf, bodies, bodiesAt, entries, entriesOf, before}
+use Rattle.sets.specs.Contents.{bodyOf, bodies, bodiesAt, entries, entriesOf, before, kindAllowed, bodyLongEnough, beginsAt, hasIndex, hasNoLanguage}
 use Rattle.sets.specs.Device.{deviceBody, iManufacturer, iProduct, iSerialNumber}
+use Rattle.sets.specs.Opening.{valueNonzero}
 use Rattle.sets.specs.Strings.{goodString, goodLanguages, languageZero, languages, listed, notSerial, goodReference}
 
--- an entry whose body has to begin at `start`, the first or after another
+-- an entry is the first, or comes after another
+abbrev pub isNext : Bool → Entry → Entry → Bool
+isNext first last e = first || before last e
+
+-- an entry whose body has to begin at `start`
 abbrev pub goodEntry : Limits → Bool → Entry → ℕ → Entry → Bool
-goodEntry limits first last start e =
-    named (limits .entries) (e .kind) && leb 2 (e .length) && eqb (e .offset) start && (first || before last e)
+goodEntry limits first last start e = kindAllowed limits e && bodyLongEnough e && beginsAt start e && isNext first last e
 
 -- a configuration entry with index n, its body, and whether its value was there before
 abbrev pub goodNumbered : Limits → Entry → ℕ → List ℕ → Bool → Bool
 goodNumbered limits e n body seen =
-    eqb (e .index) n && eqb (e .language) 0 && goodConfiguration limits body && leb 1 (bConfigurationValue body) && not seen
+    hasIndex n e && hasNoLanguage e && goodConfiguration limits body && valueNonzero body && not seen
 
 -- what is asked of a string entry alone, once the languages are known
 abbrev pub goodStringEntry : List ℕ → List ℕ → ℕ → Entry → Bool

@@ -1,5 +1,7 @@
 -- `descriptors::check::is_fresh` meets its contract. No axiom.
+use mathlib.Core.Path.{_∙_}
 use borrow.Author.Needs.{needs}
+use Rattle.descriptors.proofs.CheckAddresses.{both-asked}
 use Rattle.descriptors.proofs.check.is_fresh.Statement.{statement}
 use Rattle.descriptors.proofs.check.is_fresh.Tie as tie
 
@@ -16,7 +18,7 @@ test-bit-requires-3 : tie.Need-test-bit-requires-3
 test-bit-requires-3 c κs = search needs
 
 returns : tie.Need-returns
-returns c = cc
+returns c = both-asked (c .before .before .test-bit .result) (c .before .test-bit2 .result) (c .test-bit3 .result) ∙ cc
 
 pub is-fresh-spec : {M : Type 1} → statement M
 is-fresh-spec =
