@@ -24,12 +24,6 @@ pub enum EntryFound {
     Nothing,
 }
 
-// What a pass over the string entries tells: whether they are good, and then the numbers that a reference may be.
-pub struct Reading {
-    pub good: bool,
-    pub names: [u32; 8],
-}
-
 // Opening: 0, or the number of the first group that is broken.
 pub fn opening(set: &[u8], serial: &[u8], limits: Limits) -> u8
     ensures { λ r. ⌜ r ≡ opening limits (lent (now (set .entry)) (now (serial .entry))) ⌝ }
@@ -45,13 +39,13 @@ pub fn opening(set: &[u8], serial: &[u8], limits: Limits) -> u8
     }
     // The strings are read first: the one walk through a configuration tells its references too.
     let languages = string::string_zero(set);
-    let strings = string::read(set, languages);
-    let names = strings.names;
+    let mut names = [0u32; 8];
+    let strings = string::read(set, languages, &mut names);
     let configurations = configuration::good_configurations(set, limits, &names);
     if !configurations.good {
         return 4;
     }
-    if !string::good_strings(set, strings.good, &names, configurations.refers) {
+    if !string::good_strings(set, strings, &names, configurations.refers) {
         return 5;
     }
     if !device::good_serial(device::serial_index(set), serial) {

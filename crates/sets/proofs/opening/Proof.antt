@@ -55,7 +55,7 @@ string-zero-requires : tie.Need-string-zero-requires
 string-zero-requires c κs = search needs
 
 read-requires : tie.Need-read-requires
-read-requires c κs = ordered _ _ (frame (c .before .before .before .before .before)) (contents (c .before .before .before))
+read-requires c κs = ordered _ _ (frame (c .before .before .before .before .before .before)) (contents (c .before .before .before .before))
 
 good-configurations-requires : tie.Need-good-configurations-requires
 good-configurations-requires c κs = search needs
@@ -78,8 +78,8 @@ good-strings-requires c κs =
     let v = g .before .before .good-configurations in
     let l = g .before .before .before .before .before .before .string-zero .ensures in
     record {
-      entries = rw l at (g .before .before .before .before .before .read .ensures .0);
-      named = λ p j q. rw l at (g .before .before .before .before .before .read .ensures .1 p j q);
+      entries = rw l at (g .before .before .before .before .read .ensures .0);
+      named = λ p j q. rw l at (g .before .before .before .before .read .ensures .1 p j q);
       told = told (v .result) _ _ (v .ensures) (not-false (v .result .good) (g .if4 .left));
     }
 
