@@ -1,5 +1,6 @@
 // A descriptor set: its contents, and whether it may be opened.
 pub mod capabilities;
+pub mod checks;
 pub mod configuration;
 pub mod contents;
 pub mod device;
@@ -28,28 +29,14 @@ pub enum EntryFound {
 pub fn opening(set: &[u8], serial: &[u8], limits: Limits) -> u8
     ensures { λ r. ⌜ r ≡ opening limits (lent (now (set .entry)) (now (serial .entry))) ⌝ }
 {
-    if !contents::good_frame(set) {
-        return 1;
-    }
-    if !contents::good_contents(set, limits) {
-        return 2;
-    }
-    if !device::good_devices(set, limits) {
-        return 3;
+    let first = checks::first_groups(set, limits);
+    if first != 0 {
+        return first;
     }
     // The strings are read first: the one walk through a configuration tells its references too.
     let languages = string::string_zero(set);
     let mut names = [0u32; 8];
     let strings = string::read(set, languages, &mut names);
     let configurations = configuration::good_configurations(set, limits, &names);
-    if !configurations.good {
-        return 4;
-    }
-    if !string::good_strings(set, strings, &names, configurations.refers) {
-        return 5;
-    }
-    if !device::good_serial(device::serial_index(set), serial) {
-        return 6;
-    }
-    0
+    checks::last_groups(set, serial, configurations, strings, &names)
 }

@@ -1,9 +1,9 @@
 // The step of a device: the set or the two sets and the serial block that are lent are checked, then the record, and then the event is answered.
+use crate::facts::Selected;
 use events::Answer;
 use events::Event;
 use events::Outcome;
 use events::reaction;
-use crate::facts::Selected;
 use events::reaction::Reaction;
 use records::Device;
 ghost use mathlib.Core.Path.{_≡_};
