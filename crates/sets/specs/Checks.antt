@@ -7,13 +7,14 @@ use lib.ListN.{length}
 use lib.Dec.{eqb, leb}
 use Rattle.octets.specs.Sentences.{pick, every, neighbours}
 use Rattle.descriptors.specs.declared.Limits.{Limits}
+use Rattle.descriptors.specs.declared.check.Verdict.{Verdict}
 use Rattle.descriptors.specs.Configuration.{goodConfiguration}
 use Rattle.octets.specs.Table.{has}
 use Rattle.descriptors.specs.Check.{configurationRefers}
 use Rattle.sets.specs.declared.Entry.{Entry}
-use Rattle.sets.specs.Contents.{bodyOf, bodies, bodiesAt, entries, entriesOf, before, kindAllowed, bodyLongEnough, beginsAt, hasIndex, hasNoLanguage}
+use Rattle.sets.specs.Contents.{bodyOf, bodies, bodiesAt, entries, entriesOf, before, goodFrame, goodContents, kindAllowed, bodyLongEnough, beginsAt, hasIndex, hasNoLanguage}
 use Rattle.sets.specs.Device.{deviceBody, iManufacturer, iProduct, iSerialNumber}
-use Rattle.sets.specs.Opening.{valueNonzero}
+use Rattle.sets.specs.Opening.{goodDevices, valueNonzero}
 use Rattle.sets.specs.Strings.{goodString, goodLanguages, languageZero, languages, listed, notSerial, goodReference}
 
 -- an entry is the first, or comes after another
@@ -67,3 +68,15 @@ pub record Read (set names : List ℕ) (refer good : Bool) : Type 0 where
   pub entries : good ≡ goodListed set (languages set)
   pub named : good ≡ true → (j : ℕ) → j < 256 → has names j ≡ mayName set (languages set) j
   pub told : refer ≡ every (configurationRefers names) (bodies 2 set)
+
+-- groups 1 to 3 are met
+pub record Begins (limits : Limits) (set : List ℕ) : Type 0 where
+  pub frame : goodFrame set ≡ true
+  pub contents : goodContents limits set ≡ true
+  pub devices : goodDevices limits set ≡ true
+
+-- what is read and walked through before groups 4 to 6 are asked: the strings, and the configurations with their references
+pub record Ready (set names : List ℕ) (good : Bool) (configurations : Verdict) : Type 0 where
+  pub entries : good ≡ goodListed set (languages set)
+  pub named : good ≡ true → (j : ℕ) → j < 256 → has names j ≡ mayName set (languages set) j
+  pub told : configurations .good ≡ true → configurations .refers ≡ every (configurationRefers names) (bodies 2 set)
