@@ -1,29 +1,27 @@
 -- The rule that is named belongs to the group that opening names, for all inputs, of a kind without companions and BOS entries; an accepted set gives rule 0. No axiom.
 use Prim.Native.Nat.{ℕ, _/_}
-use mathlib.Core.Path.{_≡_, refl, sym, ap, _∙_}
-use mathlib.Core.List.{List, [], _∷_, _++_}
+use mathlib.Core.Path.{_≡_, refl, sym, _∙_}
+use mathlib.Core.List.{List, [], _∷_}
 use mathlib.Core.Bool.{Bool, true, false, not, false≢true}
-use lib.Dec.{eqb, leb}
+use lib.Dec.{eqb}
 use Rattle.octets.specs.Sentences.{pick, every, first, pairs}
 use Rattle.octets.proofs.Sentences.{conjunct}
 use Rattle.descriptors.specs.declared.Limits.{Limits}
 use Rattle.descriptors.specs.Limits.{named, fullSpeed}
-use Rattle.descriptors.specs.Configuration.{bConfigurationValue, goodConfiguration}
-use Rattle.sets.specs.Contents.{bodies, entries, entriesOf, total, bodiesAt, goodFrame, goodContents}
+use Rattle.descriptors.specs.Configuration.{goodConfiguration}
+use Rattle.sets.specs.Contents.{bodies, entries, entriesOf, total, bodiesAt}
 use Rattle.sets.specs.Device.{deviceBody, iSerialNumber}
-use Rattle.sets.specs.Strings.{goodStrings}
-use Rattle.sets.specs.Opening.{Board, numberedFrom, goodDevices, goodConfigurations, goodBlock, opening}
-use Rattle.rules.specs.Findings.{Finding}
+use Rattle.sets.specs.Opening.{Board, numberedFrom, valueNonzero, distinctValues, goodConfigurations, opening}
 use Rattle.rules.specs.Frame.{frameFindings, contentsFindings, noEntry}
 use Rattle.rules.specs.Device.{deviceFindings, serialFindings}
 use Rattle.rules.specs.Configuration.{configurationsFindings}
 use Rattle.rules.specs.Strings.{stringsFindings}
 use Rattle.rules.specs.Explained.{findings, isBroken, explained}
-use Rattle.rule_laws.proofs.Frames.{allHold, frame-same, contents-same, devices-same, block-same}
+use Rattle.rules.proofs.Grouped.{frames, contents, devices, serials, configurations, group-5}
+use Rattle.rule_laws.proofs.Frames.{frame-same, contents-same, devices-same, block-same}
 use Rattle.rule_laws.proofs.Bodies.{configurations-same}
 use Rattle.rule_laws.proofs.Texts.{strings-same}
 use Rattle.rule_laws.proofs.Groups.{groupOf, group-first, group-last}
-use Rattle.rule_laws.proofs.Grouped.{frames, contents, devices, serials, configurations, group-5}
 
 -- one group: what is said of the later ones matters only where it holds
 step : (a b : Bool) (n x y : ℕ) → a ≡ b → (b ≡ true → x ≡ y) → pick (not a) n x ≡ pick (not b) n y
@@ -37,8 +35,7 @@ good-bodies : (limits : Limits) (set : List ℕ) → goodConfigurations limits s
 unfolding goodConfigurations
 good-bodies limits set g =
     conjunct 1
-    (numberedFrom 0 (entriesOf 2 set) ∷ every (goodConfiguration limits) (bodies 2 set) ∷ every (λ b. leb 1 (bConfigurationValue b)) (bodies 2 set)
-    ∷ pairs (λ a b. not (eqb (bConfigurationValue a) (bConfigurationValue b))) (bodies 2 set) ∷ [])
+    (numberedFrom 0 (entriesOf 2 set) ∷ every (goodConfiguration limits) (bodies 2 set) ∷ every valueNonzero (bodies 2 set) ∷ pairs distinctValues (bodies 2 set) ∷ [])
     g
 
 named-group : (limits : Limits) → limits .companions ≡ false → named (limits .entries) 15 ≡ false → (b : Board) → groupOf (first isBroken (findings limits b)) ≡ opening limits b

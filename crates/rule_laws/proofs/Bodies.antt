@@ -1,5 +1,5 @@
 -- Group 4, of a kind without companions: all its rules hold exactly where opening's definition of the group does. No axiom.
-use Prim.Native.Nat.{ℕ, zero, suc, _+_, _-_, _/_, _%_, _<_, _≤_}
+use Prim.Native.Nat.{ℕ, zero, suc, _+_, _-_, _<_, _≤_}
 use native.Mathlib.Omega.{arith}
 use mathlib.Core.Path.{_≡_, refl, sym, ap, _∙_}
 use mathlib.Core.List.{List, [], _∷_, _++_, map}
@@ -7,34 +7,33 @@ use mathlib.Core.Bool.{Bool, true, false, _&&_, _||_, not, and-true, and-false, 
 use mathlib.Core.Option.{some, none}
 use lib.ListN.{length, take}
 use lib.Seq.{length-take-le, getD-take}
-use lib.Dec.{eqb, leb}
+use lib.Dec.{leb}
 use borrow.Author.Tests.{eq-eqb, leb-true, leb-false}
-use Rattle.octets.specs.Bit.{bit}
 use Rattle.octets.specs.Octets.{byte}
-use Rattle.octets.specs.Sentences.{pick, _⇒_, every, any, only, pairs, member}
-use Rattle.octets.proofs.Sentences.{cases, every-append, every-alike}
+use Rattle.octets.specs.Sentences.{pick, _⇒_, every, only, pairs}
+use Rattle.octets.proofs.Sentences.{cases, every-append}
 use Rattle.descriptors.specs.declared.Limits.{Limits}
 use Rattle.descriptors.specs.declared.Setting.{Setting}
 use Rattle.descriptors.specs.declared.Stand.{Stand}
 use Rattle.descriptors.specs.declared.check.Progress.{Progress}
-use Rattle.descriptors.specs.Limits.{within, doubled, named}
 use Rattle.descriptors.specs.Cut.{Cutting, whole, broken, descriptor, cut, cutAfter, descriptorsOf, wellCut}
-use Rattle.descriptors.specs.Descriptor.{bDescriptorType, isInterface, isEndpoint, bEndpointAddress, bmAttributes, wMaxPacketSize, bInterval, transferType, sized, goodDescriptor}
-use Rattle.descriptors.specs.Interfaces.{grouped, follows, goodInterfaces}
+use Rattle.descriptors.specs.Descriptor.{bDescriptorType, isInterface, isEndpoint, bEndpointAddress, bmAttributes, wMaxPacketSize, bInterval, transferType, goodDescriptor}
+use Rattle.descriptors.specs.Descriptor.{addressBitsZero, numberNotZero, highBitsZero, notControl, middleBitsZero, bulkSize, interruptSize, isochronousSize, interruptInterval, isochronousInterval, endpointLongEnough, typeAllowed, interfaceLongEnough}
+use Rattle.descriptors.specs.Interfaces.{grouped, numberZero, alternateZero, follows, alternateWithin, goodInterfaces}
 use Rattle.descriptors.specs.Companion.{goodCompanions}
-use Rattle.descriptors.specs.Configuration.{bNumInterfaces, bConfigurationValue, bitOf, goodHead, goodDescriptors, goodConfiguration}
+use Rattle.descriptors.specs.Configuration.{bNumInterfaces, goodHead, goodDescriptors, goodConfiguration}
 use Rattle.descriptors.specs.Walk.{settingAt, before, standOf, orElse, walked}
-use Rattle.descriptors.specs.Check.{placed, fresh, allowed, accompanied, ended, Course, starting, passing, checking}
+use Rattle.descriptors.specs.Check.{placed, onceInSetting, inNoSecondInterface, allCame, oneMayCome, allowed, accompanied, reachesLast, ended, Course, starting, passing, checking}
 use Rattle.descriptors.proofs.Walk.{after-short}
 use Rattle.descriptors.proofs.CheckCompanions.{after}
-use Rattle.descriptors.proofs.CheckOrder.{kinds, eqb-swap}
+use Rattle.descriptors.proofs.CheckOrder.{kinds}
 use Rattle.descriptors.proofs.CheckWhole.{rest-same, unasked}
 use Rattle.sets.specs.declared.Entry.{Entry}
-use Rattle.sets.specs.Contents.{bodyOf, bodies, isKind, entries, entriesOf}
-use Rattle.sets.specs.Opening.{numberedFrom, goodConfigurations}
+use Rattle.sets.specs.Contents.{bodyOf, bodies, isKind, entries, hasIndex, hasNoLanguage}
+use Rattle.sets.specs.Opening.{numberedFrom, valueNonzero, distinctValues, goodConfigurations}
 use Rattle.sets.proofs.Configurations.{every-both, ordered}
 use Rattle.rules.specs.Findings.{Finding, asked, byteAt}
-use Rattle.rules.specs.Configuration.{isWhole, headFindings, headNumbers, placedFindings, surplus, descriptorFindings, restFindings, cutFindings, bodyFindings, configurationFindings, configurationsFrom, configurationsFindings}
+use Rattle.rules.specs.Configuration.{isWhole, headFindings, headNumbers, placedFindings, surplus, descriptorFindings, restFindings, cutFindings, bodyFindings, configurationFindings, distinctFrom, configurationsFrom, configurationsFindings}
 use Rattle.rule_laws.proofs.Frames.{allHold}
 
 -- ---- a body as it is cut: each descriptor is whole, or the body breaks off in it
@@ -65,7 +64,7 @@ proper zero (b ∷ bs) = go (leb 2 b) refl (proper (b - 1) bs)
 -- ---- one descriptor
 place-same : (inside : Bool) (start at : ℕ) (s t : Setting) (x : Finding)
     → allHold (placedFindings inside start at s t ++ (x ∷ []))
-    ≡ (((inside && follows s t) || (not inside && eqb (t .interface) 0 && eqb (t .alternate) 0)) && x .holds)
+    ≡ (((inside && follows s t) || (not inside && numberZero t && alternateZero t)) && x .holds)
 unfolding every
 place-same true start at s t x = simp (or-false, and-true)
 place-same false start at s t x = simp (and-true, and-assoc)
@@ -75,22 +74,15 @@ interface-row false l9 c0 p = refl
 interface-row true true c0 p = simp and-true
 interface-row true false c0 p = simp and-false
 
-surplus-same : (inside : Bool) (start at head : ℕ) (w : Progress) → surplus inside start at head w .holds ≡ leb 1 (w .coming)
+surplus-same : (inside : Bool) (start at head : ℕ) (w : Progress) → surplus inside start at head w .holds ≡ oneMayCome w
 surplus-same true start at head w = refl
 surplus-same false start at head w = refl
 
-fresh-same : (s i t : Bool) → ((s ⇒ not t) && ((s ⇒ i) && true)) ≡ (s ⇒ (i && not t))
-fresh-same false i t = refl
-fresh-same true true true = refl
-fresh-same true true false = refl
-fresh-same true false true = refl
-fresh-same true false false = refl
-
-endpoint-row : (nr l7 c1 ab an b6 tt b5 s2 s3 s1 p3 p1 f : Bool)
-    → (nr && (l7 && (c1 && (ab && (an && (b6 && (tt && (b5 && (s2 && (s3 && (s1 && (p3 && (p1 && f)))))))))))))
-    ≡ ((((nr && true) && ((((l7 && (ab && an)) && ((b6 && tt) && b5)) && ((s2 && s3) && s1)) && (p3 && p1))) && c1) && f)
-endpoint-row nr l7 true ab an b6 tt b5 s2 s3 s1 p3 p1 f = simp (and-true, and-assoc)
-endpoint-row nr l7 false ab an b6 tt b5 s2 s3 s1 p3 p1 f = simp and-false
+endpoint-row : (nr l7 c1 ab an b6 tt b5 s2 s3 s1 p3 p1 o n : Bool)
+    → (nr && (l7 && (c1 && (ab && (an && (b6 && (tt && (b5 && (s2 && (s3 && (s1 && (p3 && (p1 && (o && (n && true)))))))))))))))
+    ≡ ((((nr && true) && ((((l7 && (ab && an)) && ((b6 && tt) && b5)) && ((s2 && s3) && s1)) && (p3 && p1))) && c1) && (o && n))
+endpoint-row nr l7 true ab an b6 tt b5 s2 s3 s1 p3 p1 o n = simp (and-true, and-assoc)
+endpoint-row nr l7 false ab an b6 tt b5 s2 s3 s1 p3 p1 o n = simp and-false
 
 module _ (limits : Limits) (start at head : ℕ) (w : Progress) (last stand : Stand) (d : List ℕ) (p : isWhole d ≡ true) where
   Same : Type 0
@@ -100,21 +92,20 @@ module _ (limits : Limits) (start at head : ℕ) (w : Progress) (last stand : St
   unfolding every Same
   interface i e =
       rw (p, i, e)
-      (ap (λ b. not (named (limits .refused) (bDescriptorType d)) && (eqb (w .coming) 0 && (leb 9 (length d) && b))) (place-same (last .inside) start at (settingAt last) (settingAt stand) (asked 420 (byteAt start at 3) (leb (stand .alternate) 15)))
-      ∙ interface-row (not (named (limits .refused) (bDescriptorType d))) (leb 9 (length d)) (eqb (w .coming) 0) (placed last (settingAt stand)))
+      (ap (λ b. typeAllowed limits (bDescriptorType d) && (allCame w && (interfaceLongEnough d && b))) (place-same (last .inside) start at (settingAt last) (settingAt stand) (asked 420 (byteAt start at 3) (alternateWithin (settingAt stand))))
+      ∙ interface-row (typeAllowed limits (bDescriptorType d)) (interfaceLongEnough d) (allCame w) (placed last (settingAt stand)))
 
   endpoint : isInterface d ≡ false → isEndpoint d ≡ true → Same
   unfolding every Same
   endpoint i e =
       let a = bmAttributes d in
       let t = transferType a in
+      let address = bEndpointAddress d in
       let size = wMaxPacketSize d in
-      let k = bitOf (bEndpointAddress d) in
-      rw (p, i, e, surplus-same (last .inside) start at head w, fresh-same (bit (w .seen) k) (bit (w .interface) k) (bit (w .setting) k))
-      (endpoint-row (not (named (limits .refused) (bDescriptorType d))) (leb 7 (length d)) (leb 1 (w .coming)) (eqb (bEndpointAddress d / 16 % 8) 0) (leb 1 (bEndpointAddress d % 16)) (leb a 63) (leb 1 t) (leb a 3 || eqb t 1)
-      (eqb t 2 ⇒ doubled (limits .bulk) size) (eqb t 3 ⇒ sized limits (limits .interrupt .least) (limits .interrupt .most) size)
-      (eqb t 1 ⇒ sized limits (limits .isochronous .least) (limits .isochronous .most) size) (eqb t 3 ⇒ within (limits .polling) (bInterval d)) (eqb t 1 ⇒ within (limits .period) (bInterval d))
-      (fresh w (bEndpointAddress d)))
+      rw (p, i, e, surplus-same (last .inside) start at head w)
+      (endpoint-row (typeAllowed limits (bDescriptorType d)) (endpointLongEnough d) (oneMayCome w) (addressBitsZero address) (numberNotZero address) (highBitsZero a) (notControl a) (middleBitsZero a)
+      (bulkSize limits t size) (interruptSize limits t size) (isochronousSize limits t size) (interruptInterval limits t (bInterval d)) (isochronousInterval limits t (bInterval d))
+      (onceInSetting w address) (inNoSecondInterface w address))
 
   another : isInterface d ≡ false → isEndpoint d ≡ false → Same
   unfolding every Same
@@ -140,7 +131,7 @@ rest-holds : (limits : Limits) → limits .companions ≡ false → (start n at 
     → allHold (restFindings limits start n at head (c .progress) last cs) ≡ walked (checking limits n) c last cs
 unfolding every restFindings walked Same
 rest-holds limits single start n at head c last ends =
-    swap (eqb (c .progress .coming) 0) (last .inside && eqb (last .interface + 1) n) ∙ sym (alone (ended n (c .progress) last) (not (c .due)) single)
+    swap (allCame (c .progress)) (reachesLast n last) ∙ sym (alone (ended n (c .progress) last) (not (c .due)) single)
 rest-holds limits single start n at head c last breaks = refl
 rest-holds limits single start n at head c last (cutOff {d}) =
     let stand = standOf last d in
@@ -189,79 +180,62 @@ unfolding goodConfiguration
 body-same limits single start body = cut-same limits single (length body) start (proper 0 body)
 
 -- ---- the entries
-abbrev isNew : List ℕ → List ℕ → Bool
-isNew earlier body = not (member (bConfigurationValue body) earlier)
+distinct-more : (b : List ℕ) (earlier bs : List (List ℕ)) → every (distinctFrom (b ∷ earlier)) bs ≡ (every (distinctValues b) bs && every (distinctFrom earlier) bs)
+unfolding every
+distinct-more b earlier bs = every-both (distinctValues b) (distinctFrom earlier) bs
 
-abbrev differ : List ℕ → List ℕ → Bool
-differ a b = not (eqb (bConfigurationValue a) (bConfigurationValue b))
-
-neither : (a b : Bool) → not (a || b) ≡ (not a && not b)
-neither true b = refl
-neither false b = refl
-
-new-one : (b : List ℕ) (earlier c : List ℕ) → isNew (bConfigurationValue b ∷ earlier) c ≡ (differ b c && isNew earlier c)
-unfolding any
-new-one b earlier c =
-    neither (eqb (bConfigurationValue c) (bConfigurationValue b)) (member (bConfigurationValue c) earlier)
-    ∙ ap (λ t. not t && isNew earlier c) (eqb-swap (bConfigurationValue c) (bConfigurationValue b))
-
-new-more : (b : List ℕ) (earlier : List ℕ) (bs : List (List ℕ)) → every (isNew (bConfigurationValue b ∷ earlier)) bs ≡ (every (differ b) bs && every (isNew earlier) bs)
-new-more b earlier bs =
-    every-alike (isNew (bConfigurationValue b ∷ earlier)) (λ c. differ b c && isNew earlier c) bs (λ c m. new-one b earlier c) ∙ every-both (differ b) (isNew earlier) bs
-
-all-new : (bs : List (List ℕ)) → every (isNew []) bs ≡ true
-unfolding every any
-all-new [] = refl
-all-new (b ∷ bs) = all-new bs
+all-distinct : (bs : List (List ℕ)) → every (distinctFrom []) bs ≡ true
+unfolding every
+all-distinct [] = refl
+all-distinct (b ∷ bs) = all-distinct bs
 
 five : (i l g v s : Bool) → (i && (l && (g && (v && (s && true))))) ≡ (i && l && g && v && s)
 five i l g v s = simp (and-true, and-assoc)
 
-configuration-same : (limits : Limits) → limits .companions ≡ false → (at n : ℕ) (again : Bool) (e : Entry) (body : List ℕ)
-    → allHold (configurationFindings limits at n again e body)
-    ≡ (eqb (e .index) n && eqb (e .language) 0 && goodConfiguration limits body && leb 1 (bConfigurationValue body) && not again)
+configuration-same : (limits : Limits) → limits .companions ≡ false → (at n : ℕ) (distinct : Bool) (e : Entry) (body : List ℕ)
+    → allHold (configurationFindings limits at n distinct e body) ≡ (hasIndex n e && hasNoLanguage e && goodConfiguration limits body && valueNonzero body && distinct)
 unfolding every
-configuration-same limits single at n again e body =
-    let v = leb 1 (bConfigurationValue body) in
-    ap (λ b. eqb (e .index) n && (eqb (e .language) 0 && b))
-    (every-append (λ x. x .holds) (bodyFindings limits (e .offset) body) (asked 435 (byteAt (e .offset) 0 5) v ∷ asked 436 (byteAt (e .offset) 0 5) (not again) ∷ [])
-    ∙ ap (λ g. g && (v && (not again && true))) (body-same limits single (e .offset) body))
-    ∙ five (eqb (e .index) n) (eqb (e .language) 0) (goodConfiguration limits body) v (not again)
+configuration-same limits single at n distinct e body =
+    let v = valueNonzero body in
+    ap (λ b. hasIndex n e && (hasNoLanguage e && b))
+    (every-append (λ x. x .holds) (bodyFindings limits (e .offset) body) (asked 435 (byteAt (e .offset) 0 5) v ∷ asked 436 (byteAt (e .offset) 0 5) distinct ∷ [])
+    ∙ ap (λ g. g && (v && (distinct && true))) (body-same limits single (e .offset) body))
+    ∙ five (hasIndex n e) (hasNoLanguage e) (goodConfiguration limits body) v distinct
 
 module _ (limits : Limits) (set : List ℕ) where
   -- the configurations that are left, from index n on
-  unfoldable goodFrom : ℕ → List ℕ → List Entry → Bool
+  unfoldable goodFrom : ℕ → List (List ℕ) → List Entry → Bool
   goodFrom n earlier es =
       numberedFrom n es &&
       every (goodConfiguration limits) (map (bodyOf set) es) &&
-      every (λ b. leb 1 (bConfigurationValue b)) (map (bodyOf set) es) &&
-      (every (isNew earlier) (map (bodyOf set) es) && pairs differ (map (bodyOf set) es))
+      every valueNonzero (map (bodyOf set) es) &&
+      (every (distinctFrom earlier) (map (bodyOf set) es) && pairs distinctValues (map (bodyOf set) es))
 
-  more : limits .companions ≡ false → (at n : ℕ) (earlier : List ℕ) (e : Entry) (es : List Entry)
-      → (allHold (configurationFindings limits at n (member (bConfigurationValue (bodyOf set e)) earlier) e (bodyOf set e)) && goodFrom (n + 1) (bConfigurationValue (bodyOf set e) ∷ earlier) es)
+  more : limits .companions ≡ false → (at n : ℕ) (earlier : List (List ℕ)) (e : Entry) (es : List Entry)
+      → (allHold (configurationFindings limits at n (distinctFrom earlier (bodyOf set e)) e (bodyOf set e)) && goodFrom (n + 1) (bodyOf set e ∷ earlier) es)
       ≡ goodFrom n earlier (e ∷ es)
   unfolding goodFrom numberedFrom every pairs
   more single at n earlier e es =
       let b = bodyOf set e in
       let bs = map (bodyOf set) es in
-      ap (λ c. c && goodFrom (n + 1) (bConfigurationValue b ∷ earlier) es) (configuration-same limits single at n (member (bConfigurationValue b) earlier) e b)
-      ∙ rw (new-more b earlier bs)
+      ap (λ c. c && goodFrom (n + 1) (b ∷ earlier) es) (configuration-same limits single at n (distinctFrom earlier b) e b)
+      ∙ rw (distinct-more b earlier bs)
       (sym
-      (ordered (eqb (e .index) n) (eqb (e .language) 0) (goodConfiguration limits b) (leb 1 (bConfigurationValue b)) (isNew earlier b)
-      (numberedFrom (n + 1) es) (every (goodConfiguration limits) bs) (every (λ b. leb 1 (bConfigurationValue b)) bs) (every (isNew earlier) bs) (every (differ b) bs) (pairs differ bs)))
+      (ordered (hasIndex n e) (hasNoLanguage e) (goodConfiguration limits b) (valueNonzero b) (distinctFrom earlier b)
+      (numberedFrom (n + 1) es) (every (goodConfiguration limits) bs) (every valueNonzero bs) (every (distinctFrom earlier) bs) (every (distinctValues b) bs) (pairs distinctValues bs)))
 
-  from-same : limits .companions ≡ false → (at n : ℕ) (earlier : List ℕ) (es : List Entry) → allHold (configurationsFrom limits set at n earlier es) ≡ goodFrom n earlier (only (isKind 2) es)
+  from-same : limits .companions ≡ false → (at n : ℕ) (earlier : List (List ℕ)) (es : List Entry) → allHold (configurationsFrom limits set at n earlier es) ≡ goodFrom n earlier (only (isKind 2) es)
   unfolding every configurationsFrom only goodFrom numberedFrom pairs
   from-same single at n earlier [] = refl
-  from-same single at n earlier (e ∷ es) = go (isKind 2 e) (from-same single (at + 8) (n + 1) (bConfigurationValue (bodyOf set e) ∷ earlier) es) (from-same single (at + 8) n earlier es)
+  from-same single at n earlier (e ∷ es) = go (isKind 2 e) (from-same single (at + 8) (n + 1) (bodyOf set e ∷ earlier) es) (from-same single (at + 8) n earlier es)
     where
       found : List Finding
-      found = configurationFindings limits at n (member (bConfigurationValue (bodyOf set e)) earlier) e (bodyOf set e)
+      found = configurationFindings limits at n (distinctFrom earlier (bodyOf set e)) e (bodyOf set e)
 
       later : List Finding
-      later = configurationsFrom limits set (at + 8) (n + 1) (bConfigurationValue (bodyOf set e) ∷ earlier) es
+      later = configurationsFrom limits set (at + 8) (n + 1) (bodyOf set e ∷ earlier) es
 
-      go : (b : Bool) → allHold later ≡ goodFrom (n + 1) (bConfigurationValue (bodyOf set e) ∷ earlier) (only (isKind 2) es)
+      go : (b : Bool) → allHold later ≡ goodFrom (n + 1) (bodyOf set e ∷ earlier) (only (isKind 2) es)
           → allHold (configurationsFrom limits set (at + 8) n earlier es) ≡ goodFrom n earlier (only (isKind 2) es)
           → allHold (pick b (found ++ later) (configurationsFrom limits set (at + 8) n earlier es)) ≡ goodFrom n earlier (pick b (e ∷ only (isKind 2) es) (only (isKind 2) es))
       go true p q = every-append (λ x. x .holds) found later ∙ ap (λ b. allHold found && b) p ∙ more single at n earlier e (only (isKind 2) es)
@@ -269,4 +243,4 @@ module _ (limits : Limits) (set : List ℕ) where
 
   pub configurations-same : limits .companions ≡ false → allHold (configurationsFindings limits set) ≡ goodConfigurations limits set
   unfolding goodConfigurations goodFrom
-  configurations-same single = from-same single 4 0 [] (entries set) ∙ rw (all-new (bodies 2 set))
+  configurations-same single = from-same single 4 0 [] (entries set) ∙ rw (all-distinct (bodies 2 set))

@@ -1,19 +1,21 @@
 -- Groups 1, 2, 3 and 6: all their rules hold exactly where opening's definition of the group does. No axiom.
-use Prim.Native.Nat.{ℕ, _+_, _%_}
+use Prim.Native.Nat.{ℕ, _+_}
 use mathlib.Core.Path.{_≡_, refl, sym, ap, _∙_}
-use mathlib.Core.List.{List, [], _∷_, _++_}
-use mathlib.Core.Bool.{Bool, true, false, _&&_, _||_, and-true, and-false, and-assoc}
+use mathlib.Core.List.{List, [], _∷_}
+use mathlib.Core.Bool.{Bool, true, false, _&&_, and-true, and-assoc}
 use lib.ListN.{length}
-use lib.Dec.{eqb, leb}
-use Rattle.octets.specs.Octets.{byte}
-use Rattle.octets.specs.Sentences.{pick, _⇒_, every}
+use lib.Dec.{eqb}
+use Rattle.octets.specs.Sentences.{pick, every}
 use Rattle.octets.proofs.Sentences.{row}
 use Rattle.descriptors.specs.declared.Limits.{Limits}
-use Rattle.descriptors.specs.Limits.{named, doubled}
+use Rattle.descriptors.specs.Limits.{named}
 use Rattle.sets.specs.declared.Entry.{Entry}
-use Rattle.sets.specs.Contents.{total, count, bodiesAt, bodyOf, entries, entriesOf, before, goodFrame, goodContents}
-use Rattle.sets.specs.Device.{deviceBody, iSerialNumber, bDeviceClass, bDeviceSubClass, bMaxPacketSize0, bNumConfigurations, goodDevice, goodDeviceEntries}
-use Rattle.sets.specs.Opening.{goodDevices, goodSerial, goodBlock}
+use Rattle.sets.specs.Contents.{total, bodiesAt, bodyOf, entries, entriesOf, longEnough, shortEnough, totalIsLength, countsEntry, atMost64Entries, byteThreeZero, contentsInside, goodFrame}
+use Rattle.sets.specs.Contents.{kindAllowed, bodyLongEnough, beginsAt, endsAtTotal, goodContents, hasIndex, hasNoLanguage}
+use Rattle.sets.specs.Checks.{isNext}
+use Rattle.sets.specs.Device.{deviceBody, iSerialNumber, has18Bytes, says18Bytes, isDevice, controlSize, subclassWithClass, countsConfiguration, atMost8Configurations, countIsEntries, goodDeviceEntries}
+use Rattle.sets.specs.Strings.{saysItsLength, typedString, evenLength, upTo254}
+use Rattle.sets.specs.Opening.{goodDevices, blockEmpty, atLeast4, goodSerial, goodBlock}
 use Rattle.sets.proofs.Entries.{contentsFrom, contents-all}
 use Rattle.rules.specs.Findings.{Finding}
 use Rattle.rules.specs.Frame.{frameFindings, contentsAsked, contentsFindings, noEntry}
@@ -34,7 +36,7 @@ unfolding every goodFrame
 frame-same set =
     sym
     (row-every true
-    (leb 4 (length set) ∷ leb (length set) 16384 ∷ eqb (total set) (length set) ∷ leb 1 (count set) ∷ leb (count set) 64 ∷ eqb (byte set 3) 0 ∷ leb (bodiesAt set) (total set) ∷ []))
+    (longEnough set ∷ shortEnough set ∷ totalIsLength set ∷ countsEntry set ∷ atMost64Entries set ∷ byteThreeZero set ∷ contentsInside set ∷ []))
 
 -- ---- group 2
 sorted : (n b l o r : Bool) → (n && (b && (l && (o && r)))) ≡ ((n && l && o && b) && r)
@@ -49,10 +51,10 @@ sorted false b l o r = refl
 asked-same : (limits : Limits) (end at : ℕ) (first : Bool) (last : Entry) (start : ℕ) (es : List Entry)
     → allHold (contentsAsked limits end at first last start es) ≡ contentsFrom limits end first last start es
 unfolding every contentsAsked contentsFrom
-asked-same limits end at first last start [] = and-true (eqb start end)
+asked-same limits end at first last start [] = and-true (endsAtTotal start end)
 asked-same limits end at first last start (e ∷ es) =
     rw (asked-same limits end (at + 8) false e (start + e .length) es)
-    (sorted (named (limits .entries) (e .kind)) (first || before last e) (leb 2 (e .length)) (eqb (e .offset) start) (contentsFrom limits end false e (start + e .length) es))
+    (sorted (kindAllowed limits e) (isNext first last e) (bodyLongEnough e) (beginsAt start e) (contentsFrom limits end false e (start + e .length) es))
 
 pub contents-same : (limits : Limits) (set : List ℕ) → allHold (contentsFindings limits set) ≡ goodContents limits set
 unfolding goodContents
@@ -66,11 +68,10 @@ device-same limits set [] = refl
 device-same limits set (e ∷ []) =
     let d = bodyOf set e in
     sym
-    (and-assoc (eqb (e .index) 0) (eqb (e .language) 0) _
-    ∙ ap (λ b. eqb (e .index) 0 && (eqb (e .language) 0 && b))
+    (and-assoc (hasIndex 0 e) (hasNoLanguage e) _
+    ∙ ap (λ b. hasIndex 0 e && (hasNoLanguage e && b))
     (row-every true
-    (eqb (length d) 18 ∷ eqb (byte d 0) 18 ∷ eqb (byte d 1) 1 ∷ doubled (limits .control) (bMaxPacketSize0 d) ∷ (eqb (bDeviceClass d) 0 ⇒ eqb (bDeviceSubClass d) 0)
-    ∷ leb 1 (bNumConfigurations d) ∷ leb (bNumConfigurations d) 8 ∷ eqb (bNumConfigurations d) (length (entriesOf 2 set)) ∷ [])))
+    (has18Bytes d ∷ says18Bytes d ∷ isDevice d ∷ controlSize limits d ∷ subclassWithClass d ∷ countsConfiguration d ∷ atMost8Configurations d ∷ countIsEntries (length (entriesOf 2 set)) d ∷ [])))
 device-same limits set (e ∷ f ∷ es) = refl
 
 -- of a kind without BOS entries
@@ -93,9 +94,9 @@ unfolding every
 serial-same index block = go (eqb index 0)
   where
     go : (zero : Bool) → allHold (serialAsked zero block)
-        ≡ pick zero (eqb (length block) 0) (leb 4 (length block) && leb (length block) 254 && eqb (length block % 2) 0 && eqb (byte block 0) (length block) && eqb (byte block 1) 3)
-    go true = and-true (eqb (length block) 0)
-    go false = even-first (eqb (length block % 2) 0) (leb 4 (length block)) (leb (length block) 254) (eqb (byte block 0) (length block)) (eqb (byte block 1) 3)
+        ≡ pick zero (blockEmpty block) (atLeast4 block && upTo254 block && evenLength block && saysItsLength block && typedString block)
+    go true = and-true (blockEmpty block)
+    go false = even-first (evenLength block) (atLeast4 block) (upTo254 block) (saysItsLength block) (typedString block)
 
 pub block-same : (set serial : List ℕ) → allHold (serialFindings (iSerialNumber (deviceBody set)) serial) ≡ goodBlock set serial
 unfolding goodBlock

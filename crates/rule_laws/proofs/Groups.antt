@@ -1,20 +1,16 @@
 -- The rule that is named is of the first group that is broken: opening's number. No axiom.
 use Prim.Native.Nat.{ℕ, _/_}
-use mathlib.Core.Path.{_≡_, refl, ap, _∙_}
+use mathlib.Core.Path.{_≡_, refl}
 use mathlib.Core.List.{List, [], _∷_, _++_}
 use mathlib.Core.Bool.{Bool, true, false, _&&_, not}
 use mathlib.Core.Option.{Option, some}
-use lib.Dec.{eqb}
 use borrow.Author.Tests.{eqb-true}
 use Rattle.octets.specs.Sentences.{pick, every, first}
 use Rattle.octets.proofs.Sentences.{both}
 use Rattle.rules.specs.Findings.{Finding}
 use Rattle.rules.specs.Explained.{isBroken, faultOf}
+use Rattle.rules.proofs.Grouped.{inGroup}
 use Rattle.rule_laws.proofs.Frames.{allHold}
-
--- a rule's group is its number without its place there
-abbrev pub inGroup : ℕ → Finding → Bool
-inGroup g x = eqb (x .rule / 100) g
 
 abbrev pub groupOf : Option Finding → ℕ
 groupOf o = faultOf o .rule / 100

@@ -3,5 +3,4 @@ pub mod First
 pub mod Bodies
 pub mod Texts
 pub mod Groups
-pub mod Grouped
 pub mod Belongs

@@ -1,26 +1,24 @@
 -- Group 5: where the configurations are good, all its rules hold exactly where opening's definition of the group does. No axiom.
-use Prim.Native.Nat.{ℕ, _+_, _/_, _%_}
+use Prim.Native.Nat.{ℕ, _+_}
 use native.Mathlib.Omega.{arith}
 use mathlib.Core.Path.{_≡_, refl, sym, ap, _∙_}
 use mathlib.Core.List.{List, [], _∷_, _++_, map}
 use mathlib.Core.Bool.{Bool, true, false, _&&_, _||_, not, and-true, and-false, and-assoc, or-true, false≢true}
 use lib.ListN.{length}
-use lib.Dec.{eqb, leb, ltb}
 use borrow.Author.Tests.{eqb-true, ne-eqb}
-use Rattle.octets.specs.Octets.{byte}
-use Rattle.octets.specs.Sentences.{pick, _⇒_, every, any, only, first, neighbours, isSome, isEmpty}
+use Rattle.octets.specs.Sentences.{pick, _⇒_, every, any, only, neighbours, isSome, isEmpty}
 use Rattle.octets.proofs.Sentences.{both, conjunct, every-append, first-any}
 use Rattle.descriptors.specs.declared.Limits.{Limits}
-use Rattle.descriptors.specs.Cut.{Cutting, whole, broken, descriptor, cut, descriptorsOf, wellCut}
+use Rattle.descriptors.specs.Cut.{Cutting, cut, descriptorsOf, wellCut}
 use Rattle.descriptors.specs.Descriptor.{bDescriptorType, isInterface, iInterface, goodDescriptor}
 use Rattle.descriptors.specs.Interfaces.{grouped, goodInterfaces}
 use Rattle.descriptors.specs.Companion.{goodCompanions}
-use Rattle.descriptors.specs.Configuration.{iConfiguration, wTotalLength, bNumInterfaces, configurationAttributes, bMaxPower, behind, goodHead, goodDescriptors, goodConfiguration, configurationReferences}
+use Rattle.descriptors.specs.Configuration.{iConfiguration, bNumInterfaces, isConfiguration, headLongEnough, totalIsSize, bitSevenOne, lowBitsZero, powerWithin, countsInterface, atMost16Interfaces, behind, goodHead, goodDescriptors, goodConfiguration, configurationReferences}
 use Rattle.descriptors.proofs.CheckReferences.{ofInterface, references-all}
 use Rattle.sets.specs.declared.Entry.{Entry}
 use Rattle.sets.specs.Contents.{bodyOf, bodies, isKind, entries, entriesOf}
 use Rattle.sets.specs.Device.{deviceBody, iManufacturer, iProduct, iSerialNumber}
-use Rattle.sets.specs.Strings.{goodString, isStringZero, stringZero, languages, goodLanguages, references, languageZero, listed, notSerial, goodReference, goodStrings}
+use Rattle.sets.specs.Strings.{saysItsLength, typedString, evenLength, upTo254, goodString, isStringZero, stringZero, languages, listsOne, listsAtMostFour, isNonzero, ascends, goodLanguages, references, languageZero, listed, notSerial, goodReference, zeroIf, goodStrings}
 use Rattle.sets.proofs.Configurations.{every-both}
 use Rattle.sets.proofs.Strings.{ascending}
 use Rattle.sets.proofs.References.{references-set}
@@ -43,18 +41,18 @@ twice false b = refl
 row-4 : (x y a n : Bool) → (x && (y && (a && n))) ≡ (x && y && a && n)
 row-4 x y a n = simp and-assoc
 
-languages-same : (start at last : ℕ) (ls : List ℕ) → allHold (languagesFrom start at last ls) ≡ (every (λ l. leb 1 l) ls && neighbours ltb (last ∷ ls))
+languages-same : (start at last : ℕ) (ls : List ℕ) → allHold (languagesFrom start at last ls) ≡ (every isNonzero ls && neighbours ascends (last ∷ ls))
 unfolding every languagesFrom neighbours
 languages-same start at last [] = refl
 languages-same start at last (l ∷ ls) =
-    ap (λ b. leb 1 l && (ltb last l && b)) (languages-same start (at + 2) l ls) ∙ four (leb 1 l) (ltb last l) (every (λ l. leb 1 l) ls) (neighbours ltb (l ∷ ls))
+    ap (λ b. isNonzero l && (ascends last l && b)) (languages-same start (at + 2) l ls) ∙ four (isNonzero l) (ascends last l) (every isNonzero ls) (neighbours ascends (l ∷ ls))
 
 language-same : (start : ℕ) (ls : List ℕ) → allHold (languageFindings start ls) ≡ goodLanguages ls
 unfolding every
 language-same start ls =
-    ap (λ b. leb 1 (length ls) && (leb (length ls) 4 && b))
-    (languages-same start 2 0 ls ∙ ap (λ b. every (λ l. leb 1 l) ls && b) (sym (ascending ls)) ∙ twice (every (λ l. leb 1 l) ls) (neighbours ltb ls))
-    ∙ row-4 (leb 1 (length ls)) (leb (length ls) 4) (every (λ l. leb 1 l) ls) (neighbours ltb ls)
+    ap (λ b. listsOne ls && (listsAtMostFour ls && b))
+    (languages-same start 2 0 ls ∙ ap (λ b. every isNonzero ls && b) (sym (ascending ls)) ∙ twice (every isNonzero ls) (neighbours ascends ls))
+    ∙ row-4 (listsOne ls) (listsAtMostFour ls) (every isNonzero ls) (neighbours ascends ls)
 
 -- ---- the entries
 -- what is asked of one entry
@@ -74,10 +72,10 @@ entry-same : (ls : List ℕ) (serial at : ℕ) (e : Entry) (body : List ℕ)
     ≡ (goodString body && (languageZero e && ((isStringZero e ⇒ goodLanguages ls) && (listed ls e && notSerial serial e))))
 unfolding every
 entry-same ls serial at e body =
-    let a = eqb (byte body 0) (length body) in
-    let b = eqb (byte body 1) 3 in
-    let c = eqb (length body % 2) 0 in
-    let d = leb (length body) 254 in
+    let a = saysItsLength body in
+    let b = typedString body in
+    let c = evenLength body in
+    let d = upTo254 body in
     ap (λ x. a && (b && ((c && d) && (languageZero e && x))))
     (every-append (λ x. x .holds) (pick (isStringZero e) (languageFindings (e .offset) ls) []) (asked 509 (byteAt 0 at 2) (listed ls e) ∷ asked 511 (byteAt 0 at 1) (notSerial serial e) ∷ [])
     ∙ ap (λ x. x && (listed ls e && (notSerial serial e && true))) (if-zero (isStringZero e) (e .offset) ls))
@@ -122,7 +120,7 @@ five a b c d f xs =
 module _ (set : List ℕ) where
   -- what is asked of one reference
   abbrev may : ℕ → Bool
-  may r = (leb 1 r ⇒ isSome (stringZero set)) && goodReference (languages set) (entriesOf 3 set) (iSerialNumber (deviceBody set)) r
+  may r = zeroIf (isNonzero r) (isSome (stringZero set)) && goodReference (languages set) (entriesOf 3 set) (iSerialNumber (deviceBody set)) r
 
   reference-same : (start at k r : ℕ) → allHold (referenceFindings set start at k r) ≡ may r
   unfolding every
@@ -155,8 +153,8 @@ module _ (set : List ℕ) where
       kind : goodHead size d ≡ true → bDescriptorType d ≡ 2
       kind p = eqb-true (bDescriptorType d) 2 (head-kind p)
         where
-          head-kind : goodHead size d ≡ true → eqb (bDescriptorType d) 2 ≡ true
-          head-kind p = conjunct 0 (eqb (bDescriptorType d) 2 ∷ leb 9 (length d) ∷ eqb (wTotalLength d) size ∷ eqb (configurationAttributes d / 128) 1 ∷ eqb (configurationAttributes d % 32) 0 ∷ leb (bMaxPower d) 250 ∷ leb 1 (bNumInterfaces d) ∷ leb (bNumInterfaces d) 16 ∷ []) p
+          head-kind : goodHead size d ≡ true → isConfiguration d ≡ true
+          head-kind p = conjunct 0 (isConfiguration d ∷ headLongEnough d ∷ totalIsSize size d ∷ bitSevenOne d ∷ lowBitsZero d ∷ powerWithin d ∷ countsInterface d ∷ atMost16Interfaces d ∷ []) p
 
   body-references : (limits : Limits) (start : ℕ) (body : List ℕ) → goodConfiguration limits body ≡ true → allHold (bodyReferences set start body) ≡ every may (configurationReferences body)
   unfolding goodConfiguration
@@ -202,7 +200,8 @@ module _ (set : List ℕ) where
       let m = iManufacturer (deviceBody set) in
       let p = iProduct (deviceBody set) in
       let s = iSerialNumber (deviceBody set) in
-      device-row (leb 1 m ⇒ isSome (stringZero set)) (good m) (leb 1 p ⇒ isSome (stringZero set)) (good p) (leb 1 s ⇒ isSome (stringZero set)) (good s)
+      let there = isSome (stringZero set) in
+      device-row (zeroIf (isNonzero m) there) (good m) (zeroIf (isNonzero p) there) (good p) (zeroIf (isNonzero s) there) (good s)
 
   all-references : (limits : Limits) → every (goodConfiguration limits) (bodies 2 set) ≡ true → allHold (deviceReferences set ++ referencesFrom set (entries set)) ≡ every may (references set)
   all-references limits g =
@@ -212,12 +211,10 @@ module _ (set : List ℕ) where
       ∙ sym (references-set may set)
 
 -- ---- the group
-there-row : (e n t : Bool) → ((e || t) && (n ⇒ t)) ≡ ((not e || n) ⇒ t)
-there-row true true true = refl
-there-row true true false = refl
-there-row true false t = refl
-there-row false n true = or-true (not n)
-there-row false n false = refl
+there-row : (s n t : Bool) → (zeroIf s t && zeroIf n t) ≡ zeroIf (s || n) t
+there-row false n t = refl
+there-row true n true = or-true (not n)
+there-row true n false = refl
 
 group-row : (z gs lz x li ns n gr : Bool)
     → (z && ((gs && (lz && (x && (li && ns)))) && (n && gr))) ≡ (gs && lz && x && li && (z && n) && ns && gr)
@@ -238,13 +235,14 @@ strings-same limits set g =
     let li = every (listed ls) strings in
     let ns = every (notSerial serial) strings in
     let gr = every (goodReference ls strings serial) refs in
-    ap (λ t. (isEmpty strings || there) && t)
+    let some = not (isEmpty strings) in
+    ap (λ t. zeroIf some there && t)
     (every-append (λ x. x .holds) (stringsFrom set ls serial 4 (entries set)) (deviceReferences set ++ referencesFrom set (entries set))
     ∙ ap (λ t. t && allHold (deviceReferences set ++ referencesFrom set (entries set)))
     (strings-each set ls serial 4 (entries set)
     ∙ five (λ e. goodString (bodyOf set e)) languageZero (λ e. isStringZero e ⇒ goodLanguages ls) (listed ls) (notSerial serial) strings
     ∙ ap (λ t. gs && (lz && (t && (li && ns)))) (every-any isStringZero (goodLanguages ls) strings ∙ ap (λ t. t ⇒ goodLanguages ls) (sym (first-any isStringZero strings))))
     ∙ ap (λ t. (gs && (lz && ((there ⇒ goodLanguages ls) && (li && ns)))) && t)
-    (all-references set limits g ∙ every-both (λ r. leb 1 r ⇒ there) (goodReference ls strings serial) refs ∙ ap (λ t. t && gr) (every-any (λ r. leb 1 r) there refs)))
-    ∙ group-row (isEmpty strings || there) gs lz (there ⇒ goodLanguages ls) li ns (any (λ r. leb 1 r) refs ⇒ there) gr
-    ∙ ap (λ t. gs && lz && (there ⇒ goodLanguages ls) && li && t && ns && gr) (there-row (isEmpty strings) (any (λ r. leb 1 r) refs) there)
+    (all-references set limits g ∙ every-both (λ r. zeroIf (isNonzero r) there) (goodReference ls strings serial) refs ∙ ap (λ t. t && gr) (every-any isNonzero there refs)))
+    ∙ group-row (zeroIf some there) gs lz (there ⇒ goodLanguages ls) li ns (zeroIf (any isNonzero refs) there) gr
+    ∙ ap (λ t. gs && lz && (there ⇒ goodLanguages ls) && li && t && ns && gr) (there-row some (any isNonzero refs) there)

@@ -5,24 +5,24 @@ use mathlib.Core.Path.{_≡_, refl, sym, ap, _∙_}
 use mathlib.Core.Logic.{_⊎_, inl, inr}
 use mathlib.Core.Option.{some}
 use mathlib.Core.List.{List, [], _∷_, _++_, List·Memᴰ, List·Memᴰ·not-nil, List·Memᴰ·cases-cons}
-use mathlib.Core.Bool.{Bool, true, false, _||_}
+use mathlib.Core.Bool.{Bool, true, false, _&&_, _||_, not}
 use lib.ListN.{length, drop, getElem?, length-drop, length-take}
 use lib.Seq.{getD-drop, drop-drop}
 use lib.Dec.{eqb, leb, ltb}
 use borrow.Author.Tests.{eq-eqb, ne-eqb, le-leb, lt-leb, leb-true}
 use Rattle.octets.specs.Octets.{byte, word, Bytes}
-use Rattle.octets.specs.Sentences.{pick, member, any, isEmpty, isSome}
+use Rattle.octets.specs.Sentences.{pick, every, isEmpty, isSome}
 use Rattle.octets.specs.Table.{has, with}
 use Rattle.octets.proofs.Sentences.{same-test, first-some, only-member}
 use Rattle.octets.proofs.Tables.{allOf, has-none, has-with}
 use Rattle.descriptors.specs.declared.Limits.{Limits}
 use Rattle.descriptors.specs.Configuration.{bConfigurationValue}
-use Rattle.descriptors.proofs.CheckOrder.{eqb-swap}
 use Rattle.sets.specs.declared.Entry.{Entry}
 use Rattle.sets.specs.declared.EntryFound.the-variants.{At, Nothing}
 use Rattle.sets.specs.Contents.{count, entryOf, entriesFrom, entries, bodyOf, isKind, entriesOf}
 use Rattle.sets.specs.Device.{deviceBody, iSerialNumber}
 use Rattle.sets.specs.Strings.{words, isStringZero, stringZero}
+use Rattle.sets.specs.Opening.{distinctValues}
 use Rattle.sets.specs.Found.{found}
 use Rattle.sets.proofs.Devices.{at-same, at-missing}
 use Rattle.sets.proofs.Strings.{words-length}
@@ -30,7 +30,7 @@ use Rattle.rules.specs.declared.Fault.{Fault}
 use Rattle.rules.specs.Findings.{Finding, asked, byteAt}
 use Rattle.rules.specs.Frame.{entryFindings, contentsAsked}
 use Rattle.rules.specs.Device.{oneFindings, deviceEntryFindings}
-use Rattle.rules.specs.Configuration.{configurationFindings, configurationsFrom}
+use Rattle.rules.specs.Configuration.{configurationFindings, distinctFrom, configurationsFrom}
 use Rattle.rules.specs.Strings.{languagesFrom, stringEntryFindings, stringsFrom, referenceFindings, bodyReferences, referencesFrom}
 use Rattle.rules.specs.After.{orBroken, after, judged, Judges}
 use Rattle.rules.proofs.After.{after-append}
@@ -63,34 +63,41 @@ module _ (limits : Limits) (set : List ℕ) where
   device-missing (d ∷ ds) p = at-missing p
 
 -- ---- group 4
--- the values that were there, as a table has them
-abbrev pub Seen : List ℕ → List ℕ → Type 0
-Seen seen earlier = (j : ℕ) → j < 256 → has seen j ≡ member j earlier
+-- the values of the bodies that were there, as a table has them
+abbrev pub Seen : List ℕ → List (List ℕ) → Type 0
+Seen seen earlier = (body : List ℕ) → bConfigurationValue body < 256 → not (has seen (bConfigurationValue body)) ≡ distinctFrom earlier body
 
 pub seen-none : Seen (allOf 0) []
-unfolding any
-seen-none j k = has-none j
+unfolding every
+seen-none body k = rw (has-none (bConfigurationValue body))
 
-pub seen-more : (seen earlier : List ℕ) (v : ℕ) → v < 256 → length seen ≡ 8 → Seen seen earlier → Seen (with seen v) (v ∷ earlier)
-unfolding any
-seen-more seen earlier v h l s j k = has-with seen v h l j ∙ rw (s j k, eqb-swap v j)
+neither : (a b : Bool) → not (a || b) ≡ (not a && not b)
+neither true b = refl
+neither false b = refl
 
-module _ (limits : Limits) (set : List ℕ) (i n : ℕ) (earlier : List ℕ) (f : Fault) (e : Entry) (es : List Entry) where
+pub seen-more : (seen : List ℕ) (earlier : List (List ℕ)) (b : List ℕ) → bConfigurationValue b < 256 → length seen ≡ 8 → Seen seen earlier
+    → Seen (with seen (bConfigurationValue b)) (b ∷ earlier)
+unfolding every
+seen-more seen earlier b h l s body k =
+    let v = bConfigurationValue body in
+    ap not (has-with seen (bConfigurationValue b) h l v) ∙ neither (eqb (bConfigurationValue b) v) (has seen v) ∙ ap (λ t. distinctValues b body && t) (s body k)
+
+module _ (limits : Limits) (set : List ℕ) (i n : ℕ) (earlier : List (List ℕ)) (f : Fault) (e : Entry) (es : List Entry) where
   pub configuration-in : e .kind ≡ 2 → {g : Fault}
-      → g ≡ after f (configurationFindings limits (4 + 8 * i) n (member (bConfigurationValue (bodyOf set e)) earlier) e (bodyOf set e))
+      → g ≡ after f (configurationFindings limits (4 + 8 * i) n (distinctFrom earlier (bodyOf set e)) e (bodyOf set e))
       → after f (configurationsFrom limits set (4 + 8 * i) n earlier (e ∷ es))
-      ≡ after g (configurationsFrom limits set (4 + 8 * (i + 1)) (n + 1) (bConfigurationValue (bodyOf set e) ∷ earlier) es)
+      ≡ after g (configurationsFrom limits set (4 + 8 * (i + 1)) (n + 1) (bodyOf set e ∷ earlier) es)
   unfolding configurationsFrom
   configuration-in k p =
       rw (eq-eqb (e .kind) 2 k)
-      (after-append f (configurationFindings limits (4 + 8 * i) n (member (bConfigurationValue (bodyOf set e)) earlier) e (bodyOf set e)) _ ∙ rw (p, next-at i))
+      (after-append f (configurationFindings limits (4 + 8 * i) n (distinctFrom earlier (bodyOf set e)) e (bodyOf set e)) _ ∙ rw (p, next-at i))
 
   pub configuration-past : (e .kind ≡ 2 → ⊥)
       → after f (configurationsFrom limits set (4 + 8 * i) n earlier (e ∷ es)) ≡ after f (configurationsFrom limits set (4 + 8 * (i + 1)) n earlier es)
   unfolding configurationsFrom
   configuration-past k = rw (ne-eqb (e .kind) 2 k, next-at i)
 
-pub configurations-end : (limits : Limits) (set : List ℕ) (at n : ℕ) (earlier : List ℕ) (f : Fault) → after f (configurationsFrom limits set at n earlier []) ≡ f
+pub configurations-end : (limits : Limits) (set : List ℕ) (at n : ℕ) (earlier : List (List ℕ)) (f : Fault) → after f (configurationsFrom limits set at n earlier []) ≡ f
 unfolding configurationsFrom after
 configurations-end limits set at n earlier f = refl
 
@@ -182,6 +189,6 @@ zero-small set {e} h p =
     let l = among (count set) set 4 h e (only-member (isKind 3) (entries set) (first-some isStringZero (entriesOf 3 set) p .0) .0) in
     omega arith
 
-pub none-left : (es : List Entry) → eqb (length es) 0 ≡ isEmpty es
-none-left [] = refl
-none-left (e ∷ es) = ne-eqb (length (e ∷ es)) 0 (λ p. omega arith)
+pub some-left : (es : List Entry) → leb 1 (length es) ≡ not (isEmpty es)
+some-left [] = refl
+some-left (e ∷ es) = le-leb 1 (length (e ∷ es)) (omega arith)

@@ -1,31 +1,39 @@
--- Every rule carries its group's number. No axiom.
-use Prim.Native.Nat.{ℕ, _+_}
-use mathlib.Core.Path.{_≡_, refl, _∙_}
+-- Every rule carries its group's number, and so one other than 0. No axiom.
+use Prim.Native.Nat.{ℕ, _+_, _/_, _<_}
+use native.Mathlib.Omega.{arith}
+use mathlib.Core.Path.{_≡_, refl, ap, _∙_}
 use mathlib.Core.List.{List, [], _∷_, _++_}
-use mathlib.Core.Bool.{Bool, true, false, _&&_}
+use mathlib.Core.Bool.{Bool, true, false, _&&_, not}
 use lib.ListN.{length}
 use lib.Dec.{eqb}
-use Rattle.octets.specs.Sentences.{pick, every, member}
-use Rattle.octets.proofs.Sentences.{joined, every-append}
+use borrow.Author.Tests.{eqb-true, ne-eqb}
+use Rattle.octets.specs.Sentences.{pick, every}
+use Rattle.octets.proofs.Sentences.{both, joined, every-append}
 use Rattle.descriptors.specs.declared.Limits.{Limits}
 use Rattle.descriptors.specs.declared.Setting.{Setting}
 use Rattle.descriptors.specs.declared.Stand.{Stand}
 use Rattle.descriptors.specs.declared.check.Progress.{Progress}
 use Rattle.descriptors.specs.Cut.{Cutting, whole, broken, descriptor, cut}
 use Rattle.descriptors.specs.Descriptor.{isInterface, isEndpoint, iInterface}
-use Rattle.descriptors.specs.Configuration.{bNumInterfaces, bConfigurationValue}
+use Rattle.descriptors.specs.Configuration.{bNumInterfaces}
 use Rattle.descriptors.specs.Walk.{settingAt, before, standOf}
 use Rattle.descriptors.specs.Check.{onward, beginning}
 use Rattle.sets.specs.declared.Entry.{Entry}
 use Rattle.sets.specs.Contents.{bodyOf, isKind, entries, entriesOf, total, bodiesAt}
 use Rattle.sets.specs.Device.{deviceBody, iSerialNumber}
 use Rattle.sets.specs.Strings.{isStringZero, languages}
+use Rattle.sets.specs.Opening.{Board}
 use Rattle.rules.specs.Findings.{Finding}
 use Rattle.rules.specs.Frame.{frameFindings, contentsAsked, contentsFindings, noEntry}
 use Rattle.rules.specs.Device.{deviceEntryFindings, deviceFindings, serialAsked, serialFindings}
-use Rattle.rules.specs.Configuration.{isWhole, placedFindings, interfaceFindings, endpointFindings, typeFindings, restFindings, cutFindings, bodyFindings, configurationFindings, configurationsFrom, configurationsFindings}
+use Rattle.rules.specs.Configuration.{isWhole, placedFindings, interfaceFindings, endpointFindings, typeFindings, restFindings, cutFindings, bodyFindings, configurationFindings, distinctFrom, configurationsFrom, configurationsFindings}
 use Rattle.rules.specs.Strings.{languagesFrom, languageFindings, stringEntryFindings, stringsFrom, referenceFindings, interfacesFrom, bodyReferences, referencesFrom, stringsFindings}
-use Rattle.rule_laws.proofs.Groups.{inGroup}
+use Rattle.rules.specs.Explained.{findings}
+use Rattle.rules.proofs.After.{isNumbered}
+
+-- a rule's group is its number without its place there
+abbrev pub inGroup : ℕ → Finding → Bool
+inGroup g x = eqb (x .rule / 100) g
 
 -- every rule of a list is of one group
 abbrev pub Of : ℕ → List Finding → Type 0
@@ -98,18 +106,17 @@ cuts limits size start whole = refl
 cuts limits size start broken = refl
 cuts limits size start (descriptor d ds) = rest limits start (bNumInterfaces d) (length d) 0 beginning before ds
 
-configuration : (limits : Limits) (at n : ℕ) (again : Bool) (e : Entry) (body : List ℕ) → Of 4 (configurationFindings limits at n again e body)
+configuration : (limits : Limits) (at n : ℕ) (distinct : Bool) (e : Entry) (body : List ℕ) → Of 4 (configurationFindings limits at n distinct e body)
 unfolding every
-configuration limits at n again e body = then 4 (bodyFindings limits (e .offset) body) _ (cuts limits (length body) (e .offset) (cut body)) refl
+configuration limits at n distinct e body = then 4 (bodyFindings limits (e .offset) body) _ (cuts limits (length body) (e .offset) (cut body)) refl
 
-pub configurations : (limits : Limits) (set : List ℕ) (at n : ℕ) (earlier : List ℕ) (es : List Entry) → Of 4 (configurationsFrom limits set at n earlier es)
+pub configurations : (limits : Limits) (set : List ℕ) (at n : ℕ) (earlier : List (List ℕ)) (es : List Entry) → Of 4 (configurationsFrom limits set at n earlier es)
 unfolding every configurationsFrom
 configurations limits set at n earlier [] = refl
 configurations limits set at n earlier (e ∷ es) =
     let body = bodyOf set e in
-    let value = bConfigurationValue body in
     choice 4 (isKind 2 e) _ _
-    (then 4 (configurationFindings limits at n (member value earlier) e body) _ (configuration limits at n (member value earlier) e body) (configurations limits set (at + 8) (n + 1) (value ∷ earlier) es))
+    (then 4 (configurationFindings limits at n (distinctFrom earlier body) e body) _ (configuration limits at n (distinctFrom earlier body) e body) (configurations limits set (at + 8) (n + 1) (body ∷ earlier) es))
     (configurations limits set (at + 8) n earlier es)
 
 -- ---- group 5
@@ -145,3 +152,26 @@ references set (e ∷ es) =
 pub group-5 : (set : List ℕ) → Of 5 (stringsFindings set)
 unfolding every
 group-5 set = then 5 (stringsFrom set (languages set) (iSerialNumber (deviceBody set)) 4 (entries set)) _ (strings set (languages set) (iSerialNumber (deviceBody set)) 4 (entries set)) (references set (entries set))
+
+-- ---- all
+numbered-in : (g : ℕ) → 0 < g → (xs : List Finding) → Of g xs → every isNumbered xs ≡ true
+unfolding every
+numbered-in g h [] p = refl
+numbered-in g h (x ∷ xs) p = let (q, r) = both (inGroup g x) (every (inGroup g) xs) p in joined (other q) (numbered-in g h xs r)
+  where
+    other : inGroup g x ≡ true → isNumbered x ≡ true
+    other q = let e = eqb-true (x .rule / 100) g q in ap not (ne-eqb (x .rule) 0 (λ z. omega arith))
+
+before-others : (g : ℕ) → 0 < g → (xs ys : List Finding) → Of g xs → every isNumbered ys ≡ true → every isNumbered (xs ++ ys) ≡ true
+before-others g h xs ys p q = every-append isNumbered xs ys ∙ joined (numbered-in g h xs p) q
+
+pub numbered : (limits : Limits) (b : Board) → every isNumbered (findings limits b) ≡ true
+unfolding findings
+numbered limits b =
+    let set = b .set in
+    before-others 1 (omega arith) (frameFindings set) _ (frames set)
+    (before-others 2 (omega arith) (contentsFindings limits set) _ (contents limits (total set) 4 true noEntry (bodiesAt set) (entries set))
+    (before-others 3 (omega arith) (deviceFindings limits set) _ (devices limits set (entriesOf 1 set))
+    (before-others 4 (omega arith) (configurationsFindings limits set) _ (configurations limits set 4 0 [] (entries set))
+    (before-others 5 (omega arith) (stringsFindings set) _ (group-5 set)
+    (numbered-in 6 (omega arith) (serialFindings (iSerialNumber (deviceBody set)) (b .serial)) (serials (eqb (iSerialNumber (deviceBody set)) 0) (b .serial)))))))

@@ -1,5 +1,5 @@
 pub mod After
 pub mod Steps
 pub mod Entries
-pub mod Numbered
+pub mod Grouped
 pub mod Told

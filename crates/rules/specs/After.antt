@@ -2,14 +2,14 @@
 use Prim.Native.Nat.{ℕ, _<_}
 use mathlib.Core.Path.{_≡_}
 use mathlib.Core.List.{List, [], _∷_}
-use mathlib.Core.Bool.{Bool, _&&_, _||_, not}
+use mathlib.Core.Bool.{Bool, _&&_, not}
 use lib.ListN.{length, drop}
-use lib.Dec.{eqb, leb}
-use Rattle.octets.specs.Sentences.{pick, _⇒_, isSome}
+use lib.Dec.{eqb}
+use Rattle.octets.specs.Sentences.{pick, isSome}
 use Rattle.octets.specs.Table.{has}
 use Rattle.sets.specs.Contents.{entriesOf}
 use Rattle.sets.specs.Device.{deviceBody, iSerialNumber}
-use Rattle.sets.specs.Strings.{words, stringZero, languages, inEvery}
+use Rattle.sets.specs.Strings.{words, stringZero, languages, isNonzero, inEvery, mayRefer, zeroIf}
 use Rattle.rules.specs.declared.Fault.{Fault}
 use Rattle.rules.specs.Findings.{Finding, asked, byteAt}
 
@@ -24,7 +24,7 @@ after f (x ∷ xs) = after (orBroken f x) xs
 -- ---- references, as the code judges them: whether string 0 is there, iSerialNumber, and a table of what has a string in every listed language
 abbrev pub judged : Bool → ℕ → List ℕ → ℕ → ℕ → ℕ → ℕ → List Finding
 judged there serial table start at k r =
-    asked 510 (byteAt start at k) (leb 1 r ⇒ there) ∷ asked 512 (byteAt start at k) (eqb r 0 || eqb r serial || has table r) ∷ []
+    asked 510 (byteAt start at k) (zeroIf (isNonzero r) there) ∷ asked 512 (byteAt start at k) (mayRefer serial (has table r) r) ∷ []
 
 pub record Judges (set : List ℕ) (there : Bool) (serial : ℕ) (table : List ℕ) : Type 0 where
   pub found : there ≡ isSome (stringZero set)

@@ -1,25 +1,25 @@
 -- Group 4, rule by rule: entry by entry, and in a body descriptor by descriptor. Places are bytes of the set.
-use Prim.Native.Nat.{ℕ, _+_, _/_, _%_}
+use Prim.Native.Nat.{ℕ, _+_}
 use mathlib.Core.List.{List, [], _∷_, _++_}
-use mathlib.Core.Bool.{Bool, true, false, _&&_, _||_, not}
+use mathlib.Core.Bool.{Bool, true, false, _||_}
 use lib.ListN.{length}
-use lib.Dec.{eqb, leb}
-use Rattle.octets.specs.Bit.{bit}
+use lib.Dec.{eqb}
 use Rattle.octets.specs.Octets.{byte}
-use Rattle.octets.specs.Sentences.{pick, _⇒_, member}
+use Rattle.octets.specs.Sentences.{pick, every}
 use Rattle.descriptors.specs.declared.Limits.{Limits}
 use Rattle.descriptors.specs.declared.Setting.{Setting}
 use Rattle.descriptors.specs.declared.Stand.{Stand}
 use Rattle.descriptors.specs.declared.check.Progress.{Progress}
-use Rattle.descriptors.specs.Limits.{within, doubled, named}
 use Rattle.descriptors.specs.Cut.{Cutting, whole, broken, descriptor, cut}
-use Rattle.descriptors.specs.Descriptor.{bDescriptorType, isInterface, isEndpoint, bEndpointAddress, bmAttributes, wMaxPacketSize, bInterval, transferType, sized}
-use Rattle.descriptors.specs.Interfaces.{follows}
-use Rattle.descriptors.specs.Configuration.{wTotalLength, bNumInterfaces, bConfigurationValue, configurationAttributes, bMaxPower, bitOf}
+use Rattle.descriptors.specs.Descriptor.{bDescriptorType, isInterface, isEndpoint, bEndpointAddress, bmAttributes, wMaxPacketSize, bInterval, transferType}
+use Rattle.descriptors.specs.Descriptor.{addressBitsZero, numberNotZero, highBitsZero, notControl, middleBitsZero, bulkSize, interruptSize, isochronousSize, interruptInterval, isochronousInterval, endpointLongEnough, typeAllowed, interfaceLongEnough}
+use Rattle.descriptors.specs.Interfaces.{numberZero, alternateZero, sameNumber, nextNumber, follows, alternateWithin}
+use Rattle.descriptors.specs.Configuration.{bNumInterfaces, isConfiguration, headLongEnough, totalIsSize, bitSevenOne, lowBitsZero, powerWithin, countsInterface, atMost16Interfaces}
 use Rattle.descriptors.specs.Walk.{settingAt, before, standOf}
-use Rattle.descriptors.specs.Check.{onward, beginning}
+use Rattle.descriptors.specs.Check.{onceInSetting, inNoSecondInterface, allCame, oneMayCome, onward, reachesLast, beginning}
 use Rattle.sets.specs.declared.Entry.{Entry}
-use Rattle.sets.specs.Contents.{bodyOf, isKind, entries}
+use Rattle.sets.specs.Contents.{bodyOf, isKind, entries, hasIndex, hasNoLanguage}
+use Rattle.sets.specs.Opening.{valueNonzero, distinctValues}
 use Rattle.rules.specs.Findings.{Finding, asked, byteAt}
 
 -- ---- one descriptor, which begins at `at` of a body that begins at `start`
@@ -32,75 +32,75 @@ isWhole d = eqb (length d) (byte d 0)
 abbrev pub headFindings : ℕ → ℕ → List ℕ → List Finding
 headFindings size start d =
     asked 404 (byteAt start 0 0) (isWhole d) ∷
-    asked 405 (byteAt start 0 1) (eqb (bDescriptorType d) 2) ∷
-    asked 406 (byteAt start 0 0) (leb 9 (length d)) ∷
-    asked 407 (byteAt start 0 2) (eqb (wTotalLength d) size) ∷ []
+    asked 405 (byteAt start 0 1) (isConfiguration d) ∷
+    asked 406 (byteAt start 0 0) (headLongEnough d) ∷
+    asked 407 (byteAt start 0 2) (totalIsSize size d) ∷ []
 
 abbrev pub headNumbers : ℕ → List ℕ → List Finding
 headNumbers start d =
-    asked 408 (byteAt start 0 7) (eqb (configurationAttributes d / 128) 1) ∷
-    asked 409 (byteAt start 0 7) (eqb (configurationAttributes d % 32) 0) ∷
-    asked 410 (byteAt start 0 8) (leb (bMaxPower d) 250) ∷
-    asked 414 (byteAt start 0 4) (leb 1 (bNumInterfaces d)) ∷
-    asked 415 (byteAt start 0 4) (leb (bNumInterfaces d) 16) ∷ []
+    asked 408 (byteAt start 0 7) (bitSevenOne d) ∷
+    asked 409 (byteAt start 0 7) (lowBitsZero d) ∷
+    asked 410 (byteAt start 0 8) (powerWithin d) ∷
+    asked 414 (byteAt start 0 4) (countsInterface d) ∷
+    asked 415 (byteAt start 0 4) (atMost16Interfaces d) ∷ []
 
 -- the setting that an interface descriptor begins, after a descriptor that stands at `last`: "The first is number 0, alternate 0; each later one has either the same
 -- number and the alternate one higher, or the number one higher and alternate 0". Where its number may stand, its alternate setting is wrong
 abbrev pub mayNumber : Setting → Setting → Bool
-mayNumber s t = eqb (t .interface) (s .interface) || eqb (t .interface) (s .interface + 1)
+mayNumber s t = sameNumber s t || nextNumber s t
 
 abbrev pub placedFindings : Bool → ℕ → ℕ → Setting → Setting → List Finding
 placedFindings true start at s t = asked 418 (byteAt start at (pick (mayNumber s t) 3 2)) (follows s t) ∷ []
-placedFindings false start at s t = asked 416 (byteAt start at 2) (eqb (t .interface) 0) ∷ asked 417 (byteAt start at 3) (eqb (t .alternate) 0) ∷ []
+placedFindings false start at s t = asked 416 (byteAt start at 2) (numberZero t) ∷ asked 417 (byteAt start at 3) (alternateZero t) ∷ []
 
 -- an interface descriptor: the endpoints of the setting that ends here "number its bNumEndpoints"; "4 needs at least 9 bytes"; "alternates end at 15".
 -- `head` is where that setting's interface descriptor begins
 abbrev pub interfaceFindings : ℕ → ℕ → ℕ → Progress → Stand → Stand → List ℕ → List Finding
 interfaceFindings start at head w last stand d =
-    asked 421 (byteAt start head 4) (eqb (w .coming) 0) ∷
-    asked 412 (byteAt start at 0) (leb 9 (length d)) ∷
-    (placedFindings (last .inside) start at (settingAt last) (settingAt stand) ++ (asked 420 (byteAt start at 3) (leb (stand .alternate) 15) ∷ []))
+    asked 421 (byteAt start head 4) (allCame w) ∷
+    asked 412 (byteAt start at 0) (interfaceLongEnough d) ∷
+    (placedFindings (last .inside) start at (settingAt last) (settingAt stand) ++ (asked 420 (byteAt start at 3) (alternateWithin (settingAt stand)) ∷ []))
 
 -- one endpoint more than its setting's bNumEndpoints; or "none stands before the first" interface
 abbrev pub surplus : Bool → ℕ → ℕ → ℕ → Progress → Finding
-surplus true start at head w = asked 421 (byteAt start head 4) (leb 1 (w .coming))
-surplus false start at head w = asked 422 (byteAt start at 0) (leb 1 (w .coming))
+surplus true start at head w = asked 421 (byteAt start head 4) (oneMayCome w)
+surplus false start at head w = asked 422 (byteAt start at 0) (oneMayCome w)
 
 -- an endpoint descriptor: "address bits 6–4 zero, number 1–15. Attributes bits 7–6 zero; transfer type 1 (isochronous), 2 (bulk) or 3 (interrupt);
 -- bits 5–2 zero unless isochronous"
 abbrev pub numberFindings : ℕ → ℕ → ℕ → ℕ → List Finding
 numberFindings start at address attributes =
-    asked 423 (byteAt start at 2) (eqb (address / 16 % 8) 0) ∷
-    asked 424 (byteAt start at 2) (leb 1 (address % 16)) ∷
-    asked 425 (byteAt start at 3) (leb attributes 63) ∷
-    asked 426 (byteAt start at 3) (leb 1 (transferType attributes)) ∷
-    asked 427 (byteAt start at 3) (leb attributes 3 || eqb (transferType attributes) 1) ∷ []
+    asked 423 (byteAt start at 2) (addressBitsZero address) ∷
+    asked 424 (byteAt start at 2) (numberNotZero address) ∷
+    asked 425 (byteAt start at 3) (highBitsZero attributes) ∷
+    asked 426 (byteAt start at 3) (notControl attributes) ∷
+    asked 427 (byteAt start at 3) (middleBitsZero attributes) ∷ []
 
 -- "wMaxPacketSize: bulk 8, 16, 32 or 64; interrupt 0–64; isochronous 0–1,023"
 abbrev pub sizeFindings : Limits → ℕ → ℕ → ℕ → ℕ → List Finding
 sizeFindings limits start at transfer size =
-    asked 428 (byteAt start at 4) (eqb transfer 2 ⇒ doubled (limits .bulk) size) ∷
-    asked 429 (byteAt start at 4) (eqb transfer 3 ⇒ sized limits (limits .interrupt .least) (limits .interrupt .most) size) ∷
-    asked 430 (byteAt start at 4) (eqb transfer 1 ⇒ sized limits (limits .isochronous .least) (limits .isochronous .most) size) ∷ []
+    asked 428 (byteAt start at 4) (bulkSize limits transfer size) ∷
+    asked 429 (byteAt start at 4) (interruptSize limits transfer size) ∷
+    asked 430 (byteAt start at 4) (isochronousSize limits transfer size) ∷ []
 
 -- "bInterval: interrupt 1–255, isochronous 1–16, bulk free"
 abbrev pub intervalFindings : Limits → ℕ → ℕ → ℕ → ℕ → List Finding
 intervalFindings limits start at transfer interval =
-    asked 431 (byteAt start at 6) (eqb transfer 3 ⇒ within (limits .polling) interval) ∷
-    asked 432 (byteAt start at 6) (eqb transfer 1 ⇒ within (limits .period) interval) ∷ []
+    asked 431 (byteAt start at 6) (interruptInterval limits transfer interval) ∷
+    asked 432 (byteAt start at 6) (isochronousInterval limits transfer interval) ∷ []
 
 -- "An address occurs once in a setting and in no second interface of the same configuration". What was seen before is, a bit for each address, that of this setting,
 -- of this interface's settings, and of the whole body
 abbrev pub addressFindings : ℕ → ℕ → Progress → ℕ → List Finding
 addressFindings start at w address =
-    asked 433 (byteAt start at 2) (bit (w .seen) (bitOf address) ⇒ not (bit (w .setting) (bitOf address))) ∷
-    asked 434 (byteAt start at 2) (bit (w .seen) (bitOf address) ⇒ bit (w .interface) (bitOf address)) ∷ []
+    asked 433 (byteAt start at 2) (onceInSetting w address) ∷
+    asked 434 (byteAt start at 2) (inNoSecondInterface w address) ∷ []
 
 -- "5 at least 7", and the above in the page's order
 abbrev pub endpointFindings : Limits → ℕ → ℕ → ℕ → Progress → Stand → List ℕ → List Finding
 endpointFindings limits start at head w last d =
     let transfer = transferType (bmAttributes d) in
-    asked 413 (byteAt start at 0) (leb 7 (length d)) ∷
+    asked 413 (byteAt start at 0) (endpointLongEnough d) ∷
     surplus (last .inside) start at head w ∷
     (numberFindings start at (bEndpointAddress d) (bmAttributes d) ++
     (sizeFindings limits start at transfer (wMaxPacketSize d) ++
@@ -115,14 +115,14 @@ typeFindings limits start at head w last stand d =
 abbrev pub descriptorFindings : Limits → ℕ → ℕ → ℕ → Progress → Stand → Stand → List ℕ → List Finding
 descriptorFindings limits start at head w last stand d =
     asked 404 (byteAt start at 0) (isWhole d) ∷
-    asked 411 (byteAt start at 1) (not (named (limits .refused) (bDescriptorType d))) ∷
+    asked 411 (byteAt start at 1) (typeAllowed limits (bDescriptorType d)) ∷
     typeFindings limits start at head w last stand d
 
 -- ---- a body, which begins at `start`
 -- at its end: the last setting's endpoints; "the last number is bNumInterfaces − 1", and so there is one
 abbrev pub endFindings : ℕ → ℕ → ℕ → Progress → Stand → List Finding
 endFindings start n head w last =
-    asked 421 (byteAt start head 4) (eqb (w .coming) 0) ∷ asked 419 (byteAt start 0 4) (last .inside && eqb (last .interface + 1) n) ∷ []
+    asked 421 (byteAt start head 4) (allCame w) ∷ asked 419 (byteAt start 0 4) (reachesLast n last) ∷ []
 
 -- the descriptors after the first, from `at` on, for n interfaces
 unfoldable pub restFindings : Limits → ℕ → ℕ → ℕ → ℕ → Progress → Stand → Cutting → List Finding
@@ -142,21 +142,24 @@ abbrev pub bodyFindings : Limits → ℕ → List ℕ → List Finding
 bodyFindings limits start body = cutFindings limits (length body) start (cut body)
 
 -- ---- the entries
--- the n-th configuration, whose entry stands at `at`; `again`: its value was there before.
+-- the n-th configuration, whose entry stands at `at`; `distinct`: its value is none of those before it.
 -- "indices 0 up by one, language 0, each body as below; bConfigurationValue nonzero and distinct between them"
 abbrev pub configurationFindings : Limits → ℕ → ℕ → Bool → Entry → List ℕ → List Finding
-configurationFindings limits at n again e body =
-    asked 401 (byteAt 0 at 1) (eqb (e .index) n) ∷
-    asked 402 (byteAt 0 at 2) (eqb (e .language) 0) ∷
-    (bodyFindings limits (e .offset) body ++ (asked 435 (byteAt (e .offset) 0 5) (leb 1 (bConfigurationValue body)) ∷ asked 436 (byteAt (e .offset) 0 5) (not again) ∷ []))
+configurationFindings limits at n distinct e body =
+    asked 401 (byteAt 0 at 1) (hasIndex n e) ∷
+    asked 402 (byteAt 0 at 2) (hasNoLanguage e) ∷
+    (bodyFindings limits (e .offset) body ++ (asked 435 (byteAt (e .offset) 0 5) (valueNonzero body) ∷ asked 436 (byteAt (e .offset) 0 5) distinct ∷ []))
 
--- the entries from `at` on; `earlier` are the values that were there
-unfoldable pub configurationsFrom : Limits → List ℕ → ℕ → ℕ → List ℕ → List Entry → List Finding
+-- a body beside those before it
+abbrev pub distinctFrom : List (List ℕ) → List ℕ → Bool
+distinctFrom earlier body = every (λ b. distinctValues b body) earlier
+
+-- the entries from `at` on; `earlier` are the bodies that were there
+unfoldable pub configurationsFrom : Limits → List ℕ → ℕ → ℕ → List (List ℕ) → List Entry → List Finding
 configurationsFrom limits set at n earlier [] = []
 configurationsFrom limits set at n earlier (e ∷ es) =
     let body = bodyOf set e in
-    let value = bConfigurationValue body in
-    pick (isKind 2 e) (configurationFindings limits at n (member value earlier) e body ++ configurationsFrom limits set (at + 8) (n + 1) (value ∷ earlier) es)
+    pick (isKind 2 e) (configurationFindings limits at n (distinctFrom earlier body) e body ++ configurationsFrom limits set (at + 8) (n + 1) (body ∷ earlier) es)
     (configurationsFrom limits set (at + 8) n earlier es)
 
 abbrev pub configurationsFindings : Limits → List ℕ → List Finding

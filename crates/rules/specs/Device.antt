@@ -1,58 +1,57 @@
 -- Groups 3 and 6, rule by rule: the device, with places in the set, and the serial block, with places in the block.
-use Prim.Native.Nat.{ℕ, _%_}
+use Prim.Native.Nat.{ℕ}
 use mathlib.Core.List.{List, [], _∷_, _++_}
 use mathlib.Core.Bool.{Bool, true, false}
 use lib.ListN.{length}
-use lib.Dec.{eqb, leb}
-use Rattle.octets.specs.Octets.{byte}
-use Rattle.octets.specs.Sentences.{_⇒_, isEmpty}
+use lib.Dec.{eqb}
 use Rattle.descriptors.specs.declared.Limits.{Limits}
-use Rattle.descriptors.specs.Limits.{doubled}
 use Rattle.sets.specs.declared.Entry.{Entry}
-use Rattle.sets.specs.Contents.{bodyOf, entriesOf}
-use Rattle.sets.specs.Device.{bDeviceClass, bDeviceSubClass, bMaxPacketSize0, bNumConfigurations}
+use Rattle.sets.specs.Contents.{bodyOf, entriesOf, isOne, hasIndex, hasNoLanguage}
+use Rattle.sets.specs.Device.{has18Bytes, says18Bytes, isDevice, controlSize, subclassWithClass, countsConfiguration, atMost8Configurations, countIsEntries}
+use Rattle.sets.specs.Strings.{saysItsLength, typedString, evenLength, upTo254}
+use Rattle.sets.specs.Opening.{blockEmpty, atLeast4}
 use Rattle.rules.specs.Findings.{Finding, asked, byteAt}
 
 -- the device descriptor, which begins at `start`: "bLength 18, type 1; bMaxPacketSize0 is 8, 16, 32 or 64; class 0 only with subclass 0;
 -- bNumConfigurations 1–8 and equal to the number of type 2 entries"
 abbrev pub deviceHead : Limits → ℕ → List ℕ → List Finding
 deviceHead limits start d =
-    asked 305 (byteAt start 0 0) (eqb (byte d 0) 18) ∷
-    asked 306 (byteAt start 0 1) (eqb (byte d 1) 1) ∷
-    asked 307 (byteAt start 0 7) (doubled (limits .control) (bMaxPacketSize0 d)) ∷ []
+    asked 305 (byteAt start 0 0) (says18Bytes d) ∷
+    asked 306 (byteAt start 0 1) (isDevice d) ∷
+    asked 307 (byteAt start 0 7) (controlSize limits d) ∷ []
 
 abbrev pub deviceCounts : ℕ → ℕ → List ℕ → List Finding
 deviceCounts configurations start d =
-    asked 308 (byteAt start 0 5) (eqb (bDeviceClass d) 0 ⇒ eqb (bDeviceSubClass d) 0) ∷
-    asked 309 (byteAt start 0 17) (leb 1 (bNumConfigurations d)) ∷
-    asked 310 (byteAt start 0 17) (leb (bNumConfigurations d) 8) ∷
-    asked 311 (byteAt start 0 17) (eqb (bNumConfigurations d) configurations) ∷ []
+    asked 308 (byteAt start 0 5) (subclassWithClass d) ∷
+    asked 309 (byteAt start 0 17) (countsConfiguration d) ∷
+    asked 310 (byteAt start 0 17) (atMost8Configurations d) ∷
+    asked 311 (byteAt start 0 17) (countIsEntries configurations d) ∷ []
 
 -- "one type 1 entry, index 0, language 0; 18 bytes". Entries ascend by type, so it is the first entry, at byte 4, and a second one stands at byte 12
 abbrev pub oneFindings : Limits → List ℕ → Entry → List Finding
 oneFindings limits set e =
-    asked 302 (byteAt 0 0 5) (eqb (e .index) 0) ∷
-    asked 303 (byteAt 0 0 6) (eqb (e .language) 0) ∷
-    asked 304 (byteAt 0 0 10) (eqb (length (bodyOf set e)) 18) ∷
+    asked 302 (byteAt 0 0 5) (hasIndex 0 e) ∷
+    asked 303 (byteAt 0 0 6) (hasNoLanguage e) ∷
+    asked 304 (byteAt 0 0 10) (has18Bytes (bodyOf set e)) ∷
     (deviceHead limits (e .offset) (bodyOf set e) ++ deviceCounts (length (entriesOf 2 set)) (e .offset) (bodyOf set e))
 
 abbrev pub deviceEntryFindings : Limits → List ℕ → List Entry → List Finding
-deviceEntryFindings limits set [] = asked 301 (byteAt 0 0 4) false ∷ []
+deviceEntryFindings limits set [] = asked 301 (byteAt 0 0 4) (isOne []) ∷ []
 deviceEntryFindings limits set (e ∷ es) =
-    asked 301 (byteAt 0 0 12) (isEmpty es) ∷ oneFindings limits set e
+    asked 301 (byteAt 0 0 12) (isOne (e ∷ es)) ∷ oneFindings limits set e
 
 abbrev pub deviceFindings : Limits → List ℕ → List Finding
 deviceFindings limits set = deviceEntryFindings limits set (entriesOf 1 set)
 
 -- "empty when iSerialNumber is 0; else of even length 4–254, first byte its length, second byte 3"
 abbrev pub serialAsked : Bool → List ℕ → List Finding
-serialAsked true block = asked 601 (byteAt 0 0 0) (eqb (length block) 0) ∷ []
+serialAsked true block = asked 601 (byteAt 0 0 0) (blockEmpty block) ∷ []
 serialAsked false block =
-    asked 602 (byteAt 0 0 0) (eqb (length block % 2) 0) ∷
-    asked 603 (byteAt 0 0 3) (leb 4 (length block)) ∷
-    asked 604 (byteAt 0 0 254) (leb (length block) 254) ∷
-    asked 605 (byteAt 0 0 0) (eqb (byte block 0) (length block)) ∷
-    asked 606 (byteAt 0 0 1) (eqb (byte block 1) 3) ∷ []
+    asked 602 (byteAt 0 0 0) (evenLength block) ∷
+    asked 603 (byteAt 0 0 3) (atLeast4 block) ∷
+    asked 604 (byteAt 0 0 254) (upTo254 block) ∷
+    asked 605 (byteAt 0 0 0) (saysItsLength block) ∷
+    asked 606 (byteAt 0 0 1) (typedString block) ∷ []
 
 abbrev pub serialFindings : ℕ → List ℕ → List Finding
 serialFindings index block = serialAsked (eqb index 0) block

@@ -1,18 +1,16 @@
 -- Group 5, rule by rule: the strings entry by entry, and then the references, since they are judged by the languages that string 0 lists. Places are bytes of the set.
-use Prim.Native.Nat.{ℕ, _+_, _*_, _%_}
+use Prim.Native.Nat.{ℕ, _+_, _*_}
 use mathlib.Core.List.{List, [], _∷_, _++_}
-use mathlib.Core.Bool.{Bool, _&&_, _||_}
+use mathlib.Core.Bool.{Bool, _&&_, not}
 use lib.ListN.{length}
-use lib.Dec.{eqb, leb, ltb}
-use Rattle.octets.specs.Octets.{byte}
-use Rattle.octets.specs.Sentences.{pick, _⇒_, isSome, isEmpty}
+use Rattle.octets.specs.Sentences.{pick, isSome, isEmpty}
 use Rattle.descriptors.specs.Cut.{Cutting, whole, broken, descriptor, cut}
 use Rattle.descriptors.specs.Descriptor.{isInterface, iInterface}
 use Rattle.descriptors.specs.Configuration.{iConfiguration}
 use Rattle.sets.specs.declared.Entry.{Entry}
 use Rattle.sets.specs.Contents.{bodiesAt, bodyOf, isKind, entries, entriesOf}
 use Rattle.sets.specs.Device.{deviceBody, iManufacturer, iProduct, iSerialNumber}
-use Rattle.sets.specs.Strings.{isStringZero, stringZero, languages, languageZero, listed, notSerial, goodReference}
+use Rattle.sets.specs.Strings.{saysItsLength, typedString, evenLength, upTo254, isStringZero, stringZero, languages, listsOne, listsAtMostFour, isNonzero, ascends, languageZero, listed, notSerial, goodReference, zeroIf}
 use Rattle.rules.specs.Findings.{Finding, asked, byteAt}
 use Rattle.rules.specs.Configuration.{isWhole}
 
@@ -21,18 +19,18 @@ use Rattle.rules.specs.Configuration.{isWhole}
 unfoldable pub languagesFrom : ℕ → ℕ → ℕ → List ℕ → List Finding
 languagesFrom start at last [] = []
 languagesFrom start at last (l ∷ ls) =
-    asked 507 (byteAt start at 0) (leb 1 l) ∷ asked 508 (byteAt start at 0) (ltb last l) ∷ languagesFrom start (at + 2) l ls
+    asked 507 (byteAt start at 0) (isNonzero l) ∷ asked 508 (byteAt start at 0) (ascends last l) ∷ languagesFrom start (at + 2) l ls
 
 abbrev pub languageFindings : ℕ → List ℕ → List Finding
 languageFindings start ls =
-    asked 505 (byteAt start 0 0) (leb 1 (length ls)) ∷ asked 506 (byteAt start 0 10) (leb (length ls) 4) ∷ languagesFrom start 2 0 ls
+    asked 505 (byteAt start 0 0) (listsOne ls) ∷ asked 506 (byteAt start 0 10) (listsAtMostFour ls) ∷ languagesFrom start 2 0 ls
 
 -- "every string body has bLength equal to its length, type byte 3 and even length up to 254"
 abbrev pub stringFindings : ℕ → List ℕ → List Finding
 stringFindings start body =
-    asked 501 (byteAt start 0 0) (eqb (byte body 0) (length body)) ∷
-    asked 502 (byteAt start 0 1) (eqb (byte body 1) 3) ∷
-    asked 503 (byteAt start 0 0) (eqb (length body % 2) 0 && leb (length body) 254) ∷ []
+    asked 501 (byteAt start 0 0) (saysItsLength body) ∷
+    asked 502 (byteAt start 0 1) (typedString body) ∷
+    asked 503 (byteAt start 0 0) (evenLength body && upTo254 body) ∷ []
 
 -- an entry at `at`: its body; "Language 0 goes with index 0 and no other"; the languages, if it is string 0; "Other entries use listed languages";
 -- "No entry has the index iSerialNumber when that is nonzero"
@@ -54,7 +52,7 @@ stringsFrom set ls serial at (e ∷ es) =
 -- is iSerialNumber's value or has an entry in every listed language"
 abbrev pub referenceFindings : List ℕ → ℕ → ℕ → ℕ → ℕ → List Finding
 referenceFindings set start at k r =
-    asked 510 (byteAt start at k) (leb 1 r ⇒ isSome (stringZero set)) ∷
+    asked 510 (byteAt start at k) (zeroIf (isNonzero r) (isSome (stringZero set))) ∷
     asked 512 (byteAt start at k) (goodReference (languages set) (entriesOf 3 set) (iSerialNumber (deviceBody set)) r) ∷ []
 
 -- the iInterface of every interface descriptor, from `at` on
@@ -81,5 +79,5 @@ deviceReferences set =
 -- "If there is any string entry .., index 0 is there", where it has to stand: first of all strings, behind the entries of the device and of the configurations
 abbrev pub stringsFindings : List ℕ → List Finding
 stringsFindings set =
-    asked 510 (byteAt 0 (12 + 8 * length (entriesOf 2 set)) 0) (isEmpty (entriesOf 3 set) || isSome (stringZero set)) ∷
+    asked 510 (byteAt 0 (12 + 8 * length (entriesOf 2 set)) 0) (zeroIf (not (isEmpty (entriesOf 3 set))) (isSome (stringZero set))) ∷
     (stringsFrom set (languages set) (iSerialNumber (deviceBody set)) 4 (entries set) ++ (deviceReferences set ++ referencesFrom set (entries set)))

@@ -11,7 +11,7 @@ use sets::Entry;
 use sets::contents::body_of;
 use sets::contents::entry_at;
 ghost use mathlib.Core.Path.{_≡_};
-ghost use mathlib.Core.Bool.{false};
+ghost use mathlib.Core.Bool.{false, not};
 ghost use Prim.Native.Nat.{_<_};
 ghost use lib.ListN.{length, drop};
 ghost use Rattle.octets.specs.Sentences.{pick};
@@ -362,7 +362,7 @@ fn configuration_fault(
     limits: Limits,
 ) -> Fault
     requires { ⌜ length (now body) < 65536 ⌝ }
-    ensures { λ r. ⌜ r ≡ after found (configurationFindings limits at index again e (now (body .entry))) ⌝ }
+    ensures { λ r. ⌜ r ≡ after found (configurationFindings limits at index (not again) e (now (body .entry))) ⌝ }
 {
     let start = e.offset;
     let found = ask(found, 401, 0, at, 1, e.index == index);

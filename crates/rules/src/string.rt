@@ -215,14 +215,14 @@ fn judged_fault(found: Fault, set: &[u8], zero: &[u8], there: bool) -> Fault
     let table = sets::string::in_every_language(set, zero);
     let device = device_body(set);
     let start = 4 + 8 * (octets::peek(set, 2) as u16);
-    let none = count_of(set, 3) == 0;
+    let strings = 1 <= count_of(set, 3);
     let found = ask(
         found,
         510,
         0,
         12 + 8 * (count_of(set, 2) as u16),
         0,
-        none | there,
+        !strings | there,
     );
     let found = entries_fault(found, set, zero, serial);
     let found = reference_fault(

@@ -14,7 +14,7 @@ use Rattle.rules.specs.Configuration.{configurationsFindings}
 use Rattle.rules.specs.Strings.{stringsFindings}
 use Rattle.rules.specs.Explained.{findings, isBroken, faultOf, inside, lentFor, explained}
 use Rattle.rules.proofs.After.{first-broken}
-use Rattle.rules.proofs.Numbered.{numbered}
+use Rattle.rules.proofs.Grouped.{numbered}
 use Rattle.rules.proofs.After.{asks, ends, joins}
 use borrow.Author.Needs.{needs}
 use Rattle.rules.proofs.explain.Statement.{statement}

@@ -17,7 +17,7 @@ use Rattle.rules.proofs.configuration.configurations_fault.Tie as tie
 
 abbrev Inv-loop : tie.InvT-loop
 Inv-loop set limits count found₀ index₀ seen₀ i₀ found index seen i =
-    (index ≤ i) × (length seen ≡ 8) × (earlier : List _) × Seen seen earlier
+    (index ≤ i) × (length seen ≡ 8) × (earlier : List (List _)) × Seen seen earlier
     × (after found₀ (configurationsFrom limits set 4 0 [] (entries set)) ≡ after found (configurationsFrom limits set (4 + 8 * i) index earlier (rest set i)))
 
 abbrev μ-loop : tie.MeasureT-loop
@@ -80,13 +80,13 @@ loop-again c =
     let value : c .before .before .before .before .before .peek2 .result ≡ v = rw (c .before .before .before .before .before .before .body-of .ensures) at (c .before .before .before .before .before .peek2 .ensures) in (
       omega arith,
       rw (c .join .ensures) (with-long (l .seen) _ (l .inv .1)),
-      v ∷ l .inv .2,
-      rw (c .join .ensures, value) (seen-more (l .seen) (l .inv .2) v small (l .inv .1) (l .inv .3)),
+      bodyOf set e ∷ l .inv .2,
+      rw (c .join .ensures, value) (seen-more (l .seen) (l .inv .2) (bodyOf set e) small (l .inv .1) (l .inv .3)),
       l .inv .4
           ∙ ap (λ es. after (l .found) (configurationsFrom (a .limits) set (4 + 8 * l .i) (l .index) (l .inv .2) es))
           (next-entry set (s .before .before .before .peek .result) (s .before .before .before .peek .ensures) (l .i) (s .before .loop-test .taken) e (s .entry-at .ensures))
           ∙ configuration-in (a .limits) set (l .i) (l .index) (l .inv .2) (l .found) e _ (t .if1 .taken)
-          (rw (c .before .before .before .holds .ensures, value, l .inv .3 v small, c .before .before .before .before .before .before .body-of .ensures) at (c .before .before .configuration-fault .ensures)),
+          (rw (c .before .before .before .holds .ensures, value, l .inv .3 (bodyOf set e) small, c .before .before .before .before .before .before .body-of .ensures) at (c .before .before .configuration-fault .ensures)),
     )
 
 loop-less-2 : tie.Need-loop-less-2 Inv-loop μ-loop

@@ -6,7 +6,7 @@ use Rattle.sets.specs.Device.{deviceBody, iManufacturer, iProduct, iSerialNumbe
 use Rattle.sets.specs.Strings.{languages, inEvery}
 use Rattle.rules.specs.Strings.{stringsFrom, referenceFindings, deviceReferences}
 use Rattle.rules.specs.After.{Judges}
-use Rattle.rules.proofs.Entries.{judged-same, none-left}
+use Rattle.rules.proofs.Entries.{judged-same, some-left}
 use Rattle.rules.proofs.After.{asks, ends, joins}
 use borrow.Author.Needs.{needs}
 use Rattle.rules.proofs.string.judged_fault.Statement.{statement}
@@ -102,7 +102,7 @@ returns c =
     let at = c .before .before .before .before .before .before .before .before .before .before .before .before .before .before .before .peek .ensures in
     let b = c .before .before .before .before .before .before .before .before .before .before .before .before .before .before .before .before .device-body .ensures in
     let s = bodiesAt set in
-    asks _ _ _ (rw (c .before .before .before .before .before .before .before .before .before .before .before .before .before .count-of2 .ensures, c .before .before .before .before .before .before .before .before .before .before .before .before .before .before .count-of .ensures, none-left (entriesOf 3 set), p .found) at (c .before .before .before .before .before .before .before .before .before .before .before .before .ask .ensures))
+    asks _ _ _ (rw (c .before .before .before .before .before .before .before .before .before .before .before .before .before .count-of2 .ensures, c .before .before .before .before .before .before .before .before .before .before .before .before .before .before .count-of .ensures, some-left (entriesOf 3 set), p .found) at (c .before .before .before .before .before .before .before .before .before .before .before .before .ask .ensures))
     (joins _ (stringsFrom set (languages set) (iSerialNumber d) 4 (entries set)) _ (rw (p .listed, c .before .before .before .before .before .before .before .before .before .before .before .before .before .before .before .before .before .before .serial-index .ensures) at (c .before .before .before .before .before .before .before .before .before .before .before .entries-fault .ensures))
     (joins _ (deviceReferences set) _
     (joins _ (referenceFindings set s 0 14 (iManufacturer d)) _ (rw (at, c .before .before .before .before .before .before .before .before .before .before .peek2 .ensures, b, judged-same j s 0 14 (iManufacturer d) (first (c .before .before .before .before .before .before .before .before .before .before))) at (c .before .before .before .before .before .before .before .before .reference-fault .ensures))
