@@ -9,6 +9,7 @@ ghost use mathlib.Core.List.{List};
 ghost use Prim.Native.Nat.{ℕ};
 ghost use Rattle.descriptors.specs.declared.Limits.{Limits};
 ghost use Rattle.sets.specs.Opening.{lent, goodConfigurations, opening};
+ghost use Rattle.sets.specs.Pieces.{piecesIn};
 ghost use Rattle.sets.specs.Checks.{Begins, Ready};
 
 // Groups 1 to 3: 0, or the number of the first that is broken.
@@ -36,7 +37,7 @@ pub fn last_groups(
     names: &[u32; 8],
 ) -> u8
     requires { ⌜ Ready (now set) (now names) good configurations ⌝ }
-    ensures { λ r. ⌜ ((limits : Limits) → Begins limits (now (set .entry)) → configurations .good ≡ goodConfigurations limits (now (set .entry))
+    ensures { λ r. ⌜ ((limits : Limits) → Begins limits (now (set .entry)) → configurations .good ≡ goodConfigurations limits (piecesIn (now (set .entry)))
         → r ≡ opening limits (lent (now (set .entry)) (now (serial .entry)))) ⌝ }
 {
     if !configurations.good {

@@ -16,10 +16,10 @@ ghost use mathlib.Core.Bool.{true, _&&_, _||_};
 ghost use lib.ListN.{drop, getD};
 ghost use lib.Dec.{eqb, ltb};
 ghost use Rattle.octets.specs.Sentences.{pick, any, every, member};
-ghost use Rattle.sets.specs.Contents.{entriesOf};
+ghost use Rattle.sets.specs.Pieces.{pieceWith, piecesIn, piecesOf};
 ghost use Rattle.sets.specs.Strings.{words, isString, isStringZero, goodString, languageZero, notSerial, goodLanguages, languages, inEvery, goodReference, goodStrings};
 ghost use Rattle.octets.specs.Table.{has, with};
-ghost use Rattle.sets.specs.Checks.{goodStringEntry, goodListed, mayName, noNames, Ordered, Ascend, Read};
+ghost use Rattle.sets.specs.Checks.{goodStringPiece, goodListed, mayName, noNames, Ordered, Ascend, Read};
 
 // String 0 lists one to four languages, nonzero and ascending.
 fn good_languages(body: &[u8]) -> bool
@@ -98,7 +98,7 @@ fn is_listed(e: Entry, language: u16, table: &[u32; 8]) -> bool
 
 // Those in a table that have a string in a language.
 fn in_language(set: &[u8], language: u16, table: &[u32; 8]) -> [u32; 8]
-    ensures { λ r. ⌜ ((j : ℕ) → j < 256 → has r j ≡ (has (now (table .entry)) j && any (isString j language) (entriesOf 3 (now (set .entry))))) ⌝ }
+    ensures { λ r. ⌜ ((j : ℕ) → j < 256 → has r j ≡ (has (now (table .entry)) j && any (isString j language) (piecesOf 3 (piecesIn (now (set .entry)))))) ⌝ }
 {
     let count = octets::peek(set, 2);
     let mut next = [0u32; 8];
@@ -115,7 +115,7 @@ fn in_language(set: &[u8], language: u16, table: &[u32; 8]) -> [u32; 8]
 
 // The indices that have a string in every listed language, of any set: opening, which knows that the entries ascend, has them from one pass. `languages` is string 0.
 pub fn in_every_language(set: &[u8], languages: &[u8]) -> [u32; 8]
-    ensures { λ r. ⌜ ((j : ℕ) → j < 256 → has r j ≡ inEvery (words (drop 2 (now (languages .entry)))) (entriesOf 3 (now (set .entry))) j) ⌝ }
+    ensures { λ r. ⌜ ((j : ℕ) → j < 256 → has r j ≡ inEvery (words (drop 2 (now (languages .entry)))) (piecesOf 3 (piecesIn (now (set .entry)))) j) ⌝ }
 {
     let mut table = [4294967295u32; 8];
     let mut at = 2;
@@ -142,7 +142,7 @@ fn good_string(body: &[u8]) -> bool
 
 // A string entry, its body, and whether its language is listed. Each test ends it by itself: one after another they cost less than together.
 fn good_string_entry(body: &[u8], e: Entry, listed: bool, serial: u8) -> bool
-    ensures { λ r. ⌜ r ≡ (goodString (now (body .entry)) && languageZero e && (isStringZero e || listed) && notSerial serial e) ⌝ }
+    ensures { λ r. ⌜ (let p = pieceWith e (now (body .entry)) in r ≡ (goodString (p .body) && languageZero p && (isStringZero p || listed) && notSerial serial p)) ⌝ }
 {
     if !good_string(body) {
         return false;
@@ -193,7 +193,7 @@ fn close(names: &mut [u32; 8], more: bool, serial: u8)
 // so do the languages: `table` has the indices that every language before this one has, `names` those of them that were seen in this one.
 fn read_listed(set: &[u8], languages: &[u8], serial: u8, names: &mut [u32; 8]) -> bool
     requires { ⌜ Ascend (now set) (words (drop 2 (now languages))) ⌝ }
-    ensures { λ r. ⌜ (r ≡ every (goodStringEntry (now (set .entry)) (words (drop 2 (now (languages .entry)))) serial) (entriesOf 3 (now (set .entry)))) × (r ≡ true → (j : ℕ) → j < 256 → has (now (names .exit)) j ≡ goodReference (words (drop 2 (now (languages .entry)))) (entriesOf 3 (now (set .entry))) serial j) ⌝ }
+    ensures { λ r. ⌜ (r ≡ every (goodStringPiece (words (drop 2 (now (languages .entry)))) serial) (piecesOf 3 (piecesIn (now (set .entry))))) × (r ≡ true → (j : ℕ) → j < 256 → has (now (names .exit)) j ≡ goodReference (words (drop 2 (now (languages .entry)))) (piecesOf 3 (piecesIn (now (set .entry)))) serial j) ⌝ }
 {
     let count = octets::peek(set, 2);
     let mut table = [4294967295u32; 8];
@@ -241,7 +241,7 @@ pub fn read(set: &[u8], languages: &[u8], names: &mut [u32; 8]) -> bool
 // Group 5, once the strings are read and it is known whether the references of the configurations are in `names`.
 pub fn good_strings(set: &[u8], good: bool, names: &[u32; 8], refer: bool) -> bool
     requires { ⌜ Read (now set) (now names) refer good ⌝ }
-    ensures { λ r. ⌜ r ≡ goodStrings (now (set .entry)) ⌝ }
+    ensures { λ r. ⌜ r ≡ goodStrings (piecesIn (now (set .entry))) ⌝ }
 {
     refer & device_refers(set, names) & good
 }

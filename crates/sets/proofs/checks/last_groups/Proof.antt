@@ -8,6 +8,7 @@ use borrow.Author.Tests.{not-true, not-false}
 use Rattle.octets.specs.Sentences.{pick}
 use Rattle.descriptors.specs.declared.Limits.{Limits}
 use Rattle.sets.specs.Opening.{lent, goodConfigurations, goodBlock, opening}
+use Rattle.sets.specs.Pieces.{piecesIn}
 use Rattle.sets.specs.Strings.{goodStrings}
 use Rattle.sets.specs.Checks.{Begins}
 use Rattle.sets.proofs.checks.last_groups.Statement.{statement}
@@ -15,16 +16,16 @@ use Rattle.sets.proofs.checks.last_groups.Tie as tie
 
 -- where the groups before are met, the next one decides
 module _ (limits : Limits) (set serial : List ℕ) (b : Begins limits set) where
-  fourth : goodConfigurations limits set ≡ not true → 4 ≡ opening limits (lent set serial)
+  fourth : goodConfigurations limits (piecesIn set) ≡ not true → 4 ≡ opening limits (lent set serial)
   unfolding opening
   fourth p = rw (b .frame, b .contents, b .devices, p)
 
-  module _ (g : goodConfigurations limits set ≡ true) where
-    fifth : goodStrings set ≡ not true → 5 ≡ opening limits (lent set serial)
+  module _ (g : goodConfigurations limits (piecesIn set) ≡ true) where
+    fifth : goodStrings (piecesIn set) ≡ not true → 5 ≡ opening limits (lent set serial)
     unfolding opening
     fifth p = rw (b .frame, b .contents, b .devices, g, p)
 
-    sixth : {x : Bool} → goodStrings set ≡ true → goodBlock set serial ≡ x → pick (not x) 6 0 ≡ opening limits (lent set serial)
+    sixth : {x : Bool} → goodStrings (piecesIn set) ≡ true → goodBlock (piecesIn set) serial ≡ x → pick (not x) 6 0 ≡ opening limits (lent set serial)
     unfolding opening
     sixth s p = rw (b .frame, b .contents, b .devices, g, s, p)
 
@@ -50,13 +51,13 @@ serial-index-requires c κs = search needs
 good-serial-requires : tie.Need-good-serial-requires
 good-serial-requires c κs = search needs
 
-block : (c : tie.After-good-serial) → goodBlock (c .before .before .before .before .before .before .before .before .args .set .now) (c .before .before .before .before .before .before .before .before .args .serial .now) ≡ c .good-serial .result
+block : (c : tie.After-good-serial) → goodBlock (piecesIn (c .before .before .before .before .before .before .before .before .args .set .now)) (c .before .before .before .before .before .before .before .before .args .serial .now) ≡ c .good-serial .result
 unfolding goodBlock
 block c = sym (rw (c .before .serial-index .ensures) at (c .good-serial .ensures))
 
 -- all but the serial block is good
 met : (c : tie.After-good-serial) (limits : Limits) {x : Bool} → let a = c .before .before .before .before .before .before .before .before .args in
-    Begins limits (a .set .now) → a .configurations .good ≡ goodConfigurations limits (a .set .now) → c .good-serial .result ≡ x
+    Begins limits (a .set .now) → a .configurations .good ≡ goodConfigurations limits (piecesIn (a .set .now)) → c .good-serial .result ≡ x
     → pick (not x) 6 0 ≡ opening limits (lent (a .set .now) (a .serial .now))
 met c limits b g p =
     sixth limits (c .before .before .before .before .before .before .before .before .args .set .now) (c .before .before .before .before .before .before .before .before .args .serial .now) b (sym g ∙ not-false _ (c .before .before .before .before .if1 .left))

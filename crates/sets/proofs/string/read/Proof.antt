@@ -1,6 +1,7 @@
 -- `sets::string::read` meets its contract. No axiom.
 use mathlib.Core.Path.{sym, _∙_}
 use borrow.Author.Needs.{needs}
+use Rattle.sets.proofs.Pieces.{none-of}
 use Rattle.sets.proofs.Strings.{with-none}
 use Rattle.sets.proofs.string.read.Statement.{statement}
 use Rattle.sets.proofs.string.read.Tie as tie
@@ -31,7 +32,7 @@ count-of-requires c κs = search needs
 returns-2 : tie.Need-returns-2
 returns-2 c =
     let g = sym (c .before .before .before .before .before .good-languages .ensures) ∙ c .before .before .before .before .if1 .left in (
-      rw (g, c .count-of .ensures),
+      rw (g, c .count-of .ensures) (none-of (c .before .before .before .before .before .before .before .before .args .set .now) 3),
       λ p j q. rw (g, c .before .join .ensures) (with-none j),
     )
 

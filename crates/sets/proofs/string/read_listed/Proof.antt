@@ -6,8 +6,9 @@ use mathlib.Core.Path.{_≡_, sym, _∙_}
 use lib.ListN.{length, drop}
 use borrow.Author.Tests.{not-true, not-false}
 use Rattle.sets.specs.Strings.{words}
-use Rattle.sets.specs.Checks.{goodStringEntry}
-use Rattle.sets.proofs.Entries.{rest, restOf, next-entry, kind-end}
+use Rattle.sets.specs.Pieces.{pieceFor}
+use Rattle.sets.specs.Checks.{goodStringPiece}
+use Rattle.sets.proofs.Entries.{rest, next-entry, no-entry}
 use borrow.Author.Needs.{needs}
 use Rattle.sets.proofs.Passing.{Passing, begins, listed-here, moves, other, refused, skips, takes, all-good, names-read}
 use Rattle.sets.proofs.string.read_listed.Statement.{statement}
@@ -23,12 +24,13 @@ abbrev μ-loop : tie.MeasureT-loop
 turn : (c : tie.After-entry-whole Inv-loop μ-loop) → rest (c .before .before .before .before .before .before .before .before .args .set .now) (c .before .before .loop .i) ≡ c .entry-whole .result ∷ rest (c .before .before .before .before .before .before .before .before .args .set .now) (c .before .before .loop .i + 1)
 turn c = next-entry (c .before .before .before .before .before .before .before .before .args .set .now) (c .before .before .before .before .before .peek .result) (c .before .before .before .before .before .peek .ensures) (c .before .before .loop .i) (c .before .loop-test .taken) (c .entry-whole .result) (c .entry-whole .ensures)
 
-end : (c : tie.After-loop Inv-loop μ-loop) → restOf 3 (c .before .before .before .before .before .before .before .args .set .now) (c .before .loop .i) ≡ []
-end c = kind-end 3 (c .before .before .before .before .before .before .before .args .set .now) (c .before .before .before .before .peek .result) (c .before .before .before .before .peek .ensures) (c .before .loop .i) (c .loop-test .left)
+end : (c : tie.After-loop Inv-loop μ-loop) → rest (c .before .before .before .before .before .before .before .args .set .now) (c .before .loop .i) ≡ []
+end c = no-entry (c .before .before .before .before .before .before .before .args .set .now) (c .before .before .before .before .peek .result) (c .before .before .before .before .peek .ensures) (c .before .loop .i) (c .loop-test .left)
 
 -- what is asked of this entry
 verdict : (c : tie.After-good-string-entry Inv-loop μ-loop)
-    → goodStringEntry (c .before .before .before .before .before .before .before .before .before .before .before .before .before .before .before .args .set .now) (words (drop 2 (c .before .before .before .before .before .before .before .before .before .before .before .before .before .before .before .args .languages .now))) (c .before .before .before .before .before .before .before .before .before .before .before .before .before .before .before .args .serial) (c .before .before .before .before .before .before .before .entry-whole .result) ≡ c .good-string-entry .result
+    → let a = c .before .before .before .before .before .before .before .before .before .before .before .before .before .before .before .args in
+    goodStringPiece (words (drop 2 (a .languages .now))) (a .serial) (pieceFor (a .set .now) (c .before .before .before .before .before .before .before .entry-whole .result)) ≡ c .good-string-entry .result
 verdict c = rw (← c .before .body-of .ensures, ← c .before .before .lists-beside .ensures) (sym (c .good-string-entry .ensures))
 
 peek-requires : tie.Need-peek-requires Inv-loop μ-loop
