@@ -9,10 +9,10 @@ use Rattle.sets.specs.declared.Entry.{Entry}
 use Rattle.sets.specs.Contents.{entriesOf}
 use Rattle.sets.specs.Contents as contents
 use Rattle.sets.specs.Device.{deviceBody}
-use Rattle.pieces.specs.Pieces.{Piece}
+use Rattle.sets.specs.Pieces.{Piece, pieceFor, kindOf, bodyIs}
+use Rattle.sets.proofs.Pieces.{of-kind, bodies-of}
 use Rattle.pieces.specs.Laid.{laid}
-use Rattle.pieces.specs.Held.{pieceFor}
-use Rattle.pieces.proofs.InPieces.{kindOf, bodyIs, of-kind, bodies-of, headOf, head-of}
+use Rattle.pieces.proofs.InPieces.{headOf, head-of}
 use Rattle.pieces.proofs.ReadBack.{read-back}
 use Rattle.dumps.specs.Imported.{devicePiece, configurationPiece, numbered}
 

@@ -22,7 +22,7 @@ use Rattle.sets.specs.Opening.{numberedFrom, goodDevices, goodConfigurations, o
 use Rattle.sets.proofs.Groups.{Groups, groups}
 use Rattle.sets.proofs.References.{references-set}
 use Rattle.set_writer.specs.Writer.{opensAs}
-use Rattle.pieces.specs.Held.{pieceFor, piecesIn}
+use Rattle.sets.specs.Pieces.{pieceFor, piecesIn}
 use Rattle.pieces.proofs.ReadBack.{read-back}
 use Rattle.dumps.specs.Dump.{splits, deviceIn, configurationsIn}
 use Rattle.dumps.specs.Zeroed.{zeroedDevice, zeroedConfiguration}

@@ -16,7 +16,7 @@ use Rattle.sets.specs.Device.{deviceBody, iSerialNumber}
 use Rattle.sets.specs.Strings.{references, languages, stringZero, goodString, languageZero, goodLanguages, listed, zeroThere, notSerial, goodReference, goodStrings}
 use Rattle.sets.specs.Opening.{lent, opening}
 use Rattle.sets.proofs.Groups.{groups}
-use Rattle.pieces.specs.Pieces.{Piece}
+use Rattle.sets.specs.Pieces.{Piece}
 use Rattle.pieces.specs.Laid.{laid}
 use Rattle.set_writer.specs.Writer.{opensAs, handing}
 use Rattle.dumps.specs.Dump.{flat, splits, deviceIn, configurationsIn}

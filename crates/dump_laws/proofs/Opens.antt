@@ -18,12 +18,11 @@ use Rattle.sets.specs.Device.{deviceBody, iSerialNumber, goodDevice, goodDevice
 use Rattle.sets.specs.Strings.{references, languages, goodReference, goodStrings}
 use Rattle.descriptors.specs.declared.Limits.{Limits}
 use Rattle.sets.specs.Opening.{Board, lent, numberedFrom, goodDevices, goodConfigurations, goodBlock, opening}
-use Rattle.pieces.specs.Pieces.{Piece}
+use Rattle.sets.specs.Pieces.{Piece, pieceFor}
 use Rattle.pieces.specs.Laid as pieces
 use Rattle.pieces.specs.Laid.{bodies, laid}
 use Rattle.pieces.proofs.LaidOut.{laid-frame, laid-contents}
 use Rattle.set_writer.specs.Writer.{opensAs}
-use Rattle.pieces.specs.Held.{pieceFor}
 use Rattle.dumps.specs.Dump.{flat}
 use Rattle.dumps.specs.Imported.{devicePiece, configurationPiece, numbered}
 use Rattle.importing.proofs.Importing.{numbered-up, pieces-up, numbered-length}

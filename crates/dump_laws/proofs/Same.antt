@@ -15,10 +15,9 @@ use Rattle.sets.specs.Strings.{references}
 use Rattle.octets.specs.Octets.{Bytes}
 use Rattle.sets.proofs.Entries.{every-cons}
 use Rattle.sets.specs.Opening.{lent}
-use Rattle.pieces.specs.Pieces.{Piece}
+use Rattle.sets.specs.Pieces.{Piece, pieceFor, piecesIn}
 use Rattle.pieces.specs.Laid.{laid}
 use Rattle.set_writer.specs.Writer.{opensAs}
-use Rattle.pieces.specs.Held.{pieceFor, piecesIn}
 use Rattle.pieces.proofs.Canonical.{canonical}
 use Rattle.dumps.specs.Dump.{deviceIn, configurationsIn}
 use Rattle.dumps.specs.Zeroed.{zeroedDevice, zeroedConfiguration, zeroed}

@@ -16,7 +16,8 @@ use Rattle.octets.proofs.Sentences.{cases, both, either, conjunct, never, neigh
 use Rattle.descriptors.specs.Limits.{named, fullSpeed}
 use Rattle.sets.specs.declared.Entry.{Entry}
 use Rattle.sets.specs.Contents.{entries, bodyOf, bodies, before, isKind, entriesOf, total, count, bodiesAt, endToEnd, goodFrame, goodContents}
-use Rattle.sets.specs.Device.{headBody, goodDeviceEntries}
+use Rattle.sets.specs.Device.{goodDeviceEntries}
+use Rattle.sets.specs.Pieces.{headBody}
 use Rattle.sets.specs.Opening.{goodDevices, opening, lent}
 use Rattle.sets.proofs.Entries.{only-later, only-empty, every-cons}
 use Rattle.sets.proofs.Groups.{groups}

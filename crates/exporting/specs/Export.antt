@@ -10,8 +10,7 @@ use Rattle.sets.specs.declared.Entry.{Entry}
 use Rattle.sets.specs.Contents.{entriesOf, bodies}
 use Rattle.sets.specs.Device.{deviceBody}
 use Rattle.sets.specs.Opening.{lent, opening}
-use Rattle.pieces.specs.Pieces.{Piece}
-use Rattle.pieces.specs.Held.{pieceFor}
+use Rattle.sets.specs.Pieces.{Piece, pieceFor}
 use Rattle.set_writer.specs.Writer.{Filled}
 use Rattle.dumps.specs.Dump.{flat}
 use Rattle.exporting.specs.declared.Dumped.{Dumped}

@@ -18,7 +18,8 @@ use Rattle.descriptors.specs.declared.Limits.{Limits}
 use Rattle.descriptors.proofs.HighSpeed.{control-64}
 use Rattle.sets.specs.declared.Entry.{Entry}
 use Rattle.sets.specs.Contents.{bodyOf, entriesOf}
-use Rattle.sets.specs.Device.{bMaxPacketSize0, goodDevice, goodDeviceEntries, headBody, deviceBody}
+use Rattle.sets.specs.Device.{bMaxPacketSize0, goodDevice, goodDeviceEntries, deviceBody}
+use Rattle.sets.specs.Pieces.{headBody}
 use Rattle.sets.specs.Opening.{Board}
 use Rattle.sets.specs.View.{View, openingOf, accepted, wakes}
 use Rattle.records.specs.declared.Device.{Device}

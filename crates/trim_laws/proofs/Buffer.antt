@@ -22,10 +22,9 @@ use Rattle.sets.specs.Opening.{lent, opening}
 use Rattle.sets.specs.Found.{isAt}
 use Rattle.sets.proofs.Groups.{groups}
 use Rattle.sets.proofs.Strings.{string-zero}
-use Rattle.pieces.specs.Pieces.{Piece}
+use Rattle.sets.specs.Pieces.{Piece, pieceFor}
 use Rattle.pieces.specs.Laid.{total, laid}
 use Rattle.pieces.proofs.Laid.{laid-length}
-use Rattle.pieces.specs.Held.{pieceFor}
 use Rattle.pieces.proofs.Canonical.{canonical}
 use Rattle.pieces.proofs.Stream.{two-bytes}
 use Rattle.keeping.specs.Keeping.{zeroStays, kept}

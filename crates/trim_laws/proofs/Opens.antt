@@ -17,18 +17,18 @@ use Rattle.sets.specs.Strings.{references, goodStrings}
 use Rattle.sets.specs.Opening.{Board, lent, opening}
 use Rattle.sets.proofs.Groups.{Groups, groups, one-device}
 use Rattle.octets.specs.Octets.{Bytes}
-use Rattle.pieces.specs.Pieces.{Piece}
+use Rattle.sets.specs.Pieces.{Piece, pieceFor, piecesIn, kindOf}
+use Rattle.sets.proofs.Pieces.{of-kind}
 use Rattle.pieces.specs.Sorted.{precedes}
 use Rattle.pieces.specs.Laid.{total, laid}
 use Rattle.pieces.proofs.Laid.{laid-length}
-use Rattle.pieces.specs.Held.{pieceFor, piecesIn}
 use Rattle.pieces.proofs.Canonical.{canonical}
 use Rattle.pieces.proofs.Ascending.{neighbours-ascend}
 use Rattle.pieces.proofs.Precedes.{transitive}
 use Rattle.keeping.specs.Keeping.{zeroStays}
 use Rattle.trimming.specs.Trim.{trimmed}
 use Rattle.trimming.proofs.Rebuilding.{framed, entries-length}
-use Rattle.pieces.proofs.InPieces.{kindOf, of-kind, only-only, same-device, same-references, same-devices, same-configurations, same-block}
+use Rattle.pieces.proofs.InPieces.{only-only, same-device, same-references, same-devices, same-configurations, same-block}
 use Rattle.trim_laws.proofs.Again.{keptPiece, stringNamed, kept-pieces, reads-back, alike, zero-pieces, not-string}
 use Rattle.pieces.proofs.LaidOut.{laid-frame, laid-contents, ordered, every-some, some-length, some-neighbours, some-bodies}
 use Rattle.trim_laws.proofs.StringsIn.{Strings, strings-in, strings-out, needed, stayingPiece, still-strings}

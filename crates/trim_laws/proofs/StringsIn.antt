@@ -16,9 +16,9 @@ use Rattle.sets.specs.Contents.{entriesOf}
 use Rattle.sets.specs.Device.{deviceBody, iSerialNumber}
 use Rattle.sets.specs.Strings as sets
 use Rattle.sets.specs.Strings.{words, goodString, goodLanguages, isStringZero, stringZero, references, goodStrings}
-use Rattle.pieces.specs.Pieces.{Piece}
-use Rattle.pieces.specs.Held.{pieceFor, piecesIn}
-use Rattle.pieces.proofs.InPieces.{kindOf, of-kind, any-only, first-only}
+use Rattle.sets.specs.Pieces.{Piece, pieceFor, piecesIn, kindOf}
+use Rattle.sets.proofs.Pieces.{of-kind}
+use Rattle.pieces.proofs.InPieces.{any-only, first-only}
 use Rattle.pieces.proofs.LaidOut.{every-some}
 
 abbrev isZero : Piece → Bool

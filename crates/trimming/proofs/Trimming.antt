@@ -22,7 +22,7 @@ use Rattle.sets.specs.Device.{deviceBody, iSerialNumber}
 use Rattle.sets.specs.Opening.{opening, numberedFrom, goodConfigurations, lent}
 use Rattle.sets.proofs.Groups.{Groups, groups}
 use Rattle.pieces.specs.Laid.{laid}
-use Rattle.pieces.specs.Held.{pieceFor}
+use Rattle.sets.specs.Pieces.{pieceFor}
 use Rattle.keeping.specs.Keeping as keeping
 use Rattle.keeping.specs.Keeping.{walkable, keepsBy, tableNames, zeroStays}
 use Rattle.keeping.proofs.Naming.{same-named, same-kept}
