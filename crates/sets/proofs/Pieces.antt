@@ -2,16 +2,17 @@
 use Prim.Native.Nat.{ℕ}
 use native.Mathlib.Omega.{arith}
 use mathlib.Core.Path.{_≡_, refl, sym, ap, _∙_}
-use mathlib.Core.Bool.{Bool, true, false}
+use mathlib.Core.Bool.{Bool, true, false, _&&_, false≢true}
 use mathlib.Core.List.{List, [], _∷_, map}
 use mathlib.Core.Option.{Option·map, some}
 use lib.ListN.{length, length-map}
 use lib.Dec.{eqb}
 use borrow.Author.Tests.{ne-eqb}
 use Rattle.octets.specs.Sentences.{pick, only, first, isEmpty}
+use Rattle.octets.proofs.Sentences.{both}
 use Rattle.sets.specs.declared.Entry.{Entry}
 use Rattle.sets.specs.Contents.{entries, entriesOf, bodies, bodyOf}
-use Rattle.sets.specs.Pieces.{pieceFor, piecesIn, piecesOf, bodiesOf, kindOf, bodyIs}
+use Rattle.sets.specs.Pieces.{Piece, pieceFor, piecesIn, piecesOf, bodiesOf, kindOf, bodyIs, headBody, hasIndex, hasNoLanguage, sole}
 
 -- ---- those for which a test holds, and the first of them, over a list of images
 module _ {A B : Type 0} (g : A → B) (f : B → Bool) where
@@ -32,6 +33,12 @@ module _ {A B : Type 0} (g : A → B) (f : B → Bool) where
       go : (b : Bool) → first f (map g xs) ≡ Option·map g (first (λ x. f (g x)) xs) → pick b (some (g x)) (first f (map g xs)) ≡ Option·map g (pick b (some x) (first (λ x. f (g x)) xs))
       go true e = refl
       go false e = e
+
+-- ---- one alone
+pub sole-good : (good : List ℕ → Bool) (ps : List Piece) → sole good ps ≡ true → good (headBody ps) ≡ true
+sole-good good [] q = absurd (false≢true q)
+sole-good good (p ∷ []) q = both (hasIndex 0 p && hasNoLanguage p) (good (p .body)) q .1
+sole-good good (p ∷ r ∷ ps) q = absurd (false≢true q)
 
 -- ---- by type
 module _ (set : List ℕ) where
