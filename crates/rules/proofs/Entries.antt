@@ -3,7 +3,6 @@ use Prim.Native.Nat.{ℕ, zero, suc, _+_, _-_, _*_, _/_, _≤_, _<_}
 use native.Mathlib.Omega.{arith}
 use mathlib.Core.Path.{_≡_, refl, sym, ap, _∙_}
 use mathlib.Core.Logic.{_⊎_, inl, inr}
-use mathlib.Core.Option.{some}
 use mathlib.Core.List.{List, [], _∷_, _++_, List·Memᴰ, List·Memᴰ·not-nil, List·Memᴰ·cases-cons}
 use mathlib.Core.Bool.{Bool, true, false, _&&_, _||_, not}
 use lib.ListN.{length, drop, getElem?, length-drop, length-take}
@@ -19,7 +18,7 @@ use Rattle.descriptors.specs.declared.Limits.{Limits}
 use Rattle.descriptors.specs.Configuration.{bConfigurationValue}
 use Rattle.sets.specs.declared.Entry.{Entry}
 use Rattle.sets.specs.declared.EntryFound.the-variants.{At, Nothing}
-use Rattle.sets.specs.Contents.{count, entryOf, entriesFrom, entries, bodyOf, isKind, entriesOf}
+use Rattle.sets.specs.Contents.{count, entryOf, entriesFrom, entries, bodyOf}
 use Rattle.sets.specs.Device.{deviceBody, iSerialNumber}
 use Rattle.sets.specs.Strings.{words}
 use Rattle.sets.specs.Opening.{distinctValues}

@@ -1,7 +1,7 @@
 -- `rules::string::judged_fault` meets its contract. No axiom.
 use Prim.Native.Nat.{_<_}
 use mathlib.Core.Path.{_≡_, refl, sym, ap, _∙_}
-use Rattle.sets.specs.Contents.{bodiesAt, entries, entriesOf}
+use Rattle.sets.specs.Contents.{bodiesAt, entries}
 use Rattle.sets.specs.Device.{deviceBody, iManufacturer, iProduct, iSerialNumber}
 use Rattle.sets.specs.Pieces.{piecesIn, piecesOf}
 use Rattle.sets.specs.Strings.{languages, inEvery}
