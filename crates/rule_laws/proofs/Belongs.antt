@@ -1,15 +1,13 @@
 -- The rule that is named belongs to the group that opening names, for all inputs, of a kind without companions and BOS entries; an accepted set gives rule 0. No axiom.
 use Prim.Native.Nat.{ℕ, _/_}
 use mathlib.Core.Path.{_≡_, refl, sym, _∙_}
-use mathlib.Core.List.{List, [], _∷_}
+use mathlib.Core.List.{[]}
 use mathlib.Core.Bool.{Bool, true, false, not, false≢true}
 use lib.Dec.{eqb}
-use Rattle.octets.specs.Sentences.{pick, every, first, pairs}
-use Rattle.octets.proofs.Sentences.{conjunct}
+use Rattle.octets.specs.Sentences.{pick, first}
 use Rattle.descriptors.specs.declared.Limits.{Limits}
 use Rattle.descriptors.specs.Limits.{named, fullSpeed}
-use Rattle.descriptors.specs.Configuration.{goodConfiguration}
-use Rattle.sets.specs.Contents.{bodies, entries, entriesOf, total, bodiesAt}
+use Rattle.sets.specs.Contents.{entries, entriesOf, total, bodiesAt}
 use Rattle.sets.specs.Device.{deviceBody, iSerialNumber}
 use Rattle.sets.specs.Opening.{Board, opening}
 use Rattle.sets.proofs.Groups.{each-rule}

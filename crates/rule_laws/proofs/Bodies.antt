@@ -29,7 +29,7 @@ use Rattle.descriptors.proofs.CheckCompanions.{after}
 use Rattle.descriptors.proofs.CheckOrder.{kinds}
 use Rattle.descriptors.proofs.CheckWhole.{rest-same, unasked}
 use Rattle.sets.specs.declared.Entry.{Entry}
-use Rattle.sets.specs.Contents.{bodyOf, bodies, isKind, entries}
+use Rattle.sets.specs.Contents.{bodyOf, isKind, entries}
 use Rattle.sets.specs.Pieces.{Piece, pieceWith, pieceFor, piecesIn, piecesOf, bodiesOf, bodyIs, hasIndex, hasNoLanguage}
 use Rattle.sets.specs.Opening.{numberedFrom, valueNonzero, distinctValues, goodConfigurations}
 use Rattle.sets.proofs.Configurations.{every-both, ordered}
