@@ -1,5 +1,5 @@
 -- Working definitions for the check of a configuration body, a descriptor at a time; no promise cites them.
-use Prim.Native.Nat.{ℕ, _+_, _-_}
+use Prim.Native.Nat.{ℕ, _-_}
 use mathlib.Core.List.{List, [], _∷_}
 use mathlib.Core.Bool.{Bool, false, _&&_, _||_, not}
 use lib.ListN.{length}

@@ -1,22 +1,27 @@
--- The rule that is named belongs to the group that opening names, for all inputs, of a kind without companions and BOS entries; an accepted set gives rule 0. No axiom.
-use Prim.Native.Nat.{ℕ, _/_}
+-- The rule that is named belongs to the group that opening names, for all inputs, of a kind without companions and BOS entries; an accepted set gives rule 0, and a refused one some rule. No axiom.
+use Prim.Native.Nat.{ℕ, _/_, _≤_}
+use native.Mathlib.Omega.{arith}
 use mathlib.Core.Path.{_≡_, refl, sym, _∙_}
-use mathlib.Core.List.{[]}
+use mathlib.Core.List.{List, [], _∷_}
 use mathlib.Core.Bool.{Bool, true, false, not, false≢true}
-use lib.Dec.{eqb}
-use Rattle.octets.specs.Sentences.{pick, first}
+use mathlib.Core.Option.{some}
+use lib.Dec.{eqb, leb}
+use borrow.Author.Tests.{leb-true, le-leb}
+use Rattle.octets.specs.Sentences.{pick, every, first}
+use Rattle.octets.proofs.Sentences.{both}
 use Rattle.descriptors.specs.declared.Limits.{Limits}
-use Rattle.descriptors.specs.Limits.{named, fullSpeed}
+use Rattle.descriptors.specs.Limits.{named, fullSpeed, pairedFull, highSpeed}
 use Rattle.sets.specs.Contents.{entries, entriesOf, total, bodiesAt}
 use Rattle.sets.specs.Device.{deviceBody, iSerialNumber}
 use Rattle.sets.specs.Opening.{Board, opening}
 use Rattle.sets.proofs.Groups.{each-rule}
+use Rattle.rules.specs.Findings.{Finding}
 use Rattle.rules.specs.Frame.{frameFindings, contentsFindings, noEntry}
 use Rattle.rules.specs.Device.{deviceFindings, serialFindings}
 use Rattle.rules.specs.Configuration.{configurationsFindings}
 use Rattle.rules.specs.Strings.{stringsFindings}
-use Rattle.rules.specs.Explained.{findings, isBroken, explained}
-use Rattle.rules.proofs.Grouped.{frames, contents, devices, serials, configurations, group-5}
+use Rattle.rules.specs.Explained.{findings, isBroken, faultOf, explained}
+use Rattle.rules.proofs.Grouped.{all-rules, frames, contents, devices, serials, configurations, group-5}
 use Rattle.rule_laws.proofs.Frames.{frame-same, contents-same, devices-same, block-same}
 use Rattle.rule_laws.proofs.Bodies.{configurations-same}
 use Rattle.rule_laws.proofs.Texts.{strings-same}
@@ -50,6 +55,34 @@ pub belongs : (limits : Limits) → limits .companions ≡ false → named (limi
 unfolding explained
 belongs limits single storeless b = named-group limits single storeless b
 
+-- a rule that is named has a group
+none-named : (xs : List Finding) → every (λ x. leb 1 (x .rule / 100)) xs ≡ true → groupOf (first isBroken xs) ≡ 0 → faultOf (first isBroken xs) .rule ≡ 0
+unfolding every first
+none-named [] p q = refl
+none-named (x ∷ xs) p q =
+    let (h, t) = both (leb 1 (x .rule / 100)) (every (λ x. leb 1 (x .rule / 100)) xs) p in
+    go (x .holds) (leb-true 1 (x .rule / 100) h) q (none-named xs t)
+  where
+    go : (b : Bool) → 1 ≤ x .rule / 100 → groupOf (pick (not b) (some x) (first isBroken xs)) ≡ 0
+        → (groupOf (first isBroken xs) ≡ 0 → faultOf (first isBroken xs) .rule ≡ 0) → faultOf (pick (not b) (some x) (first isBroken xs)) .rule ≡ 0
+    go true h q ih = ih q
+    go false h q ih = absurd (omega arith)
+
+pub accepted-none : (limits : Limits) → limits .companions ≡ false → named (limits .entries) 15 ≡ false → (b : Board) → opening limits b ≡ 0 → explained limits b .rule ≡ 0
+unfolding explained
+accepted-none limits single storeless b p =
+    none-named (findings limits b) (all-rules (λ x. leb 1 (x .rule / 100)) (λ x h. le-leb 1 (x .rule / 100) h) limits b) (named-group limits single storeless b ∙ p)
+
 -- document 01's kind has neither
 pub belongs-here : (b : Board) → explained fullSpeed b .rule / 100 ≡ opening fullSpeed b
 belongs-here = belongs fullSpeed refl refl
+
+pub accepted-here : (b : Board) → opening fullSpeed b ≡ 0 → explained fullSpeed b .rule ≡ 0
+accepted-here = accepted-none fullSpeed refl refl
+
+-- nor have the two kinds of a pair
+pub belongs-paired : (b : Board) → explained pairedFull b .rule / 100 ≡ opening pairedFull b
+belongs-paired = belongs pairedFull refl refl
+
+pub belongs-high : (b : Board) → explained highSpeed b .rule / 100 ≡ opening highSpeed b
+belongs-high = belongs highSpeed refl refl

@@ -1,5 +1,5 @@
 -- Every rule carries its group's number, and so one other than 0. No axiom.
-use Prim.Native.Nat.{ℕ, _+_, _/_, _<_}
+use Prim.Native.Nat.{ℕ, _+_, _/_, _≤_, _<_}
 use native.Mathlib.Omega.{arith}
 use mathlib.Core.Path.{_≡_, refl, ap, _∙_}
 use mathlib.Core.List.{List, [], _∷_, _++_}
@@ -154,25 +154,29 @@ pub group-5 : (set : List ℕ) → Of 5 (stringsFindings set)
 unfolding every
 group-5 set = then 5 (stringsFrom set (languages set) (iSerialNumber (deviceBody set)) 4 (entries set)) _ (strings set (languages set) (iSerialNumber (deviceBody set)) 4 (entries set)) (references set (entries set))
 
--- ---- all
-numbered-in : (g : ℕ) → 0 < g → (xs : List Finding) → Of g xs → every isNumbered xs ≡ true
-unfolding every
-numbered-in g h [] p = refl
-numbered-in g h (x ∷ xs) p = let (q, r) = both (inGroup g x) (every (inGroup g) xs) p in joined (other q) (numbered-in g h xs r)
-  where
-    other : inGroup g x ≡ true → isNumbered x ≡ true
-    other q = let e = eqb-true (x .rule / 100) g q in ap not (ne-eqb (x .rule) 0 (λ z. omega arith))
+-- ---- all: what holds of every rule whose number has a group holds of all that are asked
+module _ (p : Finding → Bool) (f : (x : Finding) → 1 ≤ x .rule / 100 → p x ≡ true) where
+  every-in : (g : ℕ) → 0 < g → (xs : List Finding) → Of g xs → every p xs ≡ true
+  unfolding every
+  every-in g h [] q = refl
+  every-in g h (x ∷ xs) q =
+      let (r, s) = both (inGroup g x) (every (inGroup g) xs) q in
+      let e = eqb-true (x .rule / 100) g r in
+      joined (f x (omega arith)) (every-in g h xs s)
 
-before-others : (g : ℕ) → 0 < g → (xs ys : List Finding) → Of g xs → every isNumbered ys ≡ true → every isNumbered (xs ++ ys) ≡ true
-before-others g h xs ys p q = every-append isNumbered xs ys ∙ joined (numbered-in g h xs p) q
+  before-others : (g : ℕ) → 0 < g → (xs ys : List Finding) → Of g xs → every p ys ≡ true → every p (xs ++ ys) ≡ true
+  before-others g h xs ys q r = every-append p xs ys ∙ joined (every-in g h xs q) r
+
+  pub all-rules : (limits : Limits) (b : Board) → every p (findings limits b) ≡ true
+  unfolding findings
+  all-rules limits b =
+      let set = b .set in
+      before-others 1 (omega arith) (frameFindings set) _ (frames set)
+      (before-others 2 (omega arith) (contentsFindings limits set) _ (contents limits (total set) 4 true noEntry (bodiesAt set) (entries set))
+      (before-others 3 (omega arith) (deviceFindings limits set) _ (devices limits set (entriesOf 1 set))
+      (before-others 4 (omega arith) (configurationsFindings limits set) _ (configurations limits set 4 0 [] (entries set))
+      (before-others 5 (omega arith) (stringsFindings set) _ (group-5 set)
+      (every-in 6 (omega arith) (serialFindings (iSerialNumber (deviceBody set)) (b .serial)) (serials (eqb (iSerialNumber (deviceBody set)) 0) (b .serial)))))))
 
 pub numbered : (limits : Limits) (b : Board) → every isNumbered (findings limits b) ≡ true
-unfolding findings
-numbered limits b =
-    let set = b .set in
-    before-others 1 (omega arith) (frameFindings set) _ (frames set)
-    (before-others 2 (omega arith) (contentsFindings limits set) _ (contents limits (total set) 4 true noEntry (bodiesAt set) (entries set))
-    (before-others 3 (omega arith) (deviceFindings limits set) _ (devices limits set (entriesOf 1 set))
-    (before-others 4 (omega arith) (configurationsFindings limits set) _ (configurations limits set 4 0 [] (entries set))
-    (before-others 5 (omega arith) (stringsFindings set) _ (group-5 set)
-    (numbered-in 6 (omega arith) (serialFindings (iSerialNumber (deviceBody set)) (b .serial)) (serials (eqb (iSerialNumber (deviceBody set)) 0) (b .serial)))))))
+numbered = all-rules isNumbered (λ x h. ap not (ne-eqb (x .rule) 0 (λ z. omega arith)))
