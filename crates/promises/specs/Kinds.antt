@@ -24,11 +24,11 @@ use Rattle.sets.specs.Opening.{Board, lent, lentTwo, oneDevice, goodDevices, op
 use Rattle.sets.specs.Pieces.{Piece, piecesIn, piecesOf}
 use Rattle.sets.specs.View.{openingBy, openingOf, accepted}
 use Rattle.sets.proofs.Groups.{groups, one-device}
-use Rattle.sets.proofs.Pieces.{sole-good}
 use Rattle.sets.proofs.Pair.{opened}
 use Rattle.events.specs.declared.Answer.the-variants.{Refused}
 use Rattle.events.specs.declared.Event.{Event}
 use Rattle.events.specs.Step.{step, event}
+use Rattle.promises.specs.Replies.{goodDeviceOf}
 
 -- ---- "Older kinds keep every answer": of a row without companions, and of one without type 15 entries, nothing more is asked than was
 pub keepsConfigurations : (limits : Limits) → limits .companions ≡ false → (size : ℕ) (d : List ℕ) (ds : List (List ℕ))
@@ -55,7 +55,7 @@ control limits b p =
     let d = deviceBody (b .set) in
     let n = length (piecesOf 2 (piecesIn (b .set))) in
     let rules = eqb (length d) 18 ∷ eqb (byte d 0) 18 ∷ eqb (byte d 1) 1 ∷ doubled (limits .control) (bMaxPacketSize0 d) ∷ (eqb (bDeviceClass d) 0 ⇒ eqb (bDeviceSubClass d) 0) ∷ leb 1 (bNumConfigurations d) ∷ leb (bNumConfigurations d) 8 ∷ eqb (bNumConfigurations d) n ∷ [] in
-    conjunct 3 rules (sole-good _ _ (one-device limits b (groups limits b p)))
+    conjunct 3 rules (goodDeviceOf limits (piecesIn (b .set)) (one-device limits b (groups limits b p)))
 
 pub notTwoKinds : (k l : Limits) → ((size : ℕ) → doubled (k .control) size ≡ true → doubled (l .control) size ≡ true → ⊥) → (b : Board) → opening k b ≡ 0 → opening l b ≡ 0 → ⊥
 notTwoKinds k l apart b p q = apart (bMaxPacketSize0 (deviceBody (b .set))) (control k b p) (control l b q)

@@ -14,9 +14,11 @@ use Rattle.octets.proofs.Sentences.{cases, if-then, both, joined, conjunct, or-
 use Rattle.descriptors.specs.declared.Endpoint.{Endpoint}
 use Rattle.descriptors.specs.Configuration.{hasInterface, hasSetting, canHalt}
 use Rattle.descriptors.specs.Limits.{doubled}
+use Rattle.descriptors.specs.declared.Limits.{Limits}
 use Rattle.descriptors.proofs.HighSpeed.{control-64}
-use Rattle.sets.specs.Device.{bMaxPacketSize0, deviceBody}
-use Rattle.sets.specs.Opening.{Board}
+use Rattle.sets.specs.Device.{bMaxPacketSize0, goodDevice, deviceBody}
+use Rattle.sets.specs.Pieces.{Piece, piecesIn, piecesOf, headBody}
+use Rattle.sets.specs.Opening.{Board, oneDevice}
 use Rattle.sets.specs.View.{View, openingOf, accepted, wakes}
 use Rattle.records.specs.declared.Device.{Device}
 use Rattle.records.specs.Device.{atFullSpeed, atHighSpeed, inTestMode, settled}
@@ -127,6 +129,10 @@ replyWithin b d s = chosen (Within (s .wLength)) (accepted b)
     (λ q. omega arith))
     (λ p. omega arith)
 
+-- the device descriptor of a set that opens
+pub goodDeviceOf : (limits : Limits) (ps : List Piece) → oneDevice limits ps ≡ true → goodDevice limits (length (piecesOf 2 ps)) (headBody (piecesOf 1 ps)) ≡ true
+goodDeviceOf limits ps p = sole-good (goodDevice limits (length (piecesOf 2 ps))) (piecesOf 1 ps) p
+
 -- "bMaxPacketSize0 is 8, 16, 32 or 64", at high speed 64: the sizes that can be cut
 abbrev cuttable : ℕ → Bool
 cuttable p = eqb p 8 || eqb p 16 || eqb p 32 || eqb p 64
@@ -143,7 +149,7 @@ sizeCuts b ok speed r w l =
     let row = rowFor (b .high) speed in
     let set = setFor b speed in
     let device = deviceBody set in
-    let good = sole-good _ _ (one-device row (boardFor b speed) (groups row (boardFor b speed) (opensFor b speed (eqb-true (openingOf b) 0 ok)))) in
+    let good = goodDeviceOf row (piecesIn set) (one-device row (boardFor b speed) (groups row (boardFor b speed) (opensFor b speed (eqb-true (openingOf b) 0 ok)))) in
     let size = conjunct 3 (eqb (length device) 18 ∷ eqb (byte device 0) 18 ∷ eqb (byte device 1) 1 ∷ doubled (row .control) (bMaxPacketSize0 device) ∷ _ ∷ _ ∷ _ ∷ _ ∷ []) good in
     joined (of-row (b .high) speed (bMaxPacketSize0 device) size) (le-leb r w l)
 
