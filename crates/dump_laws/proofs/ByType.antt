@@ -6,7 +6,7 @@ use mathlib.Core.List.{List, [], _∷_, map}
 use lib.Dec.{eqb}
 use Rattle.octets.specs.Sentences.{only}
 use Rattle.sets.specs.Contents as contents
-use Rattle.sets.specs.Device.{deviceOf, deviceBody}
+use Rattle.sets.specs.Device.{deviceBodyOf, deviceBody}
 use Rattle.sets.specs.Pieces.{Piece, piecesIn, piecesOf, bodiesOf, kindOf, bodyIs, headBody}
 use Rattle.sets.proofs.Pieces.{bodies-of}
 use Rattle.pieces.specs.Laid.{laid}
@@ -46,14 +46,14 @@ module _ (device : List ℕ) (bs : List (List ℕ)) where
   only-3 = numbered-none 3 refl 0 bs
 
   -- as they are, and in the set laid out from them
-  pub device-is : deviceOf both ≡ device
+  pub device-is : deviceBodyOf both ≡ device
   device-is = ap headBody only-1
 
   pub bodies-are : bodiesOf 2 both ≡ bs
   bodies-are = ap (map bodyIs) only-2 ∙ numbered-bodies 0 bs
 
   pub device-again : deviceBody (laid both) ≡ device
-  device-again = ap deviceOf (read-back both) ∙ device-is
+  device-again = ap deviceBodyOf (read-back both) ∙ device-is
 
   pub configurations-again : contents.bodies 2 (laid both) ≡ bs
   configurations-again = bodies-of (laid both) 2 ∙ ap (bodiesOf 2) (read-back both) ∙ bodies-are

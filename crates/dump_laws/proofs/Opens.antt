@@ -13,7 +13,7 @@ use Rattle.descriptors.specs.Limits.{fullSpeed, named}
 use Rattle.descriptors.specs.Configuration.{goodConfiguration}
 use Rattle.sets.specs.Contents.{goodContents}
 use Rattle.sets.specs.Pieces.{Piece}
-use Rattle.sets.specs.Device.{deviceOf, iSerialNumber, goodDevice}
+use Rattle.sets.specs.Device.{deviceBodyOf, iSerialNumber, goodDevice}
 use Rattle.sets.specs.Strings.{referencesOf, isNonzero, goodReference, goodTexts, goodStrings}
 use Rattle.sets.specs.Opening.{lent, numberedFrom, valueNonzero, distinctValues, goodDevices, goodConfigurations, goodBlock, opening}
 use Rattle.sets.proofs.Groups.{all-six}
@@ -89,7 +89,7 @@ module _ (d : List ℕ) (bs : List (List ℕ)) where
 
   strings-good : every (λ r. eqb r 0) (referencesOf ps) ≡ true → goodStrings ps ≡ true
   unfolding goodStrings
-  strings-good z = rw (only-3 d bs) (no-texts (referencesOf ps) (iSerialNumber (deviceOf ps)) z)
+  strings-good z = rw (only-3 d bs) (no-texts (referencesOf ps) (iSerialNumber (deviceBodyOf ps)) z)
 
   block-good : iSerialNumber d ≡ 0 → goodBlock ps [] ≡ true
   unfolding goodBlock

@@ -16,8 +16,8 @@ use Rattle.descriptors.specs.Configuration.{hasInterface, hasSetting, canHalt}
 use Rattle.descriptors.specs.Limits.{doubled}
 use Rattle.descriptors.specs.declared.Limits.{Limits}
 use Rattle.descriptors.proofs.HighSpeed.{control-64}
-use Rattle.sets.specs.Device.{bMaxPacketSize0, goodDevice, deviceBody}
-use Rattle.sets.specs.Pieces.{Piece, piecesIn, piecesOf, headBody}
+use Rattle.sets.specs.Device.{bMaxPacketSize0, goodDevice, deviceBodyOf, deviceBody}
+use Rattle.sets.specs.Pieces.{Piece, piecesIn, piecesOf}
 use Rattle.sets.specs.Opening.{Board, oneDevice}
 use Rattle.sets.specs.View.{View, openingOf, accepted, wakes}
 use Rattle.records.specs.declared.Device.{Device}
@@ -130,7 +130,7 @@ replyWithin b d s = chosen (Within (s .wLength)) (accepted b)
     (λ p. omega arith)
 
 -- the device descriptor of a set that opens
-pub goodDeviceOf : (limits : Limits) (ps : List Piece) → oneDevice limits ps ≡ true → goodDevice limits (length (piecesOf 2 ps)) (headBody (piecesOf 1 ps)) ≡ true
+pub goodDeviceOf : (limits : Limits) (ps : List Piece) → oneDevice limits ps ≡ true → goodDevice limits (length (piecesOf 2 ps)) (deviceBodyOf ps) ≡ true
 goodDeviceOf limits ps p = sole-good (goodDevice limits (length (piecesOf 2 ps))) (piecesOf 1 ps) p
 
 -- "bMaxPacketSize0 is 8, 16, 32 or 64", at high speed 64: the sizes that can be cut
