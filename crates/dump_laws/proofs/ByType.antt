@@ -1,27 +1,17 @@
--- The pieces of a type, in the set that is laid out from them. No axiom.
+-- The pieces of a type, of a device and numbered configurations, and in the set that is laid out from them. No axiom.
 use Prim.Native.Nat.{ℕ, _+_}
 use mathlib.Core.Path.{_≡_, refl, ap, _∙_}
 use mathlib.Core.Bool.{false}
 use mathlib.Core.List.{List, [], _∷_, map}
 use lib.Dec.{eqb}
 use Rattle.octets.specs.Sentences.{only}
-use Rattle.sets.specs.declared.Entry.{Entry}
-use Rattle.sets.specs.Contents.{entriesOf}
 use Rattle.sets.specs.Contents as contents
-use Rattle.sets.specs.Device.{deviceBody}
-use Rattle.pieces.specs.Pieces.{Piece}
+use Rattle.sets.specs.Device.{deviceBodyOf, deviceBody}
+use Rattle.sets.specs.Pieces.{Piece, piecesIn, piecesOf, bodiesOf, kindOf, bodyIs, headBody}
+use Rattle.sets.proofs.Pieces.{bodies-of}
 use Rattle.pieces.specs.Laid.{laid}
-use Rattle.pieces.specs.Held.{pieceFor}
-use Rattle.pieces.proofs.InPieces.{kindOf, bodyIs, of-kind, bodies-of, headOf, head-of}
 use Rattle.pieces.proofs.ReadBack.{read-back}
 use Rattle.dumps.specs.Imported.{devicePiece, configurationPiece, numbered}
-
-module _ (ps : List Piece) (t : ℕ) where
-  pub kind-pieces : map (pieceFor (laid ps)) (entriesOf t (laid ps)) ≡ only (kindOf t) ps
-  kind-pieces = of-kind (laid ps) t ∙ ap (only (kindOf t)) (read-back ps)
-
-  pub kind-bodies : contents.bodies t (laid ps) ≡ map bodyIs (only (kindOf t) ps)
-  kind-bodies = bodies-of (laid ps) t ∙ ap (λ (qs : List Piece). map bodyIs (only (kindOf t) qs)) (read-back ps)
 
 -- ---- a device and numbered configurations
 numbered-none : (t : ℕ) → eqb 2 t ≡ false → (i : ℕ) (bs : List (List ℕ)) → only (kindOf t) (numbered i bs) ≡ []
@@ -55,15 +45,18 @@ module _ (device : List ℕ) (bs : List (List ℕ)) where
   unfolding only
   only-3 = numbered-none 3 refl 0 bs
 
+  -- as they are, and in the set laid out from them
+  pub device-is : deviceBodyOf both ≡ device
+  device-is = ap headBody only-1
+
+  pub bodies-are : bodiesOf 2 both ≡ bs
+  bodies-are = ap (map bodyIs) only-2 ∙ numbered-bodies 0 bs
+
   pub device-again : deviceBody (laid both) ≡ device
-  device-again = head-of (laid both) (entriesOf 1 (laid both)) ∙ ap (headOf (laid both)) (kind-pieces both 1 ∙ only-1)
+  device-again = ap deviceBodyOf (read-back both) ∙ device-is
 
   pub configurations-again : contents.bodies 2 (laid both) ≡ bs
-  configurations-again = kind-bodies both 2 ∙ ap (map bodyIs) only-2 ∙ numbered-bodies 0 bs
+  configurations-again = bodies-of (laid both) 2 ∙ ap (bodiesOf 2) (read-back both) ∙ bodies-are
 
-  pub no-strings : entriesOf 3 (laid both) ≡ []
-  no-strings = empty (entriesOf 3 (laid both)) (kind-pieces both 3 ∙ only-3)
-    where
-      empty : (es : List Entry) → map (pieceFor (laid both)) es ≡ [] → es ≡ []
-      empty [] p = refl
-      empty (e ∷ es) p = cc
+  pub no-strings : piecesOf 3 (piecesIn (laid both)) ≡ []
+  no-strings = ap (piecesOf 3) (read-back both) ∙ only-3

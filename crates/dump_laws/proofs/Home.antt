@@ -3,30 +3,28 @@ use Prim.Native.Nat.{ℕ, _+_, _≤_}
 use native.Mathlib.Omega.{arith}
 use mathlib.Core.Path.{_≡_, refl, sym, ap, _∙_}
 use mathlib.Core.Logic.{⊎-elim}
-use mathlib.Core.Bool.{Bool, true, not}
+use mathlib.Core.Bool.{Bool, true}
 use mathlib.Core.List.{List, [], _∷_, _++_, map, List·Memᴰ, List·Memᴰ·head, List·Memᴰ·tail, List·Memᴰ·not-nil, List·Memᴰ·cases-cons}
 use lib.ListN.{length, length-map}
-use lib.Dec.{eqb, leb}
+use lib.Dec.{eqb}
 use borrow.Author.Tests.{eqb-true, leb-true}
-use Rattle.octets.specs.Octets.{byte}
-use Rattle.octets.specs.Sentences.{_⇒_, every, pairs}
+use Rattle.octets.specs.Sentences.{every}
 use Rattle.octets.proofs.Sentences.{never, conjunct, every-member, only-member}
-use Rattle.descriptors.specs.Limits.{fullSpeed, doubled}
-use Rattle.descriptors.specs.Configuration.{bConfigurationValue, goodConfiguration, configurationReferences}
-use Rattle.sets.specs.declared.Entry.{Entry}
-use Rattle.sets.specs.Contents.{entries, entriesOf, bodyOf, isKind}
+use Rattle.descriptors.specs.Limits.{fullSpeed}
+use Rattle.descriptors.specs.Configuration.{goodConfiguration, configurationReferences}
 use Rattle.sets.specs.Contents as contents
-use Rattle.sets.specs.Device.{deviceBody, iManufacturer, iProduct, iSerialNumber, bMaxPacketSize0, bDeviceClass, bDeviceSubClass, bNumConfigurations, goodDevice, goodDeviceEntries}
+use Rattle.sets.specs.Device.{deviceBody, iManufacturer, iProduct, iSerialNumber, bNumConfigurations, has18Bytes, says18Bytes, isDevice, controlSize, subclassWithClass, countsConfiguration, atMost8Configurations, countIsEntries, goodDevice}
 use Rattle.sets.specs.Strings.{references}
-use Rattle.sets.specs.Opening.{numberedFrom, goodDevices, goodConfigurations, opening, lent}
-use Rattle.sets.proofs.Groups.{Groups, groups}
+use Rattle.sets.specs.Opening.{numberedFrom, opening, lent}
+use Rattle.sets.proofs.Groups.{Groups, groups, one-device, GoodConfigurations, each-rule}
+use Rattle.sets.proofs.Pieces.{bodies-of}
 use Rattle.sets.proofs.References.{references-set}
 use Rattle.set_writer.specs.Writer.{opensAs}
-use Rattle.pieces.specs.Held.{pieceFor, piecesIn}
+use Rattle.sets.specs.Pieces.{Piece, piecesIn, piecesOf, kindOf, bodyIs, headBody, hasIndex, hasNoLanguage, sole}
 use Rattle.pieces.proofs.ReadBack.{read-back}
 use Rattle.dumps.specs.Dump.{splits, deviceIn, configurationsIn}
 use Rattle.dumps.specs.Zeroed.{zeroedDevice, zeroedConfiguration}
-use Rattle.dumps.specs.Imported.{devicePiece, numbered, piecesFor, imported}
+use Rattle.dumps.specs.Imported.{devicePiece, configurationPiece, numbered, piecesFor, imported}
 use Rattle.exporting.specs.Export.{exported, own}
 use Rattle.dump_laws.proofs.Kept.{Sized, sized, same-body, blanked-same, joined-splits, joined-device, joined-configurations}
 
@@ -34,74 +32,63 @@ map-same : (f : List ℕ → List ℕ) (bs : List (List ℕ)) → ((b : List ℕ
 map-same f [] h = refl
 map-same f (b ∷ bs) h = rw (h b (List·Memᴰ·head refl), map-same f bs (λ c m. h c (List·Memᴰ·tail m)))
 
--- ---- the device
-pub record Device (set : List ℕ) : Type 0 where
-  pub entry : Entry
-  pub only-one : entriesOf 1 set ≡ entry ∷ []
-  pub index : entry .index ≡ 0
-  pub language : entry .language ≡ 0
-  pub good : goodDevice fullSpeed (length (entriesOf 2 set)) (bodyOf set entry) ≡ true
+-- ---- pieces by what is asked of them
+same-piece : (p : Piece) {k i l : ℕ} → p .kind ≡ k → p .index ≡ i → p .language ≡ l → p ≡ record { kind = k; index = i; language = l; body = p .body }
+same-piece p {k} {i} a b c =
+    ap (λ (n : ℕ). record { kind = n; index = p .index; language = p .language; body = p .body }) a
+    ∙ ap (λ (n : ℕ). record { kind = k; index = n; language = p .language; body = p .body }) b
+    ∙ ap (λ (n : ℕ). record { kind = k; index = i; language = n; body = p .body }) c
 
-device-in : (set : List ℕ) (es : List Entry) → entriesOf 1 set ≡ es → goodDeviceEntries fullSpeed set es ≡ true → Device set
-device-in set [] q p = never p refl
-device-in set (e ∷ []) q p =
-    let rules = eqb (e .index) 0 ∷ eqb (e .language) 0 ∷ goodDevice fullSpeed (length (entriesOf 2 set)) (bodyOf set e) ∷ [] in
-    record { entry = e; only-one = q; index = eqb-true (e .index) 0 (conjunct 0 rules p); language = eqb-true (e .language) 0 (conjunct 1 rules p); good = conjunct 2 rules p }
-device-in set (e ∷ f ∷ es) q p = never p refl
-
-same-piece : (set : List ℕ) (e : Entry) (k i : ℕ) → e .kind ≡ k → e .index ≡ i → e .language ≡ 0 → pieceFor set e ≡ record { kind = k; index = i; language = 0; body = bodyOf set e }
-same-piece set e k i p q r = rw (p, q, r)
-
-numbered-own : (set : List ℕ) (i : ℕ) (es : List Entry) → ((e : Entry) → List·Memᴰ e es → e .kind ≡ 2) → numberedFrom i es ≡ true → map (pieceFor set) es ≡ numbered i (map (bodyOf set) es)
-unfolding numberedFrom numbered
-numbered-own set i [] h p = refl
-numbered-own set i (e ∷ es) h p =
-    let rules = eqb (e .index) i ∷ eqb (e .language) 0 ∷ numberedFrom (i + 1) es ∷ [] in
-    rw (
-      same-piece set e 2 i (h e (List·Memᴰ·head refl)) (eqb-true (e .index) i (conjunct 0 rules p)) (eqb-true (e .language) 0 (conjunct 1 rules p)),
-      numbered-own set (i + 1) es (λ f m. h f (List·Memᴰ·tail m)) (conjunct 2 rules p),
+device-alone : (good : List ℕ → Bool) (ps : List Piece) → ((p : Piece) → List·Memᴰ p ps → p .kind ≡ 1) → sole good ps ≡ true
+    → (ps ≡ devicePiece (headBody ps) ∷ []) × (good (headBody ps) ≡ true)
+device-alone good [] h q = never q refl
+device-alone good (p ∷ []) h q =
+    let rules = hasIndex 0 p ∷ hasNoLanguage p ∷ good (p .body) ∷ [] in (
+      ap (λ (x : Piece). x ∷ []) (same-piece p (h p (List·Memᴰ·head refl)) (eqb-true (p .index) 0 (conjunct 0 rules q)) (eqb-true (p .language) 0 (conjunct 1 rules q))),
+      conjunct 2 rules q,
     )
+device-alone good (p ∷ r ∷ ps) h q = never q refl
 
-kind-of : (set : List ℕ) (t : ℕ) (e : Entry) → List·Memᴰ e (entriesOf t set) → e .kind ≡ t
-kind-of set t e m = eqb-true (e .kind) t (only-member (isKind t) (entries set) m .1)
+numbered-own : (i : ℕ) (ps : List Piece) → ((p : Piece) → List·Memᴰ p ps → p .kind ≡ 2) → numberedFrom i ps ≡ true → ps ≡ numbered i (map bodyIs ps)
+unfolding numberedFrom numbered
+numbered-own i [] h q = refl
+numbered-own i (p ∷ ps) h q =
+    let rules = hasIndex i p ∷ hasNoLanguage p ∷ numberedFrom (i + 1) ps ∷ [] in
+    ap (λ (x : Piece). x ∷ ps) (same-piece p (h p (List·Memᴰ·head refl)) (eqb-true (p .index) i (conjunct 0 rules q)) (eqb-true (p .language) 0 (conjunct 1 rules q)))
+    ∙ ap (λ (qs : List Piece). configurationPiece i (p .body) ∷ qs) (numbered-own (i + 1) ps (λ r m. h r (List·Memᴰ·tail m)) (conjunct 2 rules q))
+
+kind-of : (t : ℕ) (ps : List Piece) (p : Piece) → List·Memᴰ p (piecesOf t ps) → p .kind ≡ t
+kind-of t ps p m = eqb-true (p .kind) t (only-member (kindOf t) ps m .1)
 
 -- ---- a set that opens and has no reference
 module _ (set serial : List ℕ) (opened : opensAs fullSpeed set serial ≡ true) where
   pub held : Groups fullSpeed (lent set serial)
   held = groups fullSpeed (lent set serial) (eqb-true (opening fullSpeed (lent set serial)) 0 opened)
 
-  pub device : Device set
-  unfolding goodDevices
-  device = device-in set (entriesOf 1 set) refl (held .devices)
-
-  pub body-is : deviceBody set ≡ bodyOf set (device .entry)
-  body-is = rw (device .only-one)
+  pub device : (piecesOf 1 (piecesIn set) ≡ devicePiece (deviceBody set) ∷ []) × (goodDevice fullSpeed (length (piecesOf 2 (piecesIn set))) (deviceBody set) ≡ true)
+  device = device-alone _ (piecesOf 1 (piecesIn set)) (kind-of 1 (piecesIn set)) (one-device fullSpeed (lent set serial) held)
 
   abbrev deviceRules : List Bool
   deviceRules =
-      let d = bodyOf set (device .entry) in
-      eqb (length d) 18 ∷ eqb (byte d 0) 18 ∷ eqb (byte d 1) 1 ∷ doubled (fullSpeed .control) (bMaxPacketSize0 d) ∷ (eqb (bDeviceClass d) 0 ⇒ eqb (bDeviceSubClass d) 0)
-      ∷ leb 1 (bNumConfigurations d) ∷ leb (bNumConfigurations d) 8 ∷ eqb (bNumConfigurations d) (length (entriesOf 2 set)) ∷ []
+      let d = deviceBody set in
+      has18Bytes d ∷ says18Bytes d ∷ isDevice d ∷ controlSize fullSpeed d ∷ subclassWithClass d ∷ countsConfiguration d ∷ atMost8Configurations d ∷ countIsEntries (length (piecesOf 2 (piecesIn set))) d ∷ []
 
   pub device-long : length (deviceBody set) ≡ 18
-  device-long = ap length body-is ∙ eqb-true (length (bodyOf set (device .entry))) 18 (conjunct 0 deviceRules (device .good))
+  device-long = eqb-true (length (deviceBody set)) 18 (conjunct 0 deviceRules (device .1))
+
+  pub configurations-many : length (contents.bodies 2 set) ≡ length (piecesOf 2 (piecesIn set))
+  configurations-many = ap length (bodies-of set 2) ∙ length-map (piecesOf 2 (piecesIn set)) bodyIs
 
   pub some-configuration : 1 ≤ length (contents.bodies 2 set)
   some-configuration =
-      let n = bNumConfigurations (bodyOf set (device .entry)) in
-      omega (arith, leb-true 1 n (conjunct 5 deviceRules (device .good)), eqb-true n (length (entriesOf 2 set)) (conjunct 7 deviceRules (device .good)), length-map (entriesOf 2 set) (bodyOf set))
+      let n = bNumConfigurations (deviceBody set) in
+      omega (arith, leb-true 1 n (conjunct 5 deviceRules (device .1)), eqb-true n _ (conjunct 7 deviceRules (device .1)), configurations-many)
 
-  abbrev pub configurationRules : List Bool
-  configurationRules =
-      let bs = contents.bodies 2 set in
-      numberedFrom 0 (entriesOf 2 set) ∷ every (goodConfiguration fullSpeed) bs ∷ every (λ b. leb 1 (bConfigurationValue b)) bs ∷ pairs (λ a b. not (eqb (bConfigurationValue a) (bConfigurationValue b))) bs ∷ []
-
-  pub rules-hold : Rattle.octets.proofs.Sentences.row true configurationRules ≡ true
-  unfolding goodConfigurations
-  rules-hold = held .configurations
+  pub configurations-held : GoodConfigurations fullSpeed set
+  configurations-held = each-rule fullSpeed set (held .configurations)
 
   pub good-body : (b : List ℕ) → List·Memᴰ b (contents.bodies 2 set) → goodConfiguration fullSpeed b ≡ true
-  good-body b m = every-member (goodConfiguration fullSpeed) (conjunct 1 configurationRules rules-hold) m
+  good-body b m = every-member (goodConfiguration fullSpeed) (configurations-held .good) m
 
   sized-body : (b : List ℕ) → List·Memᴰ b (contents.bodies 2 set) → Sized b
   sized-body b m = sized fullSpeed b (good-body b m)
@@ -118,11 +105,9 @@ module _ (set serial : List ℕ) (opened : opensAs fullSpeed set serial ≡ true
 
   pub own-pieces : own set ≡ devicePiece (deviceBody set) ∷ numbered 0 (contents.bodies 2 set)
   own-pieces =
-      let e = device .entry in
-      let k = kind-of set 1 e (rw (device .only-one) (List·Memᴰ·head refl)) in
-      let a = same-piece set e 1 0 k (device .index) (device .language) ∙ ap devicePiece (sym body-is) in
-      ap (λ (es : List Entry). map (pieceFor set) es ++ map (pieceFor set) (entriesOf 2 set)) (device .only-one)
-      ∙ rw (a, numbered-own set 0 (entriesOf 2 set) (kind-of set 2) (conjunct 0 configurationRules rules-hold))
+      ap (λ (ps : List Piece). ps ++ piecesOf 2 (piecesIn set)) (device .0)
+      ∙ ap (λ (ps : List Piece). devicePiece (deviceBody set) ∷ ps)
+      (numbered-own 0 (piecesOf 2 (piecesIn set)) (kind-of 2 (piecesIn set)) (configurations-held .numbered) ∙ ap (numbered 0) (sym (bodies-of set 2)))
 
   module _ (none : every (λ r. eqb r 0) (references set) ≡ true) where
     abbrev zeros : List Bool

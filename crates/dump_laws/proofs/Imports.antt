@@ -8,15 +8,15 @@ use lib.ListN.{length, drop, length-append, length-drop}
 use lib.Dec.{eqb, leb, ltb}
 use borrow.Author.Tests.{eqb-true, eq-eqb, leb-true, leb-false, eqb-false, ltb-false, le-ltb, not-false}
 use Rattle.octets.specs.Octets.{byte}
-use Rattle.octets.specs.Sentences.{pick, _⇒_, every, any, first, isSome}
+use Rattle.octets.specs.Sentences.{pick, _⇒_, every, any, first}
 use Rattle.octets.proofs.Sentences.{cases, never, conjunct, any-none, member-every}
 use Rattle.descriptors.specs.Limits.{fullSpeed}
-use Rattle.sets.specs.Contents.{entriesOf, bodyOf, total, count, bodiesAt, goodFrame}
+use Rattle.sets.specs.Contents.{total, count, bodiesAt, goodFrame}
 use Rattle.sets.specs.Device.{deviceBody, iSerialNumber}
-use Rattle.sets.specs.Strings.{references, languages, stringZero, goodString, languageZero, goodLanguages, listed, zeroThere, notSerial, goodReference, goodStrings}
+use Rattle.sets.specs.Strings.{references, goodStrings}
 use Rattle.sets.specs.Opening.{lent, opening}
-use Rattle.sets.proofs.Groups.{groups}
-use Rattle.pieces.specs.Pieces.{Piece}
+use Rattle.sets.proofs.Groups.{groups, texts-in}
+use Rattle.sets.specs.Pieces.{Piece, piecesIn, piecesOf}
 use Rattle.pieces.specs.Laid.{laid}
 use Rattle.set_writer.specs.Writer.{opensAs, handing}
 use Rattle.dumps.specs.Dump.{flat, splits, deviceIn, configurationsIn}
@@ -63,15 +63,12 @@ accepts dump room a =
 
 -- ---- "string references set to zero": no reference of the set is left
 pub no-references : (dump : List ℕ) → opensAs fullSpeed (imported dump) [] ≡ true → every (λ r. eqb r 0) (references (imported dump)) ≡ true
-unfolding goodStrings first
+unfolding goodStrings references first
 no-references dump p =
     let set = imported dump in
     let g = groups fullSpeed (lent set []) (eqb-true (opening fullSpeed (lent set [])) 0 p) in
-    let strings = entriesOf 3 set in
-    let rules =
-    every (λ e. goodString (bodyOf set e)) strings ∷ every languageZero strings ∷ (isSome (stringZero set) ⇒ goodLanguages (languages set)) ∷ every (listed (languages set)) strings ∷ zeroThere strings (references set) (stringZero set) ∷ every (notSerial (iSerialNumber (deviceBody set))) strings ∷ every (goodReference (languages set) strings (iSerialNumber (deviceBody set))) (references set) ∷ [] in
     let nothing = no-strings (zeroedDevice (deviceIn dump)) (map zeroedConfiguration (configurationsIn dump)) in
-    let z = rw nothing at (conjunct 4 rules (g .strings)) in
+    let z = rw nothing at (texts-in (references set) (iSerialNumber (deviceBody set)) (piecesOf 3 (piecesIn set)) (g .strings) .there) in
     let n = none-there (any (λ r. leb 1 r) (references set)) z in
     member-every (λ r. eqb r 0) (references set) (λ r m. zero-is r (any-none (λ r. leb 1 r) n m))
   where

@@ -1,52 +1,36 @@
 -- A set of a device and numbered configurations opens with an empty serial block, if each of them is good and no reference is left: group by group. No axiom.
 use Prim.Native.Nat.{ℕ, _+_, _*_, _≤_}
 use native.Mathlib.Omega.{arith}
-use mathlib.Core.Path.{_≡_, refl, sym, ap, _∙_}
-use mathlib.Core.Bool.{Bool, true, false, not}
-use mathlib.Core.List.{List, [], _∷_, _++_, map, List·Memᴰ, List·Memᴰ·head, List·Memᴰ·tail}
-use lib.ListN.{length, length-map}
+use mathlib.Core.Path.{_≡_, refl, ap, _∙_}
+use mathlib.Core.Bool.{Bool, true, false}
+use mathlib.Core.List.{List, [], _∷_, _++_, List·Memᴰ, List·Memᴰ·head, List·Memᴰ·tail}
+use lib.ListN.{length}
 use lib.Dec.{eqb, leb}
 use borrow.Author.Tests.{eqb-true, eq-eqb, le-leb}
 use Rattle.octets.specs.Sentences.{every, any, first, pairs}
 use Rattle.octets.proofs.Sentences.{joined, or-left, every-member, member-every, none-any}
 use Rattle.descriptors.specs.Limits.{fullSpeed, named}
-use Rattle.descriptors.specs.Configuration.{bConfigurationValue, goodConfiguration}
-use Rattle.sets.specs.declared.Entry.{Entry}
-use Rattle.sets.specs.Contents.{entriesOf, goodFrame, goodContents}
-use Rattle.sets.specs.Contents as contents
-use Rattle.sets.specs.Device.{deviceBody, iSerialNumber, goodDevice, goodDeviceEntries}
-use Rattle.sets.specs.Strings.{references, languages, goodReference, goodStrings}
-use Rattle.descriptors.specs.declared.Limits.{Limits}
-use Rattle.sets.specs.Opening.{Board, lent, numberedFrom, goodDevices, goodConfigurations, goodBlock, opening}
-use Rattle.pieces.specs.Pieces.{Piece}
+use Rattle.descriptors.specs.Configuration.{goodConfiguration}
+use Rattle.sets.specs.Contents.{goodContents}
+use Rattle.sets.specs.Pieces.{Piece}
+use Rattle.sets.specs.Device.{deviceBodyOf, iSerialNumber, goodDevice}
+use Rattle.sets.specs.Strings.{referencesOf, isNonzero, goodReference, goodTexts, goodStrings}
+use Rattle.sets.specs.Opening.{lent, numberedFrom, valueNonzero, distinctValues, goodDevices, goodConfigurations, goodBlock, opening}
+use Rattle.sets.proofs.Groups.{all-six}
 use Rattle.pieces.specs.Laid as pieces
 use Rattle.pieces.specs.Laid.{bodies, laid}
 use Rattle.pieces.proofs.LaidOut.{laid-frame, laid-contents}
+use Rattle.pieces.proofs.ReadBack.{read-back}
 use Rattle.set_writer.specs.Writer.{opensAs}
-use Rattle.pieces.specs.Held.{pieceFor}
 use Rattle.dumps.specs.Dump.{flat}
-use Rattle.dumps.specs.Imported.{devicePiece, configurationPiece, numbered}
+use Rattle.dumps.specs.Imported.{devicePiece, numbered}
 use Rattle.importing.proofs.Importing.{numbered-up, pieces-up, numbered-length}
-use Rattle.dump_laws.proofs.ByType.{kind-pieces, only-1, only-2, device-again, configurations-again, no-strings}
+use Rattle.dump_laws.proofs.ByType.{only-1, only-2, only-3, device-is, bodies-are}
 
--- ---- entries by their pieces
-numbered-entries : (set : List ℕ) (i : ℕ) (es : List Entry) (bs : List (List ℕ)) → map (pieceFor set) es ≡ numbered i bs → numberedFrom i es ≡ true
+numbered-up-by-one : (i : ℕ) (bs : List (List ℕ)) → numberedFrom i (numbered i bs) ≡ true
 unfolding numberedFrom numbered
-numbered-entries set i [] bs p = refl
-numbered-entries set i (e ∷ es) [] p = let z : _≡_ {A = ℕ} 0 1 = cc in absurd (omega arith)
-numbered-entries set i (e ∷ es) (b ∷ bs) p =
-    let q : pieceFor set e ≡ configurationPiece i b = cc in
-    let r : map (pieceFor set) es ≡ numbered (i + 1) bs = cc in
-    joined (joined (eq-eqb (e .index) i (ap (λ (x : Piece). x .index) q)) (eq-eqb (e .language) 0 (ap (λ (x : Piece). x .language) q))) (numbered-entries set (i + 1) es bs r)
-
-module _ (set d : List ℕ) where
-  one-device : (es : List Entry) → map (pieceFor set) es ≡ devicePiece d ∷ [] → (n : ℕ) → length (entriesOf 2 set) ≡ n → goodDevice fullSpeed n d ≡ true → goodDeviceEntries fullSpeed set es ≡ true
-  one-device [] p n l g = let z : _≡_ {A = ℕ} 0 1 = cc in absurd (omega arith)
-  one-device (e ∷ []) p n l g =
-      let q : pieceFor set e ≡ devicePiece d = cc in
-      joined (joined (eq-eqb (e .index) 0 (ap (λ (x : Piece). x .index) q)) (eq-eqb (e .language) 0 (ap (λ (x : Piece). x .language) q)))
-      (rw (l, ap (λ (x : Piece). x .body) q) g)
-  one-device (e ∷ f ∷ es) p n l g = let z : _≡_ {A = ℕ} 0 1 = cc in absurd (omega arith)
+numbered-up-by-one i [] = refl
+numbered-up-by-one i (b ∷ bs) = rw (eq-eqb i i refl) (numbered-up-by-one (i + 1) bs)
 
 named-numbered : (i : ℕ) (bs : List (List ℕ)) → every (λ p. named (fullSpeed .entries) (p .kind)) (numbered i bs) ≡ true
 unfolding every numbered
@@ -67,10 +51,15 @@ ev : {A : Type 0} (f : A → Bool) (x : A) (xs : List A) → f x ≡ true → ev
 unfolding every
 ev f x xs p q = joined p q
 
-all-six : (limits : Limits) (b : Board) → goodFrame (b .set) ≡ true → goodContents limits (b .set) ≡ true → goodDevices limits (b .set) ≡ true
-    → goodConfigurations limits (b .set) ≡ true → goodStrings (b .set) ≡ true → goodBlock (b .set) (b .serial) ≡ true → opening limits b ≡ 0
-unfolding opening
-all-six limits b p q r s t u = rw (p, q, r, s, t, u)
+-- no string, and no reference
+no-texts : (refs : List ℕ) (serial : ℕ) → every (λ r. eqb r 0) refs ≡ true → goodTexts refs serial [] ≡ true
+unfolding every first
+no-texts refs serial z =
+    let a : any isNonzero refs ≡ false = none-any isNonzero refs (λ r m. nought r (eqb-true r 0 (every-member (λ r. eqb r 0) z m))) in
+    rw a (member-every (goodReference [] [] serial) refs (λ r m. or-left _ (or-left _ (every-member (λ r. eqb r 0) z m))))
+  where
+    nought : (r : ℕ) → r ≡ 0 → leb 1 r ≡ false
+    nought r e = rw e
 
 -- ---- a device and numbered configurations
 module _ (d : List ℕ) (bs : List (List ℕ)) where
@@ -90,34 +79,21 @@ module _ (d : List ℕ) (bs : List (List ℕ)) where
       let b : every (λ p. leb 2 (length (p .body))) ps ≡ true = ev (λ p. leb 2 (length (p .body))) (devicePiece d) (numbered 0 bs) (le-leb 2 (length d) l) (long-numbered 0 bs h) in
       laid-contents fullSpeed ps ∙ joined (joined a (pieces-up d bs (numbered-up 0 bs))) b
 
-  two-length : length (entriesOf 2 made) ≡ length bs
-  two-length = sym (length-map (entriesOf 2 made) (pieceFor made)) ∙ ap length (kind-pieces ps 2 ∙ only-2 d bs) ∙ numbered-length 0 bs
-
-  devices-good : goodDevice fullSpeed (length bs) d ≡ true → goodDevices fullSpeed made ≡ true
+  devices-good : goodDevice fullSpeed (length bs) d ≡ true → goodDevices fullSpeed ps ≡ true
   unfolding goodDevices
-  devices-good g = one-device made d (entriesOf 1 made) (kind-pieces ps 1 ∙ only-1 d bs) (length bs) two-length g
+  devices-good g = rw (only-1 d bs, only-2 d bs, numbered-length 0 bs) g
 
-  configurations-good : every (goodConfiguration fullSpeed) bs ≡ true → every (λ b. leb 1 (bConfigurationValue b)) bs ≡ true
-      → pairs (λ a b. not (eqb (bConfigurationValue a) (bConfigurationValue b))) bs ≡ true → goodConfigurations fullSpeed made ≡ true
+  configurations-good : every (goodConfiguration fullSpeed) bs ≡ true → every valueNonzero bs ≡ true → pairs distinctValues bs ≡ true → goodConfigurations fullSpeed ps ≡ true
   unfolding goodConfigurations
-  configurations-good g v q =
-      rw (configurations-again d bs)
-      (joined (joined (joined (numbered-entries made 0 (entriesOf 2 made) bs (kind-pieces ps 2 ∙ only-2 d bs)) g) v) q)
+  configurations-good g v q = rw (bodies-are d bs, only-2 d bs) (joined (joined (joined (numbered-up-by-one 0 bs) g) v) q)
 
-  strings-good : every (λ r. eqb r 0) (references made) ≡ true → goodStrings made ≡ true
-  unfolding goodStrings every first
-  strings-good z =
-      let a : any (λ r. leb 1 r) (references made) ≡ false = none-any (λ r. leb 1 r) (references made) (λ r m. nought r (eqb-true r 0 (every-member (λ r. eqb r 0) z m))) in
-      let b : every (goodReference (languages made) [] (iSerialNumber (deviceBody made))) (references made) ≡ true =
-      member-every (goodReference (languages made) [] (iSerialNumber (deviceBody made))) (references made) (λ r m. or-left _ (or-left _ (every-member (λ r. eqb r 0) z m))) in
-      rw (no-strings d bs, a) b
-    where
-      nought : (r : ℕ) → r ≡ 0 → leb 1 r ≡ false
-      nought r e = rw e
+  strings-good : every (λ r. eqb r 0) (referencesOf ps) ≡ true → goodStrings ps ≡ true
+  unfolding goodStrings
+  strings-good z = rw (only-3 d bs) (no-texts (referencesOf ps) (iSerialNumber (deviceBodyOf ps)) z)
 
-  block-good : iSerialNumber d ≡ 0 → goodBlock made [] ≡ true
+  block-good : iSerialNumber d ≡ 0 → goodBlock ps [] ≡ true
   unfolding goodBlock
-  block-good e = rw (device-again d bs, e)
+  block-good e = rw (device-is d bs, e)
 
   -- all six
   pub record Good : Type 0 where
@@ -127,19 +103,20 @@ module _ (d : List ℕ) (bs : List (List ℕ)) where
     pub device-long : 2 ≤ length d
     pub bodies-long : (b : List ℕ) → List·Memᴰ b bs → 2 ≤ length b
     pub configurations : every (goodConfiguration fullSpeed) bs ≡ true
-    pub values : every (λ b. leb 1 (bConfigurationValue b)) bs ≡ true
-    pub distinct : pairs (λ a b. not (eqb (bConfigurationValue a) (bConfigurationValue b))) bs ≡ true
-    pub no-references : every (λ r. eqb r 0) (references made) ≡ true
+    pub values : every valueNonzero bs ≡ true
+    pub distinct : pairs distinctValues bs ≡ true
+    pub no-references : every (λ r. eqb r 0) (referencesOf ps) ≡ true
     pub no-serial : iSerialNumber d ≡ 0
 
   pub made-opens : Good → opensAs fullSpeed made [] ≡ true
   made-opens g = eq-eqb (opening fullSpeed (lent made [])) 0 zero-is
     where
       zero-is : opening fullSpeed (lent made []) ≡ 0
-      zero-is = all-six fullSpeed (lent made [])
-          (laid-frame ps (omega arith) (omega (arith, numbered-length 0 bs, g .few)) (omega (arith, ps-total, g .small)))
-          (contents-good (g .device-long) (g .bodies-long))
-          (devices-good (g .device))
-          (configurations-good (g .configurations) (g .values) (g .distinct))
-          (strings-good (g .no-references))
-          (block-good (g .no-serial))
+      zero-is = all-six fullSpeed (lent made []) (record {
+        frame = laid-frame ps (omega arith) (omega (arith, numbered-length 0 bs, g .few)) (omega (arith, ps-total, g .small));
+        contents = contents-good (g .device-long) (g .bodies-long);
+        devices = rw (read-back ps) (devices-good (g .device));
+        configurations = rw (read-back ps) (configurations-good (g .configurations) (g .values) (g .distinct));
+        strings = rw (read-back ps) (strings-good (g .no-references));
+        serial = rw (read-back ps) (block-good (g .no-serial));
+      })

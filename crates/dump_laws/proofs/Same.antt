@@ -15,17 +15,18 @@ use Rattle.sets.specs.Strings.{references}
 use Rattle.octets.specs.Octets.{Bytes}
 use Rattle.sets.proofs.Entries.{every-cons}
 use Rattle.sets.specs.Opening.{lent}
-use Rattle.pieces.specs.Pieces.{Piece}
+use Rattle.sets.specs.Pieces.{Piece, pieceFor, piecesIn}
 use Rattle.pieces.specs.Laid.{laid}
 use Rattle.set_writer.specs.Writer.{opensAs}
-use Rattle.pieces.specs.Held.{pieceFor, piecesIn}
+use Rattle.sets.proofs.Pieces.{of-kind}
 use Rattle.pieces.proofs.Canonical.{canonical}
+use Rattle.pieces.proofs.ReadBack.{read-back}
 use Rattle.dumps.specs.Dump.{deviceIn, configurationsIn}
 use Rattle.dumps.specs.Zeroed.{zeroedDevice, zeroedConfiguration, zeroed}
 use Rattle.dumps.specs.Imported.{piecesFor, imported}
 use Rattle.exporting.specs.Export.{exported, own}
 use Rattle.exporting.proofs.Together.{Up, all-up, none-below}
-use Rattle.dump_laws.proofs.ByType.{kind-pieces, only-1, only-2}
+use Rattle.dump_laws.proofs.ByType.{only-1, only-2}
 use Rattle.dump_laws.proofs.Home.{held, back}
 use Rattle.dump_laws.proofs.Imports.{no-references, again}
 
@@ -58,7 +59,7 @@ module _ (set serial : List ℕ) (opened : opensAs fullSpeed set serial ≡ true
   own-all p =
       let rules = every (λ e. named (fullSpeed .entries) (e .kind)) (entries set) ∷ neighbours before (entries set) ∷ every (λ e. leb 2 (e .length)) (entries set) ∷ endToEnd (bodiesAt set) (total set) (entries set) ∷ [] in
       let c = held set serial opened .contents in
-      in-order set (entries set) (all-up (entries set) (conjunct 0 rules c) (conjunct 1 rules c)) p
+      rw (← of-kind set 1, ← of-kind set 2) (in-order set (entries set) (all-up (entries set) (conjunct 0 rules c) (conjunct 1 rules c)) p)
 
   -- a set without references and without strings comes back byte for byte
   pub whole-set : Bytes set → every (λ e. leb (e .kind) 2) (entries set) ≡ true → every (λ r. eqb r 0) (references set) ≡ true → imported (exported set) ≡ set
@@ -71,5 +72,5 @@ pub twice : (dump : List ℕ) → opensAs fullSpeed (imported dump) [] ≡ true 
 twice dump p =
     let d = zeroedDevice (deviceIn dump) in
     let bs = map zeroedConfiguration (configurationsIn dump) in
-    let o : own (imported dump) ≡ piecesFor dump = rw (kind-pieces (piecesFor dump) 1, kind-pieces (piecesFor dump) 2, only-1 d bs, only-2 d bs) in
+    let o : own (imported dump) ≡ piecesFor dump = rw (read-back (piecesFor dump), only-1 d bs, only-2 d bs) in
     ap imported (sym (again dump)) ∙ ap laid (back (imported dump) [] p (no-references dump p) ∙ o)

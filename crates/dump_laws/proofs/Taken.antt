@@ -11,11 +11,12 @@ use Rattle.octets.specs.Octets.{byte}
 use Rattle.octets.specs.Sentences.{pick, every, only}
 use Rattle.octets.proofs.Sentences.{conjunct}
 use Rattle.descriptors.specs.Limits.{fullSpeed}
-use Rattle.sets.specs.declared.Entry.{Entry}
-use Rattle.sets.specs.Contents.{entries, entriesOf, bodyOf, isKind, total, count, bodiesAt, goodFrame}
+use Rattle.sets.specs.Contents.{entries, total, count, bodiesAt, goodFrame}
 use Rattle.sets.specs.Contents as contents
 use Rattle.sets.specs.Device.{deviceBody}
-use Rattle.sets.specs.Strings.{references}
+use Rattle.sets.specs.Pieces.{Piece, pieceFor, piecesIn, piecesOf, kindOf}
+use Rattle.sets.specs.Strings.{references, referencesOf}
+use Rattle.sets.proofs.Pieces.{bodies-of}
 use Rattle.sets.specs.Opening.{lent, opening}
 use Rattle.pieces.specs.Laid.{laid}
 use Rattle.set_writer.specs.Writer.{opensAs}
@@ -24,28 +25,28 @@ use Rattle.dumps.specs.Imported.{imported}
 use Rattle.exporting.specs.Export.{exported, own}
 use Rattle.exporting.proofs.Together.{dump}
 use Rattle.importing.specs.Import.{importing}
-use Rattle.dump_laws.proofs.ByType.{device-again, configurations-again}
+use Rattle.dump_laws.proofs.ByType.{device-is, bodies-are}
 use Rattle.dump_laws.proofs.Kept.{sized}
-use Rattle.dump_laws.proofs.Home.{held, device, body-is, device-long, configurationRules, rules-hold, good-body, exported-splits, own-pieces, no-serial, back}
-use Rattle.dump_laws.proofs.Opens.{made, Good, made-opens}
+use Rattle.dump_laws.proofs.Home.{held, device, device-long, configurations-many, configurations-held, good-body, exported-splits, own-pieces, no-serial, back}
+use Rattle.dump_laws.proofs.Opens.{ps, Good, made-opens}
 use Rattle.dump_laws.proofs.Imports.{accepts}
 
--- two types have no more entries than all
-two-types : (es : List Entry) → length (only (isKind 1) es) + length (only (isKind 2) es) ≤ length es
+-- two types have no more pieces than all
+two-types : (ps : List Piece) → length (piecesOf 1 ps) + length (piecesOf 2 ps) ≤ length ps
 unfolding only
 two-types [] = omega arith
-two-types (e ∷ es) = go (eqb (e .kind) 1) refl (eqb (e .kind) 2) refl (two-types es)
+two-types (p ∷ ps) = go (kindOf 1 p) refl (kindOf 2 p) refl (two-types ps)
   where
-    go : (a : Bool) → eqb (e .kind) 1 ≡ a → (b : Bool) → eqb (e .kind) 2 ≡ b → length (only (isKind 1) es) + length (only (isKind 2) es) ≤ length es
-        → length (pick a (e ∷ only (isKind 1) es) (only (isKind 1) es)) + length (pick b (e ∷ only (isKind 2) es) (only (isKind 2) es)) ≤ length (e ∷ es)
-    go true p true q h = let z : _≡_ {A = ℕ} 1 2 = sym (eqb-true (e .kind) 1 p) ∙ eqb-true (e .kind) 2 q in absurd (omega arith)
-    go true p false q h = omega arith
-    go false p true q h = omega arith
-    go false p false q h = omega arith
+    go : (a : Bool) → kindOf 1 p ≡ a → (b : Bool) → kindOf 2 p ≡ b → length (piecesOf 1 ps) + length (piecesOf 2 ps) ≤ length ps
+        → length (pick a (p ∷ piecesOf 1 ps) (piecesOf 1 ps)) + length (pick b (p ∷ piecesOf 2 ps) (piecesOf 2 ps)) ≤ length (p ∷ ps)
+    go true q true r h = let z : _≡_ {A = ℕ} 1 2 = sym (eqb-true (p .kind) 1 q) ∙ eqb-true (p .kind) 2 r in absurd (omega arith)
+    go true q false r h = omega arith
+    go false q true r h = omega arith
+    go false q false r h = omega arith
 
-same-references : (set other : List ℕ) → deviceBody other ≡ deviceBody set → contents.bodies 2 other ≡ contents.bodies 2 set → references other ≡ references set
+same-references : (set : List ℕ) → referencesOf (ps (deviceBody set) (contents.bodies 2 set)) ≡ references set
 unfolding references
-same-references set other p q = rw (p, q)
+same-references set = rw (device-is (deviceBody set) (contents.bodies 2 set), bodies-are (deviceBody set) (contents.bodies 2 set), bodies-of set 2)
 
 module _ (set serial : List ℕ) (opened : opensAs fullSpeed set serial ≡ true) (none : every (λ r. eqb r 0) (references set) ≡ true) where
   abbrev d : List ℕ
@@ -61,23 +62,23 @@ module _ (set serial : List ℕ) (opened : opensAs fullSpeed set serial ≡ true
       let frame = leb 4 (length set) ∷ leb (length set) 16384 ∷ eqb (total set) (length set) ∷ leb 1 (count set) ∷ leb (count set) 64 ∷ eqb (byte set 3) 0 ∷ leb (bodiesAt set) (total set) ∷ [] in
       let large = leb-true (length set) 16384 (conjunct 1 frame (g .frame)) in
       let many = leb-true (count set) 64 (conjunct 4 frame (g .frame)) in
-      let two = two-types (entries set) in
-      let one = ap length (device set serial opened .only-one) in
+      let two = two-types (piecesIn set) in
+      let one = ap length (device set serial opened .0) in
       let n = entries-length (count set) (drop 4 set) in
-      let m = length-map (entriesOf 2 set) (bodyOf set) in
+      let all = length-map (entries set) (pieceFor set) in
+      let m = configurations-many set serial opened in
       let x = dump set serial (eqb-true (opening fullSpeed (lent set serial)) 0 opened) in
-      let rules = configurationRules set serial opened in
-      let hold = rules-hold set serial opened in
+      let rules = configurations-held set serial opened in
       record {
         few = omega arith;
         small = omega (arith, x .fits, x .size);
-        device = rw (m, body-is set serial opened) (device set serial opened .good);
+        device = rw m (device set serial opened .1);
         device-long = omega (arith, device-long set serial opened);
         bodies-long = λ b k. omega (arith, sized fullSpeed b (good-body set serial opened b k) .least);
-        configurations = conjunct 1 rules hold;
-        values = conjunct 2 rules hold;
-        distinct = conjunct 3 rules hold;
-        no-references = rw (same-references set (made d bs) (device-again d bs) (configurations-again d bs)) none;
+        configurations = rules .good;
+        values = rules .nonzero;
+        distinct = rules .distinct;
+        no-references = rw (same-references set) none;
         no-serial = no-serial set serial opened none;
       }
 

@@ -15,11 +15,12 @@ use Rattle.octets.specs.Sentences.{pick, every, only, neighbours}
 use Rattle.octets.proofs.Sentences.{cases, both, either, conjunct, never, neighbours-cons}
 use Rattle.descriptors.specs.Limits.{named, fullSpeed}
 use Rattle.sets.specs.declared.Entry.{Entry}
-use Rattle.sets.specs.Contents.{entries, bodyOf, bodies, before, isKind, entriesOf, total, count, bodiesAt, endToEnd, goodFrame, goodContents}
-use Rattle.sets.specs.Device.{headBody, goodDeviceEntries}
-use Rattle.sets.specs.Opening.{goodDevices, opening, lent}
+use Rattle.sets.specs.Contents.{entries, bodyOf, bodies, before, isKind, total, count, bodiesAt, endToEnd, goodFrame, goodContents}
+use Rattle.sets.specs.Pieces.{Piece, piecesIn, piecesOf, bodyIs, headBody, sole}
+use Rattle.sets.specs.Opening.{opening, lent}
 use Rattle.sets.proofs.Entries.{only-later, only-empty, every-cons}
-use Rattle.sets.proofs.Groups.{groups}
+use Rattle.sets.proofs.Groups.{groups, one-device}
+use Rattle.sets.proofs.Pieces.{bodies-of}
 use Rattle.dumps.specs.Dump.{flat}
 use Rattle.exporting.specs.declared.Dumped.{Dumped}
 use Rattle.exporting.specs.Export.{exported, exporting, share, shares, Exports}
@@ -128,11 +129,11 @@ within start end (e ∷ es) p =
     let (o, q) = both (eqb (e .offset) start) (endToEnd (start + e .length) end es) p in
     omega (arith, within (start + e .length) end es q, share-small e)
 
-one-device : (set : List ℕ) (es : List Entry) → goodDeviceEntries fullSpeed set es ≡ true → flat (map (bodyOf set) es) ≡ headBody set es
+one-body : (good : List ℕ → Bool) (ps : List Piece) → sole good ps ≡ true → flat (map bodyIs ps) ≡ headBody ps
 unfolding flat
-one-device set [] p = never p refl
-one-device set (e ∷ []) p = append-nil (bodyOf set e)
-one-device set (e ∷ f ∷ es) p = never p refl
+one-body good [] p = never p refl
+one-body good (p ∷ []) q = append-nil (p .body)
+one-body good (p ∷ q ∷ ps) r = never r refl
 
 -- ---- the whole
 pub record Dump (set : List ℕ) : Type 0 where
@@ -142,7 +143,7 @@ pub record Dump (set : List ℕ) : Type 0 where
   pub small : length set ≤ 16384
 
 pub dump : (set serial : List ℕ) → opening fullSpeed (lent set serial) ≡ 0 → Dump set
-unfolding goodFrame goodContents goodDevices
+unfolding goodFrame goodContents
 dump set serial p =
     let g = groups fullSpeed (lent set serial) p in
     let frame = leb 4 (length set) ∷ leb (length set) 16384 ∷ eqb (total set) (length set) ∷ leb 1 (count set) ∷ leb (count set) 64 ∷ eqb (byte set 3) 0 ∷ leb (bodiesAt set) (total set) ∷ [] in
@@ -152,7 +153,7 @@ dump set serial p =
     let up = all-up (entries set) (conjunct 0 rules (g .contents)) (conjunct 1 rules (g .contents)) in
     let f : bodiesAt set + shares (entries set) ≤ length set = omega (arith, within (bodiesAt set) (total set) (entries set) laidOut) in
     let b : exported set ≡ part set (bodiesAt set) (shares (entries set)) =
-    ap (λ (l : List ℕ). l ++ flat (bodies 2 set)) (sym (one-device set (entriesOf 1 set) (g .devices))) ∙ together set (bodiesAt set) (total set) (entries set) up laidOut in
+    ap (λ (l : List ℕ). l ++ flat (bodies 2 set)) (sym (one-body _ (piecesOf 1 (piecesIn set)) (one-device fullSpeed (lent set serial) g)) ∙ ap flat (sym (bodies-of set 1))) ∙ together set (bodiesAt set) (total set) (entries set) up laidOut in
     record {
       fits = f;
       bytes = b;

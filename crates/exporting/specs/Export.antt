@@ -1,17 +1,16 @@
 -- Export (document 02, L5: "export a set's device and configuration bodies in that form").
 use Prim.Native.Nat.{ℕ, _+_}
 use mathlib.Core.Path.{_≡_}
-use mathlib.Core.List.{List, [], _∷_, _++_, map}
+use mathlib.Core.List.{List, [], _∷_, _++_}
 use lib.ListN.{length}
 use lib.Dec.{eqb, leb, ltb}
 use Rattle.octets.specs.Sentences.{pick}
 use Rattle.descriptors.specs.Limits.{fullSpeed}
 use Rattle.sets.specs.declared.Entry.{Entry}
-use Rattle.sets.specs.Contents.{entriesOf, bodies}
+use Rattle.sets.specs.Contents.{bodies}
 use Rattle.sets.specs.Device.{deviceBody}
 use Rattle.sets.specs.Opening.{lent, opening}
-use Rattle.pieces.specs.Pieces.{Piece}
-use Rattle.pieces.specs.Held.{pieceFor}
+use Rattle.sets.specs.Pieces.{Piece, piecesIn, piecesOf}
 use Rattle.set_writer.specs.Writer.{Filled}
 use Rattle.dumps.specs.Dump.{flat}
 use Rattle.exporting.specs.declared.Dumped.{Dumped}
@@ -27,7 +26,7 @@ exporting set serial room =
 
 -- the device and the configurations of a set, as pieces
 abbrev pub own : List ℕ → List Piece
-own set = map (pieceFor set) (entriesOf 1 set) ++ map (pieceFor set) (entriesOf 2 set)
+own set = piecesOf 1 (piecesIn set) ++ piecesOf 2 (piecesIn set)
 
 -- what export answers, whole: its number, the buffer left, and the dump's length, 0 after a refusal
 pub record Exports (set serial buffer after : List ℕ) (r : Dumped) : Type 0 where

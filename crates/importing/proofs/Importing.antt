@@ -12,7 +12,8 @@ use borrow.Author.Tests.{lt-ltb}
 use Rattle.octets.specs.Sentences.{pick, neighbours}
 use Rattle.octets.proofs.Sentences.{or-left, or-right}
 use Rattle.descriptors.specs.Limits.{fullSpeed}
-use Rattle.pieces.specs.Pieces.{Piece, pieces, streamOf}
+use Rattle.pieces.specs.Pieces.{pieces, streamOf}
+use Rattle.sets.specs.Pieces.{Piece}
 use Rattle.pieces.specs.Sorted.{precedes, sorted}
 use Rattle.pieces.specs.Laid.{laid}
 use Rattle.pieces.proofs.Stream.{stream-read, stream-whole}

@@ -8,6 +8,7 @@ use Rattle.octets.specs.Sentences.{pick}
 use Rattle.descriptors.specs.declared.Limits.{Limits}
 use Rattle.sets.specs.Opening.{Board, goodDevices, goodConfigurations, goodBlock, opening}
 use Rattle.sets.specs.Contents.{goodFrame, goodContents}
+use Rattle.sets.specs.Pieces.{piecesIn}
 use Rattle.sets.specs.Strings.{goodStrings}
 use Rattle.sets.specs.View.{View, viewOf}
 use Rattle.sets.proofs.Groups.{Groups, inside}
@@ -75,7 +76,7 @@ left-image image same false = same
 -- ---- opening
 pub opening-number : (limits : Limits) (b : Board) → opening limits b ≤ 6
 unfolding opening
-opening-number limits b = go (goodFrame (b .set)) (goodContents limits (b .set)) (goodDevices limits (b .set)) (goodConfigurations limits (b .set)) (goodStrings (b .set)) (goodBlock (b .set) (b .serial))
+opening-number limits b = go (goodFrame (b .set)) (goodContents limits (b .set)) (goodDevices limits (piecesIn (b .set))) (goodConfigurations limits (piecesIn (b .set))) (goodStrings (piecesIn (b .set))) (goodBlock (piecesIn (b .set)) (b .serial))
   where
     one : (g : Bool) (n m : ℕ) → n ≤ 6 → m ≤ 6 → pick (not g) n m ≤ 6
     one true n m p q = q

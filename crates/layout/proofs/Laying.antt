@@ -4,7 +4,7 @@ use native.Mathlib.Omega.{arith}
 use mathlib.Core.Path.{_≡_, ap, _∙_}
 use mathlib.Core.List.{List, [], _∷_, _++_, map}
 use lib.ListN.{length, drop, getD, length-map, drop-of-length-le}
-use Rattle.pieces.specs.Pieces.{Piece}
+use Rattle.sets.specs.Pieces.{Piece}
 use Rattle.pieces.specs.Laid.{entryBytes, contents, bodies, front, header, total, laid}
 use Rattle.pieces.proofs.Laid.{contents-none, contents-more, bodies-none, bodies-more, laid-parts, laid-length}
 use Rattle.pieces.specs.Places.{pieceAt, piecesAt}

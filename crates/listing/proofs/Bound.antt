@@ -8,7 +8,7 @@ use lib.ListN.{length, take, length-append, length-take}
 use lib.Dec.{eqb, leb, ltb}
 use borrow.Author.Tests.{eqb-true, leb-true}
 use Rattle.octets.specs.Octets.{byte}
-use Rattle.octets.specs.Sentences.{pick, _⇒_, every, only, neighbours, pairs}
+use Rattle.octets.specs.Sentences.{pick, _⇒_, every, only, neighbours}
 use Rattle.octets.proofs.Sentences.{both, conjunct, if-then}
 use Rattle.descriptors.specs.declared.Limits.{Limits}
 use Rattle.descriptors.specs.Limits.{named}
@@ -16,9 +16,9 @@ use Rattle.descriptors.specs.Cut.{broken, descriptor, cut, cutAfter, descriptor
 use Rattle.descriptors.specs.Descriptor.{bDescriptorType, isInterface, isEndpoint, bEndpointAddress, bmAttributes, bInterval, wMaxPacketSize, transferType, goodAddress, goodAttributes, goodSize, goodInterval, goodEndpoint, goodDescriptor}
 use Rattle.descriptors.specs.Configuration.{bConfigurationValue, bNumInterfaces, bMaxPower, configurationAttributes, wTotalLength, behind, goodConfiguration}
 use Rattle.sets.specs.declared.Entry.{Entry}
-use Rattle.sets.specs.Contents.{entries, entriesOf, bodyOf, bodies, isKind, total, count, bodiesAt, before, goodFrame, endToEnd, goodContents}
-use Rattle.sets.specs.Opening.{Board, opening, numberedFrom, goodConfigurations}
-use Rattle.sets.proofs.Groups.{Groups, groups}
+use Rattle.sets.specs.Contents.{entries, bodyOf, bodies, isKind, total, count, bodiesAt, before, goodFrame, endToEnd, goodContents}
+use Rattle.sets.specs.Opening.{Board, opening}
+use Rattle.sets.proofs.Groups.{Groups, groups, each-rule}
 use Rattle.listing.specs.Listing.{digits, fields, line, acceptedWord, refusedWord, configurationLines, acceptedLines, listing}
 use Rattle.listing.specs.Listed.{room}
 use Rattle.listing.specs.Written.{descriptorLines}
@@ -113,13 +113,6 @@ bodies-length set f start end (e ∷ es) p = go (f e) (bodies-length set f (star
     go true h = rw length-take (omega arith)
     go false h = omega arith
 
-pub good-bodies : (limits : Limits) (set : List ℕ) → goodConfigurations limits set ≡ true → every (goodConfiguration limits) (bodies 2 set) ≡ true
-unfolding goodConfigurations
-good-bodies limits set p =
-    let bs = bodies 2 set in
-    let rules = numberedFrom 0 (entriesOf 2 set) ∷ every (goodConfiguration limits) bs ∷ every (λ b. leb 1 (bConfigurationValue b)) bs ∷ pairs (λ a b. not (eqb (bConfigurationValue a) (bConfigurationValue b))) bs ∷ [] in
-    conjunct 1 rules p
-
 pub accepted-length : (limits : Limits) (b : Board) → Groups limits b → length (acceptedLines (b .set)) ≤ room
 unfolding goodFrame goodContents
 accepted-length limits b g =
@@ -134,7 +127,7 @@ accepted-length limits b g =
       leb-true 1 (count set) (conjunct 3 frame (g .frame)),
       line-length acceptedWord (length (bodies 2 set) ∷ []),
       bodies-length set (isKind 2) (bodiesAt set) (total set) (entries set) (conjunct 3 contents (g .contents)),
-      flat-length configurationLines (goodConfiguration limits) (configuration-length limits) (bodies 2 set) (good-bodies limits set (g .configurations)),
+      flat-length configurationLines (goodConfiguration limits) (configuration-length limits) (bodies 2 set) (each-rule limits set (g .configurations) .good),
     ))
 
 -- every board's text

@@ -13,11 +13,11 @@ use Rattle.descriptors.specs.declared.Limits.{Limits}
 use Rattle.descriptors.specs.Configuration.{goodConfiguration}
 use Rattle.sets.specs.Contents.{bodies}
 use Rattle.sets.specs.Opening.{Board, opening}
-use Rattle.sets.proofs.Groups.{groups}
+use Rattle.sets.proofs.Groups.{groups, each-rule}
 use Rattle.listing.specs.Listing.{line, refusedWord, acceptedLines, listing}
 use Rattle.writing.specs.Written.{Room, Wrote}
 use Rattle.listing.specs.Listed.{room, Listed}
-use Rattle.listing.proofs.Bound.{good-bodies, listing-length}
+use Rattle.listing.proofs.Bound.{listing-length}
 
 -- n is what opening answered
 module _ (limits : Limits) (b : Board) (n : ℕ) (o : n ≡ opening limits b) where
@@ -30,7 +30,7 @@ module _ (limits : Limits) (b : Board) (n : ℕ) (o : n ≡ opening limits b) wh
   accepted p = rw (eq-eqb (opening limits b) 0 (sym o ∙ p))
 
   pub good : n ≡ 0 → (l : Limits) × (every (goodConfiguration l) (bodies 2 (b .set)) ≡ true)
-  good p = (limits, good-bodies limits (b .set) (groups limits b (sym o ∙ p) .configurations))
+  good p = (limits, each-rule limits (b .set) (groups limits b (sym o ∙ p) .configurations) .good)
 
 -- its text, in a buffer that is long enough for any
 module _ (limits : Limits) (b : Board) (text : List ℕ) (e : listing limits b ≡ text) (out : List ℕ) (h : room ≤ length out) where

@@ -7,7 +7,8 @@ use mathlib.Core.List.{List, [], _∷_, _++_, List·Memᴰ, List·Memᴰ·head, 
 use lib.ListN.{length, take, drop, length-append}
 use lib.Seq.{getD-drop}
 use Rattle.octets.specs.Octets.{word, Bytes}
-use Rattle.pieces.specs.Pieces.{Piece, pieceOf, piecesAfter, pieces}
+use Rattle.pieces.specs.Pieces.{pieceOf, piecesAfter, pieces}
+use Rattle.sets.specs.Pieces.{Piece}
 use Rattle.pieces.specs.Laid.{entryBytes, contents, bodies, front, header, total, laid}
 
 -- ---- lists of bytes

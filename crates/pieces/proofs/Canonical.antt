@@ -19,7 +19,7 @@ use Rattle.pieces.specs.Laid as pieces
 use Rattle.pieces.specs.Laid.{entryBytes, contents, bodies, front, header, laid}
 use Rattle.pieces.proofs.Laid.{laid-parts}
 use Rattle.pieces.proofs.Bytewise.{drop-bytes}
-use Rattle.pieces.specs.Held.{pieceFor, piecesIn}
+use Rattle.sets.specs.Pieces.{pieceFor, piecesIn}
 
 low : (a b : ℕ) → a < 256 → (a + 256 * b) % 256 ≡ a
 low a b h = omega arith

@@ -15,7 +15,7 @@ use Rattle.descriptors.specs.Limits.{named}
 use Rattle.sets.specs.declared.Entry.{Entry}
 use Rattle.sets.specs.Contents as sets
 use Rattle.sets.specs.Contents.{entries, before, endToEnd, goodFrame, goodContents}
-use Rattle.pieces.specs.Pieces.{Piece}
+use Rattle.sets.specs.Pieces.{Piece}
 use Rattle.pieces.specs.Sorted.{precedes}
 use Rattle.pieces.specs.Laid.{bodies, front, total, laid}
 use Rattle.pieces.proofs.Laid.{laid-length}

@@ -7,11 +7,11 @@ use lib.ListN.{length, length-append}
 use lib.Seq.{drop-append-seam, take-append-seam}
 use Rattle.sets.specs.declared.Entry.{Entry}
 use Rattle.sets.specs.Contents.{entryOf, entriesFrom}
-use Rattle.pieces.specs.Pieces.{Piece}
+use Rattle.sets.specs.Pieces.{Piece, pieceFor, piecesIn}
 use Rattle.pieces.specs.Laid.{entryBytes, contents, bodies, front, header, laid}
 use Rattle.pieces.proofs.Stream.{two-bytes}
 use Rattle.pieces.proofs.Laid.{contents-length}
-use Rattle.pieces.specs.Held.{pieceFor, piecesIn, entryFor}
+use Rattle.pieces.specs.Pieces.{entryFor}
 
 -- the entries that are written
 abbrev pub entriesFor : ℕ → List Piece → List Entry

@@ -10,7 +10,8 @@ use lib.Dec.{leb}
 use borrow.Author.Tests.{leb-true, leb-false}
 use Rattle.octets.proofs.Sentences.{cases, never}
 use Rattle.octets.specs.Octets.{word}
-use Rattle.pieces.specs.Pieces.{Piece, pieceOf, endsAfter, piecesAfter, ends, pieces, pieceHead, streamOf}
+use Rattle.pieces.specs.Pieces.{pieceOf, endsAfter, piecesAfter, ends, pieces, pieceHead, streamOf}
+use Rattle.sets.specs.Pieces.{Piece}
 
 -- bytes that belong to a piece are passed over
 ends-skip : (k : ℕ) (bs : List ℕ) → k ≤ length bs → endsAfter k bs ≡ ends (drop k bs)

@@ -1,5 +1,4 @@
 pub mod Pieces
-pub mod Held
 pub mod Sorted
 pub mod Laid
 pub mod Shuffled

@@ -4,12 +4,8 @@ use mathlib.Core.List.{List, [], _∷_, _++_}
 use mathlib.Core.Bool.{Bool, true, false}
 use lib.ListN.{length}
 use Rattle.octets.specs.Octets.{byte, word, part}
-
-pub record Piece : Type 0 where
-  pub kind : ℕ
-  pub index : ℕ
-  pub language : ℕ
-  pub body : List ℕ
+use Rattle.sets.specs.declared.Entry.{Entry}
+use Rattle.sets.specs.Pieces.{Piece}
 
 -- the piece that some bytes begin with
 abbrev pub pieceOf : List ℕ → Piece
@@ -41,3 +37,7 @@ pieceHead p = p .kind ∷ p .index ∷ p .language % 256 ∷ p .language / 256 �
 unfoldable pub streamOf : List Piece → List ℕ
 streamOf [] = []
 streamOf (p ∷ ps) = pieceHead p ++ (p .body ++ streamOf ps)
+
+-- the entry of a piece whose body begins at an offset
+abbrev pub entryFor : Piece → ℕ → Entry
+entryFor p offset = record { kind = p .kind; index = p .index; language = p .language; offset = offset; length = length (p .body) }

@@ -12,7 +12,7 @@ use Rattle.sets.specs.Strings.{words, languages, references, goodStrings}
 use Rattle.sets.specs.Opening.{Board, lent, goodDevices, numberedFrom, goodConfigurations, goodBlock, opening}
 use Rattle.sets.specs.Pair.{same, qualifies, mirrorsAll, mirrors, openingTwo}
 use Rattle.sets.specs.View.{viewOf}
-use Rattle.pieces.specs.Pieces.{Piece}
+use Rattle.sets.specs.Pieces.{Piece}
 use Rattle.pieces.specs.Laid.{contents, bodies, laid}
 use Rattle.records.specs.Image.{fourBytes, bytesOfFour, deviceOf, imageOf}
 use Rattle.records.specs.Fits.{fits}

@@ -19,9 +19,9 @@ use Rattle.descriptors.specs.Configuration.{bNumInterfaces, goodHead, goodDescr
 use Rattle.descriptors.proofs.FullSpeed as full
 use Rattle.descriptors.proofs.HighSpeed as highspeed
 use Rattle.descriptors.proofs.SuperSpeed as superspeed
-use Rattle.sets.specs.Contents.{entriesOf}
-use Rattle.sets.specs.Device.{bDeviceClass, bDeviceSubClass, bMaxPacketSize0, bNumConfigurations, deviceBody, goodDeviceEntries}
-use Rattle.sets.specs.Opening.{Board, lent, lentTwo, goodDevices, opening}
+use Rattle.sets.specs.Device.{bDeviceClass, bDeviceSubClass, bMaxPacketSize0, bNumConfigurations, deviceBody}
+use Rattle.sets.specs.Opening.{Board, lent, lentTwo, oneDevice, goodDevices, opening}
+use Rattle.sets.specs.Pieces.{Piece, piecesIn, piecesOf}
 use Rattle.sets.specs.View.{openingBy, openingOf, accepted}
 use Rattle.sets.proofs.Groups.{groups, one-device}
 use Rattle.sets.proofs.Pair.{opened}
@@ -36,9 +36,9 @@ pub keepsConfigurations : (limits : Limits) → limits .companions ≡ false →
 unfolding goodDescriptors
 keepsConfigurations limits p size d ds = rw (p, and-true)
 
-pub keepsDevices : (limits : Limits) → named (limits .entries) 15 ≡ false → (set : List ℕ) → goodDevices limits set ≡ goodDeviceEntries limits set (entriesOf 1 set)
+pub keepsDevices : (limits : Limits) → named (limits .entries) 15 ≡ false → (ps : List Piece) → goodDevices limits ps ≡ oneDevice limits ps
 unfolding goodDevices
-keepsDevices limits p set = rw p
+keepsDevices limits p ps = rw p
 
 pub fullSpeedKeeps : (fullSpeed .companions ≡ false) × (named (fullSpeed .entries) 15 ≡ false)
 fullSpeedKeeps = (refl, refl)
@@ -53,9 +53,9 @@ highSpeedKeeps = (refl, refl)
 control : (limits : Limits) (b : Board) → opening limits b ≡ 0 → doubled (limits .control) (bMaxPacketSize0 (deviceBody (b .set))) ≡ true
 control limits b p =
     let d = deviceBody (b .set) in
-    let n = length (entriesOf 2 (b .set)) in
+    let n = length (piecesOf 2 (piecesIn (b .set))) in
     let rules = eqb (length d) 18 ∷ eqb (byte d 0) 18 ∷ eqb (byte d 1) 1 ∷ doubled (limits .control) (bMaxPacketSize0 d) ∷ (eqb (bDeviceClass d) 0 ⇒ eqb (bDeviceSubClass d) 0) ∷ leb 1 (bNumConfigurations d) ∷ leb (bNumConfigurations d) 8 ∷ eqb (bNumConfigurations d) n ∷ [] in
-    conjunct 3 rules (goodDeviceOf limits (b .set) (entriesOf 1 (b .set)) (one-device limits b (groups limits b p)))
+    conjunct 3 rules (goodDeviceOf limits (piecesIn (b .set)) (one-device limits b (groups limits b p)))
 
 pub notTwoKinds : (k l : Limits) → ((size : ℕ) → doubled (k .control) size ≡ true → doubled (l .control) size ≡ true → ⊥) → (b : Board) → opening k b ≡ 0 → opening l b ≡ 0 → ⊥
 notTwoKinds k l apart b p q = apart (bMaxPacketSize0 (deviceBody (b .set))) (control k b p) (control l b q)

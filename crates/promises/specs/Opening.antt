@@ -11,6 +11,7 @@ use Rattle.octets.specs.Sentences.{pick, every}
 use Rattle.descriptors.specs.declared.Limits.{Limits}
 use Rattle.descriptors.specs.Limits.{fullSpeed}
 use Rattle.sets.specs.Contents.{goodFrame, goodContents}
+use Rattle.sets.specs.Pieces.{piecesIn}
 use Rattle.sets.specs.Strings.{goodStrings}
 use Rattle.sets.specs.Opening.{Board, goodDevices, goodConfigurations, goodBlock, opening}
 use Rattle.promises.specs.Examples.{computed, S}
@@ -20,8 +21,8 @@ use Rattle.promises.specs.Bench.{opens, stands}
 -- frame, contents, device, configurations, strings, serial block: the first is group 1
 abbrev pub groups : Limits → Board → List Bool
 groups limits b =
-    goodFrame (b .set) ∷ goodContents limits (b .set) ∷ goodDevices limits (b .set) ∷ goodConfigurations limits (b .set) ∷
-    goodStrings (b .set) ∷ goodBlock (b .set) (b .serial) ∷ []
+    let ps = piecesIn (b .set) in
+    goodFrame (b .set) ∷ goodContents limits (b .set) ∷ goodDevices limits ps ∷ goodConfigurations limits ps ∷ goodStrings ps ∷ goodBlock ps (b .serial) ∷ []
 
 abbrev pub AllHold : List Bool → Type 0
 AllHold gs = every (λ g. g) gs ≡ true

@@ -3,7 +3,7 @@ use Prim.Native.Nat.{ℕ, _+_, _≤_}
 use native.Mathlib.Omega.{arith}
 use mathlib.Core.Path.{_≡_, refl, sym, _∙_}
 use mathlib.Core.List.{List, [], _∷_}
-use mathlib.Core.Bool.{Bool, true, false, _&&_, _||_, false≢true}
+use mathlib.Core.Bool.{Bool, true, false, _&&_, _||_}
 use mathlib.Core.Option.{Option, some, none}
 use lib.ListN.{length}
 use lib.Dec.{eqb, leb}
@@ -16,10 +16,9 @@ use Rattle.descriptors.specs.Configuration.{hasInterface, hasSetting, canHalt}
 use Rattle.descriptors.specs.Limits.{doubled}
 use Rattle.descriptors.specs.declared.Limits.{Limits}
 use Rattle.descriptors.proofs.HighSpeed.{control-64}
-use Rattle.sets.specs.declared.Entry.{Entry}
-use Rattle.sets.specs.Contents.{bodyOf, entriesOf}
-use Rattle.sets.specs.Device.{bMaxPacketSize0, goodDevice, goodDeviceEntries, headBody, deviceBody}
-use Rattle.sets.specs.Opening.{Board}
+use Rattle.sets.specs.Device.{bMaxPacketSize0, goodDevice, deviceBodyOf, deviceBody}
+use Rattle.sets.specs.Pieces.{Piece, piecesIn, piecesOf}
+use Rattle.sets.specs.Opening.{Board, oneDevice}
 use Rattle.sets.specs.View.{View, openingOf, accepted, wakes}
 use Rattle.records.specs.declared.Device.{Device}
 use Rattle.records.specs.Device.{atFullSpeed, atHighSpeed, inTestMode, settled}
@@ -40,6 +39,7 @@ use Rattle.events.specs.Requests.{byRecipient, isEndpointZero, deviceFeature, n
 use Rattle.events.specs.Step.{request, stateFor, withIndex, setupFor, refusalFor, answerSetup, step, event, setupEvent}
 use Rattle.packets.specs.Packets.{canCut}
 use Rattle.sets.proofs.Groups.{groups, one-device}
+use Rattle.sets.proofs.Pieces.{sole-good}
 use Rattle.laws.proofs.Outcomes.{ruled, chosen}
 use Rattle.promises.specs.Refusals.{eventNumber}
 
@@ -130,11 +130,8 @@ replyWithin b d s = chosen (Within (s .wLength)) (accepted b)
     (λ p. omega arith)
 
 -- the device descriptor of a set that opens
-pub goodDeviceOf : (limits : Limits) (set : List ℕ) (es : List Entry) → goodDeviceEntries limits set es ≡ true
-    → goodDevice limits (length (entriesOf 2 set)) (headBody set es) ≡ true
-goodDeviceOf limits set [] p = absurd (false≢true p)
-goodDeviceOf limits set (e ∷ []) p = both (eqb (e .index) 0 && eqb (e .language) 0) (goodDevice limits (length (entriesOf 2 set)) (bodyOf set e)) p .1
-goodDeviceOf limits set (e ∷ f ∷ es) p = absurd (false≢true p)
+pub goodDeviceOf : (limits : Limits) (ps : List Piece) → oneDevice limits ps ≡ true → goodDevice limits (length (piecesOf 2 ps)) (deviceBodyOf ps) ≡ true
+goodDeviceOf limits ps p = sole-good (goodDevice limits (length (piecesOf 2 ps))) (piecesOf 1 ps) p
 
 -- "bMaxPacketSize0 is 8, 16, 32 or 64", at high speed 64: the sizes that can be cut
 abbrev cuttable : ℕ → Bool
@@ -152,7 +149,7 @@ sizeCuts b ok speed r w l =
     let row = rowFor (b .high) speed in
     let set = setFor b speed in
     let device = deviceBody set in
-    let good = goodDeviceOf row set (entriesOf 1 set) (one-device row (boardFor b speed) (groups row (boardFor b speed) (opensFor b speed (eqb-true (openingOf b) 0 ok)))) in
+    let good = goodDeviceOf row (piecesIn set) (one-device row (boardFor b speed) (groups row (boardFor b speed) (opensFor b speed (eqb-true (openingOf b) 0 ok)))) in
     let size = conjunct 3 (eqb (length device) 18 ∷ eqb (byte device 0) 18 ∷ eqb (byte device 1) 1 ∷ doubled (row .control) (bMaxPacketSize0 device) ∷ _ ∷ _ ∷ _ ∷ _ ∷ []) good in
     joined (of-row (b .high) speed (bMaxPacketSize0 device) size) (le-leb r w l)
 

@@ -6,7 +6,7 @@ use lib.ListN.{set, take, replicate}
 use Rattle.octets.specs.Sentences.{upTo}
 use Rattle.descriptors.specs.Limits.{fullSpeed}
 use Rattle.sets.specs.Opening.{Board, lent, opening}
-use Rattle.pieces.specs.Pieces.{Piece}
+use Rattle.sets.specs.Pieces.{Piece}
 use Rattle.promises.specs.Examples.{computed, piece, board, configuration, interface, endpoint, device, string, S, titratorDevice, titratorConfiguration, titratorStrings, titratorSerial, T}
 
 -- a board, and the number under which it opens

@@ -9,7 +9,7 @@ use Rattle.events.specs.declared.Answer.the-variants.{Refused}
 use Rattle.events.specs.declared.Event.the-variants.{BusReset}
 use Rattle.events.specs.Step.{event}
 use Rattle.listing.specs.Listing.{listing, line, acceptedWord}
-use Rattle.pieces.specs.Pieces.{Piece}
+use Rattle.sets.specs.Pieces.{Piece}
 use Rattle.promises.specs.Examples.{computed, piece, board, configuration, interface, endpoint, device, S}
 use Rattle.promises.specs.Rules.{Example, _opens_}
 use Rattle.promises.specs.Refusal.{freshImage}

@@ -12,7 +12,7 @@ use Rattle.sets.specs.Contents as contents
 use Rattle.sets.specs.Device.{deviceBody}
 use Rattle.sets.specs.Strings.{references}
 use Rattle.octets.specs.Octets.{Bytes}
-use Rattle.pieces.specs.Held.{piecesIn}
+use Rattle.sets.specs.Pieces.{piecesIn}
 use Rattle.pieces.specs.Laid.{laid}
 use Rattle.set_writer.specs.Writer.{opensAs, Filled}
 use Rattle.set_writer.proofs.Filling.{there}

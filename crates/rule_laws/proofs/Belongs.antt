@@ -7,14 +7,14 @@ use mathlib.Core.Bool.{Bool, true, false, not, false≢true}
 use mathlib.Core.Option.{some}
 use lib.Dec.{eqb, leb}
 use borrow.Author.Tests.{leb-true, le-leb}
-use Rattle.octets.specs.Sentences.{pick, every, first, pairs}
-use Rattle.octets.proofs.Sentences.{both, conjunct}
+use Rattle.octets.specs.Sentences.{pick, every, first}
+use Rattle.octets.proofs.Sentences.{both}
 use Rattle.descriptors.specs.declared.Limits.{Limits}
 use Rattle.descriptors.specs.Limits.{named, fullSpeed, pairedFull, highSpeed}
-use Rattle.descriptors.specs.Configuration.{goodConfiguration}
-use Rattle.sets.specs.Contents.{bodies, entries, entriesOf, total, bodiesAt}
+use Rattle.sets.specs.Contents.{entries, entriesOf, total, bodiesAt}
 use Rattle.sets.specs.Device.{deviceBody, iSerialNumber}
-use Rattle.sets.specs.Opening.{Board, numberedFrom, valueNonzero, distinctValues, goodConfigurations, opening}
+use Rattle.sets.specs.Opening.{Board, opening}
+use Rattle.sets.proofs.Groups.{each-rule}
 use Rattle.rules.specs.Findings.{Finding}
 use Rattle.rules.specs.Frame.{frameFindings, contentsFindings, noEntry}
 use Rattle.rules.specs.Device.{deviceFindings, serialFindings}
@@ -34,14 +34,6 @@ step false false n x y p q = refl
 step true false n x y p q = absurd (false≢true (sym p))
 step false true n x y p q = absurd (false≢true p)
 
--- group 4 holds: so does each body
-good-bodies : (limits : Limits) (set : List ℕ) → goodConfigurations limits set ≡ true → every (goodConfiguration limits) (bodies 2 set) ≡ true
-unfolding goodConfigurations
-good-bodies limits set g =
-    conjunct 1
-    (numberedFrom 0 (entriesOf 2 set) ∷ every (goodConfiguration limits) (bodies 2 set) ∷ every valueNonzero (bodies 2 set) ∷ pairs distinctValues (bodies 2 set) ∷ [])
-    g
-
 named-group : (limits : Limits) → limits .companions ≡ false → named (limits .entries) 15 ≡ false → (b : Board) → groupOf (first isBroken (findings limits b)) ≡ opening limits b
 unfolding findings opening
 named-group limits single storeless b =
@@ -55,7 +47,7 @@ named-group limits single storeless b =
     group-first 4 (configurationsFindings limits set) _ (configurations limits set 4 0 [] (entries set))
     ∙ step _ _ 4 _ _ (configurations-same limits set single) (λ g.
     group-first 5 (stringsFindings set) _ (group-5 set)
-    ∙ step _ _ 5 _ _ (strings-same limits set (good-bodies limits set g)) (λ s.
+    ∙ step _ _ 5 _ _ (strings-same limits set (each-rule limits set g .good)) (λ s.
     group-last 6 (serialFindings (iSerialNumber (deviceBody set)) (b .serial)) (serials (eqb (iSerialNumber (deviceBody set)) 0) (b .serial))
     ∙ step _ _ 6 0 0 (block-same set (b .serial)) (λ t. refl))))))
 

@@ -29,7 +29,8 @@ use Rattle.descriptors.proofs.CheckCompanions.{after}
 use Rattle.descriptors.proofs.CheckOrder.{kinds}
 use Rattle.descriptors.proofs.CheckWhole.{rest-same, unasked}
 use Rattle.sets.specs.declared.Entry.{Entry}
-use Rattle.sets.specs.Contents.{bodyOf, bodies, isKind, entries, hasIndex, hasNoLanguage}
+use Rattle.sets.specs.Contents.{bodyOf, isKind, entries}
+use Rattle.sets.specs.Pieces.{Piece, pieceWith, pieceFor, piecesIn, piecesOf, bodiesOf, bodyIs, hasIndex, hasNoLanguage}
 use Rattle.sets.specs.Opening.{numberedFrom, valueNonzero, distinctValues, goodConfigurations}
 use Rattle.sets.proofs.Configurations.{every-both, ordered}
 use Rattle.rules.specs.Findings.{Finding, asked, byteAt}
@@ -193,38 +194,39 @@ five : (i l g v s : Bool) → (i && (l && (g && (v && (s && true))))) ≡ (i && 
 five i l g v s = simp (and-true, and-assoc)
 
 configuration-same : (limits : Limits) → limits .companions ≡ false → (at n : ℕ) (distinct : Bool) (e : Entry) (body : List ℕ)
-    → allHold (configurationFindings limits at n distinct e body) ≡ (hasIndex n e && hasNoLanguage e && goodConfiguration limits body && valueNonzero body && distinct)
+    → allHold (configurationFindings limits at n distinct e body) ≡ (hasIndex n (pieceWith e body) && hasNoLanguage (pieceWith e body) && goodConfiguration limits body && valueNonzero body && distinct)
 unfolding every
 configuration-same limits single at n distinct e body =
     let v = valueNonzero body in
-    ap (λ b. hasIndex n e && (hasNoLanguage e && b))
+    let p = pieceWith e body in
+    ap (λ b. hasIndex n p && (hasNoLanguage p && b))
     (every-append (λ x. x .holds) (bodyFindings limits (e .offset) body) (asked 435 (byteAt (e .offset) 0 5) v ∷ asked 436 (byteAt (e .offset) 0 5) distinct ∷ [])
     ∙ ap (λ g. g && (v && (distinct && true))) (body-same limits single (e .offset) body))
-    ∙ five (hasIndex n e) (hasNoLanguage e) (goodConfiguration limits body) v distinct
+    ∙ five (hasIndex n p) (hasNoLanguage p) (goodConfiguration limits body) v distinct
 
 module _ (limits : Limits) (set : List ℕ) where
   -- the configurations that are left, from index n on
-  unfoldable goodFrom : ℕ → List (List ℕ) → List Entry → Bool
-  goodFrom n earlier es =
-      numberedFrom n es &&
-      every (goodConfiguration limits) (map (bodyOf set) es) &&
-      every valueNonzero (map (bodyOf set) es) &&
-      (every (distinctFrom earlier) (map (bodyOf set) es) && pairs distinctValues (map (bodyOf set) es))
+  unfoldable goodFrom : ℕ → List (List ℕ) → List Piece → Bool
+  goodFrom n earlier ps =
+      numberedFrom n ps &&
+      every (goodConfiguration limits) (map bodyIs ps) &&
+      every valueNonzero (map bodyIs ps) &&
+      (every (distinctFrom earlier) (map bodyIs ps) && pairs distinctValues (map bodyIs ps))
 
-  more : limits .companions ≡ false → (at n : ℕ) (earlier : List (List ℕ)) (e : Entry) (es : List Entry)
-      → (allHold (configurationFindings limits at n (distinctFrom earlier (bodyOf set e)) e (bodyOf set e)) && goodFrom (n + 1) (bodyOf set e ∷ earlier) es)
-      ≡ goodFrom n earlier (e ∷ es)
+  more : limits .companions ≡ false → (at n : ℕ) (earlier : List (List ℕ)) (e : Entry) (ps : List Piece)
+      → (allHold (configurationFindings limits at n (distinctFrom earlier (bodyOf set e)) e (bodyOf set e)) && goodFrom (n + 1) (bodyOf set e ∷ earlier) ps)
+      ≡ goodFrom n earlier (pieceFor set e ∷ ps)
   unfolding goodFrom numberedFrom every pairs
-  more single at n earlier e es =
+  more single at n earlier e ps =
       let b = bodyOf set e in
-      let bs = map (bodyOf set) es in
-      ap (λ c. c && goodFrom (n + 1) (b ∷ earlier) es) (configuration-same limits single at n (distinctFrom earlier b) e b)
+      let bs = map bodyIs ps in
+      ap (λ c. c && goodFrom (n + 1) (b ∷ earlier) ps) (configuration-same limits single at n (distinctFrom earlier b) e b)
       ∙ rw (distinct-more b earlier bs)
       (sym
-      (ordered (hasIndex n e) (hasNoLanguage e) (goodConfiguration limits b) (valueNonzero b) (distinctFrom earlier b)
-      (numberedFrom (n + 1) es) (every (goodConfiguration limits) bs) (every valueNonzero bs) (every (distinctFrom earlier) bs) (every (distinctValues b) bs) (pairs distinctValues bs)))
+      (ordered (hasIndex n (pieceFor set e)) (hasNoLanguage (pieceFor set e)) (goodConfiguration limits b) (valueNonzero b) (distinctFrom earlier b)
+      (numberedFrom (n + 1) ps) (every (goodConfiguration limits) bs) (every valueNonzero bs) (every (distinctFrom earlier) bs) (every (distinctValues b) bs) (pairs distinctValues bs)))
 
-  from-same : limits .companions ≡ false → (at n : ℕ) (earlier : List (List ℕ)) (es : List Entry) → allHold (configurationsFrom limits set at n earlier es) ≡ goodFrom n earlier (only (isKind 2) es)
+  from-same : limits .companions ≡ false → (at n : ℕ) (earlier : List (List ℕ)) (es : List Entry) → allHold (configurationsFrom limits set at n earlier es) ≡ goodFrom n earlier (piecesOf 2 (map (pieceFor set) es))
   unfolding every configurationsFrom only goodFrom numberedFrom pairs
   from-same single at n earlier [] = refl
   from-same single at n earlier (e ∷ es) = go (isKind 2 e) (from-same single (at + 8) (n + 1) (bodyOf set e ∷ earlier) es) (from-same single (at + 8) n earlier es)
@@ -235,12 +237,15 @@ module _ (limits : Limits) (set : List ℕ) where
       later : List Finding
       later = configurationsFrom limits set (at + 8) (n + 1) (bodyOf set e ∷ earlier) es
 
-      go : (b : Bool) → allHold later ≡ goodFrom (n + 1) (bodyOf set e ∷ earlier) (only (isKind 2) es)
-          → allHold (configurationsFrom limits set (at + 8) n earlier es) ≡ goodFrom n earlier (only (isKind 2) es)
-          → allHold (pick b (found ++ later) (configurationsFrom limits set (at + 8) n earlier es)) ≡ goodFrom n earlier (pick b (e ∷ only (isKind 2) es) (only (isKind 2) es))
-      go true p q = every-append (λ x. x .holds) found later ∙ ap (λ b. allHold found && b) p ∙ more single at n earlier e (only (isKind 2) es)
+      rest : List Piece
+      rest = piecesOf 2 (map (pieceFor set) es)
+
+      go : (b : Bool) → allHold later ≡ goodFrom (n + 1) (bodyOf set e ∷ earlier) rest
+          → allHold (configurationsFrom limits set (at + 8) n earlier es) ≡ goodFrom n earlier rest
+          → allHold (pick b (found ++ later) (configurationsFrom limits set (at + 8) n earlier es)) ≡ goodFrom n earlier (pick b (pieceFor set e ∷ rest) rest)
+      go true p q = every-append (λ x. x .holds) found later ∙ ap (λ b. allHold found && b) p ∙ more single at n earlier e rest
       go false p q = q
 
-  pub configurations-same : limits .companions ≡ false → allHold (configurationsFindings limits set) ≡ goodConfigurations limits set
+  pub configurations-same : limits .companions ≡ false → allHold (configurationsFindings limits set) ≡ goodConfigurations limits (piecesIn set)
   unfolding goodConfigurations goodFrom
-  configurations-same single = from-same single 4 0 [] (entries set) ∙ rw (all-distinct (bodies 2 set))
+  configurations-same single = from-same single 4 0 [] (entries set) ∙ rw (all-distinct (bodiesOf 2 (piecesIn set)))

@@ -1,7 +1,7 @@
 -- Groups 1, 2, 3 and 6: all their rules hold exactly where opening's definition of the group does. No axiom.
 use Prim.Native.Nat.{ℕ, _+_}
 use mathlib.Core.Path.{_≡_, refl, sym, ap, _∙_}
-use mathlib.Core.List.{List, [], _∷_}
+use mathlib.Core.List.{List, [], _∷_, map}
 use mathlib.Core.Bool.{Bool, true, false, _&&_, and-true, and-assoc}
 use lib.ListN.{length}
 use lib.Dec.{eqb}
@@ -11,9 +11,11 @@ use Rattle.descriptors.specs.declared.Limits.{Limits}
 use Rattle.descriptors.specs.Limits.{named}
 use Rattle.sets.specs.declared.Entry.{Entry}
 use Rattle.sets.specs.Contents.{total, bodiesAt, bodyOf, entries, entriesOf, longEnough, shortEnough, totalIsLength, countsEntry, atMost64Entries, byteThreeZero, contentsInside, goodFrame}
-use Rattle.sets.specs.Contents.{kindAllowed, bodyLongEnough, beginsAt, endsAtTotal, goodContents, hasIndex, hasNoLanguage}
+use Rattle.sets.specs.Contents.{kindAllowed, bodyLongEnough, beginsAt, endsAtTotal, goodContents}
+use Rattle.sets.specs.Pieces.{pieceFor, piecesIn, hasIndex, hasNoLanguage, sole}
+use Rattle.sets.proofs.Pieces.{of-kind, length-of}
 use Rattle.sets.specs.Checks.{isNext}
-use Rattle.sets.specs.Device.{deviceBody, iSerialNumber, has18Bytes, says18Bytes, isDevice, controlSize, subclassWithClass, countsConfiguration, atMost8Configurations, countIsEntries, goodDeviceEntries}
+use Rattle.sets.specs.Device.{deviceBody, iSerialNumber, has18Bytes, says18Bytes, isDevice, controlSize, subclassWithClass, countsConfiguration, atMost8Configurations, countIsEntries, goodDevice}
 use Rattle.sets.specs.Strings.{saysItsLength, typedString, evenLength, upTo254}
 use Rattle.sets.specs.Opening.{goodDevices, blockEmpty, atLeast4, goodSerial, goodBlock}
 use Rattle.sets.proofs.Entries.{contentsFrom, contents-all}
@@ -62,22 +64,23 @@ contents-same limits set =
     asked-same limits (total set) 4 true noEntry (bodiesAt set) (entries set) ∙ contents-all limits (total set) noEntry (bodiesAt set) (entries set)
 
 -- ---- group 3
-device-same : (limits : Limits) (set : List ℕ) (es : List Entry) → allHold (deviceEntryFindings limits set es) ≡ goodDeviceEntries limits set es
+device-same : (limits : Limits) (set : List ℕ) (es : List Entry) → allHold (deviceEntryFindings limits set es) ≡ sole (goodDevice limits (length (entriesOf 2 set))) (map (pieceFor set) es)
 unfolding every
 device-same limits set [] = refl
 device-same limits set (e ∷ []) =
     let d = bodyOf set e in
+    let p = pieceFor set e in
     sym
-    (and-assoc (hasIndex 0 e) (hasNoLanguage e) _
-    ∙ ap (λ b. hasIndex 0 e && (hasNoLanguage e && b))
+    (and-assoc (hasIndex 0 p) (hasNoLanguage p) _
+    ∙ ap (λ b. hasIndex 0 p && (hasNoLanguage p && b))
     (row-every true
     (has18Bytes d ∷ says18Bytes d ∷ isDevice d ∷ controlSize limits d ∷ subclassWithClass d ∷ countsConfiguration d ∷ atMost8Configurations d ∷ countIsEntries (length (entriesOf 2 set)) d ∷ [])))
 device-same limits set (e ∷ f ∷ es) = refl
 
 -- of a kind without BOS entries
-pub devices-same : (limits : Limits) → named (limits .entries) 15 ≡ false → (set : List ℕ) → allHold (deviceFindings limits set) ≡ goodDevices limits set
+pub devices-same : (limits : Limits) → named (limits .entries) 15 ≡ false → (set : List ℕ) → allHold (deviceFindings limits set) ≡ goodDevices limits (piecesIn set)
 unfolding goodDevices
-devices-same limits storeless set = rw storeless (device-same limits set (entriesOf 1 set))
+devices-same limits storeless set = rw (storeless, ← length-of set 2, ← of-kind set 1) (device-same limits set (entriesOf 1 set))
 
 -- ---- group 6
 even-first : (e f t a b : Bool) → (e && (f && (t && (a && (b && true))))) ≡ (f && t && e && a && b)
@@ -98,6 +101,6 @@ serial-same index block = go (eqb index 0)
     go true = and-true (blockEmpty block)
     go false = even-first (evenLength block) (atLeast4 block) (upTo254 block) (saysItsLength block) (typedString block)
 
-pub block-same : (set serial : List ℕ) → allHold (serialFindings (iSerialNumber (deviceBody set)) serial) ≡ goodBlock set serial
+pub block-same : (set serial : List ℕ) → allHold (serialFindings (iSerialNumber (deviceBody set)) serial) ≡ goodBlock (piecesIn set) serial
 unfolding goodBlock
 block-same set serial = serial-same (iSerialNumber (deviceBody set)) serial

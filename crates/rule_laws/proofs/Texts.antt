@@ -16,7 +16,8 @@ use Rattle.descriptors.specs.Companion.{goodCompanions}
 use Rattle.descriptors.specs.Configuration.{iConfiguration, bNumInterfaces, isConfiguration, headLongEnough, totalIsSize, bitSevenOne, lowBitsZero, powerWithin, countsInterface, atMost16Interfaces, behind, goodHead, goodDescriptors, goodConfiguration, configurationReferences}
 use Rattle.descriptors.proofs.CheckReferences.{ofInterface, references-all}
 use Rattle.sets.specs.declared.Entry.{Entry}
-use Rattle.sets.specs.Contents.{bodyOf, bodies, isKind, entries, entriesOf}
+use Rattle.sets.specs.Contents.{bodyOf, bodies, isKind, entries}
+use Rattle.sets.specs.Pieces.{Piece, pieceWith, pieceFor, piecesIn, piecesOf}
 use Rattle.sets.specs.Device.{deviceBody, iManufacturer, iProduct, iSerialNumber}
 use Rattle.sets.specs.Strings.{saysItsLength, typedString, evenLength, upTo254, goodString, isStringZero, stringZero, languages, listsOne, listsAtMostFour, isNonzero, ascends, goodLanguages, references, languageZero, listed, notSerial, goodReference, zeroIf, goodStrings}
 use Rattle.sets.proofs.Configurations.{every-both}
@@ -54,10 +55,10 @@ language-same start ls =
     (languages-same start 2 0 ls ∙ ap (λ b. every isNonzero ls && b) (sym (ascending ls)) ∙ twice (every isNonzero ls) (neighbours ascends ls))
     ∙ row-4 (listsOne ls) (listsAtMostFour ls) (every isNonzero ls) (neighbours ascends ls)
 
--- ---- the entries
--- what is asked of one entry
-abbrev asksOf : List ℕ → List ℕ → ℕ → Entry → Bool
-asksOf set ls serial e = goodString (bodyOf set e) && (languageZero e && ((isStringZero e ⇒ goodLanguages ls) && (listed ls e && notSerial serial e)))
+-- ---- the strings
+-- what is asked of one string
+abbrev asksOf : List ℕ → ℕ → Piece → Bool
+asksOf ls serial p = goodString (p .body) && (languageZero p && ((isStringZero p ⇒ goodLanguages ls) && (listed ls p && notSerial serial p)))
 
 if-zero : (z : Bool) (start : ℕ) (ls : List ℕ) → allHold (pick z (languageFindings start ls) []) ≡ (z ⇒ goodLanguages ls)
 unfolding every
@@ -68,21 +69,21 @@ entry-row : (a b c d lz x li ns : Bool) → (a && (b && ((c && d) && (lz && (x &
 entry-row a b c d lz x li ns = simp (and-true, and-assoc)
 
 entry-same : (ls : List ℕ) (serial at : ℕ) (e : Entry) (body : List ℕ)
-    → allHold (stringEntryFindings ls serial at e body)
-    ≡ (goodString body && (languageZero e && ((isStringZero e ⇒ goodLanguages ls) && (listed ls e && notSerial serial e))))
+    → allHold (stringEntryFindings ls serial at e body) ≡ asksOf ls serial (pieceWith e body)
 unfolding every
 entry-same ls serial at e body =
+    let p = pieceWith e body in
     let a = saysItsLength body in
     let b = typedString body in
     let c = evenLength body in
     let d = upTo254 body in
-    ap (λ x. a && (b && ((c && d) && (languageZero e && x))))
-    (every-append (λ x. x .holds) (pick (isStringZero e) (languageFindings (e .offset) ls) []) (asked 509 (byteAt 0 at 2) (listed ls e) ∷ asked 511 (byteAt 0 at 1) (notSerial serial e) ∷ [])
-    ∙ ap (λ x. x && (listed ls e && (notSerial serial e && true))) (if-zero (isStringZero e) (e .offset) ls))
-    ∙ entry-row a b c d (languageZero e) (isStringZero e ⇒ goodLanguages ls) (listed ls e) (notSerial serial e)
+    ap (λ x. a && (b && ((c && d) && (languageZero p && x))))
+    (every-append (λ x. x .holds) (pick (isStringZero p) (languageFindings (e .offset) ls) []) (asked 509 (byteAt 0 at 2) (listed ls p) ∷ asked 511 (byteAt 0 at 1) (notSerial serial p) ∷ [])
+    ∙ ap (λ x. x && (listed ls p && (notSerial serial p && true))) (if-zero (isStringZero p) (e .offset) ls))
+    ∙ entry-row a b c d (languageZero p) (isStringZero p ⇒ goodLanguages ls) (listed ls p) (notSerial serial p)
 
 module _ (set ls : List ℕ) (serial : ℕ) where
-  strings-each : (at : ℕ) (es : List Entry) → allHold (stringsFrom set ls serial at es) ≡ every (asksOf set ls serial) (only (isKind 3) es)
+  strings-each : (at : ℕ) (es : List Entry) → allHold (stringsFrom set ls serial at es) ≡ every (asksOf ls serial) (piecesOf 3 (map (pieceFor set) es))
   unfolding every stringsFrom only
   strings-each at [] = refl
   strings-each at (e ∷ es) = go (isKind 3 e) (strings-each (at + 8) es)
@@ -93,9 +94,11 @@ module _ (set ls : List ℕ) (serial : ℕ) where
       later : List Finding
       later = stringsFrom set ls serial (at + 8) es
 
-      go : (b : Bool) → allHold later ≡ every (asksOf set ls serial) (only (isKind 3) es)
-          → allHold (pick b found [] ++ later) ≡ every (asksOf set ls serial) (pick b (e ∷ only (isKind 3) es) (only (isKind 3) es))
-      go true p = every-append (λ x. x .holds) found later ∙ ap (λ b. allHold found && b) p ∙ ap (λ b. b && every (asksOf set ls serial) (only (isKind 3) es)) (entry-same ls serial at e (bodyOf set e))
+      rest : List Piece
+      rest = piecesOf 3 (map (pieceFor set) es)
+
+      go : (b : Bool) → allHold later ≡ every (asksOf ls serial) rest → allHold (pick b found [] ++ later) ≡ every (asksOf ls serial) (pick b (pieceFor set e ∷ rest) rest)
+      go true p = every-append (λ x. x .holds) found later ∙ ap (λ b. allHold found && b) p ∙ ap (λ b. b && every (asksOf ls serial) rest) (entry-same ls serial at e (bodyOf set e))
       go false p = p
 
 -- some, and what is asked of each of them
@@ -120,7 +123,7 @@ five a b c d f xs =
 module _ (set : List ℕ) where
   -- what is asked of one reference
   abbrev may : ℕ → Bool
-  may r = zeroIf (isNonzero r) (isSome (stringZero set)) && goodReference (languages set) (entriesOf 3 set) (iSerialNumber (deviceBody set)) r
+  may r = zeroIf (isNonzero r) (isSome (stringZero set)) && goodReference (languages set) (piecesOf 3 (piecesIn set)) (iSerialNumber (deviceBody set)) r
 
   reference-same : (start at k r : ℕ) → allHold (referenceFindings set start at k r) ≡ may r
   unfolding every
@@ -196,7 +199,7 @@ module _ (set : List ℕ) where
   device-same : allHold (deviceReferences set) ≡ (may (iManufacturer (deviceBody set)) && may (iProduct (deviceBody set)) && may (iSerialNumber (deviceBody set)))
   unfolding every
   device-same =
-      let good = goodReference (languages set) (entriesOf 3 set) (iSerialNumber (deviceBody set)) in
+      let good = goodReference (languages set) (piecesOf 3 (piecesIn set)) (iSerialNumber (deviceBody set)) in
       let m = iManufacturer (deviceBody set) in
       let p = iProduct (deviceBody set) in
       let s = iSerialNumber (deviceBody set) in
@@ -222,15 +225,15 @@ group-row true gs lz x li ns true gr = simp (and-true, and-assoc)
 group-row true gs lz x li ns false gr = simp and-false
 group-row false gs lz x li ns n gr = simp and-false
 
-pub strings-same : (limits : Limits) (set : List ℕ) → every (goodConfiguration limits) (bodies 2 set) ≡ true → allHold (stringsFindings set) ≡ goodStrings set
-unfolding every goodStrings
+pub strings-same : (limits : Limits) (set : List ℕ) → every (goodConfiguration limits) (bodies 2 set) ≡ true → allHold (stringsFindings set) ≡ goodStrings (piecesIn set)
+unfolding every goodStrings languages references
 strings-same limits set g =
-    let strings = entriesOf 3 set in
+    let strings = piecesOf 3 (piecesIn set) in
     let ls = languages set in
     let refs = references set in
     let serial = iSerialNumber (deviceBody set) in
     let there = isSome (stringZero set) in
-    let gs = every (λ e. goodString (bodyOf set e)) strings in
+    let gs = every (λ p. goodString (p .body)) strings in
     let lz = every languageZero strings in
     let li = every (listed ls) strings in
     let ns = every (notSerial serial) strings in
@@ -240,7 +243,7 @@ strings-same limits set g =
     (every-append (λ x. x .holds) (stringsFrom set ls serial 4 (entries set)) (deviceReferences set ++ referencesFrom set (entries set))
     ∙ ap (λ t. t && allHold (deviceReferences set ++ referencesFrom set (entries set)))
     (strings-each set ls serial 4 (entries set)
-    ∙ five (λ e. goodString (bodyOf set e)) languageZero (λ e. isStringZero e ⇒ goodLanguages ls) (listed ls) (notSerial serial) strings
+    ∙ five (λ p. goodString (p .body)) languageZero (λ p. isStringZero p ⇒ goodLanguages ls) (listed ls) (notSerial serial) strings
     ∙ ap (λ t. gs && (lz && (t && (li && ns)))) (every-any isStringZero (goodLanguages ls) strings ∙ ap (λ t. t ⇒ goodLanguages ls) (sym (first-any isStringZero strings))))
     ∙ ap (λ t. (gs && (lz && ((there ⇒ goodLanguages ls) && (li && ns)))) && t)
     (all-references set limits g ∙ every-both (λ r. zeroIf (isNonzero r) there) (goodReference ls strings serial) refs ∙ ap (λ t. t && gr) (every-any isNonzero there refs)))

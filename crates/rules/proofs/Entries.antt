@@ -3,7 +3,6 @@ use Prim.Native.Nat.{ℕ, zero, suc, _+_, _-_, _*_, _/_, _≤_, _<_}
 use native.Mathlib.Omega.{arith}
 use mathlib.Core.Path.{_≡_, refl, sym, ap, _∙_}
 use mathlib.Core.Logic.{_⊎_, inl, inr}
-use mathlib.Core.Option.{some}
 use mathlib.Core.List.{List, [], _∷_, _++_, List·Memᴰ, List·Memᴰ·not-nil, List·Memᴰ·cases-cons}
 use mathlib.Core.Bool.{Bool, true, false, _&&_, _||_, not}
 use lib.ListN.{length, drop, getElem?, length-drop, length-take}
@@ -11,21 +10,21 @@ use lib.Seq.{getD-drop, drop-drop}
 use lib.Dec.{eqb, leb, ltb}
 use borrow.Author.Tests.{eq-eqb, ne-eqb, le-leb, lt-leb, leb-true}
 use Rattle.octets.specs.Octets.{byte, word, Bytes}
-use Rattle.octets.specs.Sentences.{pick, every, isEmpty, isSome}
+use Rattle.octets.specs.Sentences.{pick, every, first, isEmpty, isSome}
 use Rattle.octets.specs.Table.{has, with}
-use Rattle.octets.proofs.Sentences.{same-test, first-some, only-member}
+use Rattle.octets.proofs.Sentences.{same-test, first-some}
 use Rattle.octets.proofs.Tables.{allOf, has-none, has-with}
 use Rattle.descriptors.specs.declared.Limits.{Limits}
 use Rattle.descriptors.specs.Configuration.{bConfigurationValue}
 use Rattle.sets.specs.declared.Entry.{Entry}
 use Rattle.sets.specs.declared.EntryFound.the-variants.{At, Nothing}
-use Rattle.sets.specs.Contents.{count, entryOf, entriesFrom, entries, bodyOf, isKind, entriesOf}
+use Rattle.sets.specs.Contents.{count, entryOf, entriesFrom, entries, bodyOf}
 use Rattle.sets.specs.Device.{deviceBody, iSerialNumber}
-use Rattle.sets.specs.Strings.{words, isStringZero, stringZero}
+use Rattle.sets.specs.Strings.{words}
 use Rattle.sets.specs.Opening.{distinctValues}
-use Rattle.sets.specs.Found.{found}
+use Rattle.sets.specs.Found.{found, isAt}
 use Rattle.sets.proofs.Devices.{at-same, at-missing}
-use Rattle.sets.proofs.Strings.{words-length}
+use Rattle.sets.proofs.Strings.{words-length, found-some}
 use Rattle.rules.specs.declared.Fault.{Fault}
 use Rattle.rules.specs.Findings.{Finding, asked, byteAt}
 use Rattle.rules.specs.Frame.{entryFindings, contentsAsked}
@@ -183,12 +182,12 @@ among (suc n) set k h e m = go (List·Memᴰ·cases-cons m) (λ l. among n set (
     go (inl p) later = entry-small set k h p
     go (inr l) later = later (rw drop-drop at l)
 
-pub zero-small : (set : List ℕ) {e : Entry} → Bytes set → stringZero set ≡ some e → length (bodyOf set e) < 65536
+pub zero-small : (set : List ℕ) {e : Entry} → Bytes set → found (first (isAt 3 0 0) (entries set)) ≡ At e → length (bodyOf set e) < 65536
 zero-small set {e} h p =
     let s = short set e in
-    let l = among (count set) set 4 h e (only-member (isKind 3) (entries set) (first-some isStringZero (entriesOf 3 set) p .0) .0) in
+    let l = among (count set) set 4 h e (first-some (isAt 3 0 0) (entries set) (found-some _ p) .0) in
     omega arith
 
-pub some-left : (es : List Entry) → leb 1 (length es) ≡ not (isEmpty es)
+pub some-left : {A : Type 0} (xs : List A) → leb 1 (length xs) ≡ not (isEmpty xs)
 some-left [] = refl
-some-left (e ∷ es) = le-leb 1 (length (e ∷ es)) (omega arith)
+some-left (x ∷ xs) = le-leb 1 (length (x ∷ xs)) (omega arith)

@@ -21,6 +21,7 @@ use Rattle.descriptors.specs.Check.{onward, beginning}
 use Rattle.sets.specs.declared.Entry.{Entry}
 use Rattle.sets.specs.Contents.{bodyOf, isKind, entries, entriesOf, total, bodiesAt}
 use Rattle.sets.specs.Device.{deviceBody, iSerialNumber}
+use Rattle.sets.specs.Pieces.{pieceWith}
 use Rattle.sets.specs.Strings.{isStringZero, languages}
 use Rattle.sets.specs.Opening.{Board}
 use Rattle.rules.specs.Findings.{Finding}
@@ -127,7 +128,7 @@ listed start at last (l ∷ ls) = listed start (at + 2) l ls
 
 string : (ls : List ℕ) (serial at : ℕ) (e : Entry) (body : List ℕ) → Of 5 (stringEntryFindings ls serial at e body)
 unfolding every
-string ls serial at e body = then 5 (pick (isStringZero e) (languageFindings (e .offset) ls) []) _ (choice 5 (isStringZero e) (languageFindings (e .offset) ls) [] (listed (e .offset) 2 0 ls) refl) refl
+string ls serial at e body = then 5 (pick (isStringZero (pieceWith e body)) (languageFindings (e .offset) ls) []) _ (choice 5 (isStringZero (pieceWith e body)) (languageFindings (e .offset) ls) [] (listed (e .offset) 2 0 ls) refl) refl
 
 strings : (set ls : List ℕ) (serial at : ℕ) (es : List Entry) → Of 5 (stringsFrom set ls serial at es)
 unfolding every stringsFrom

@@ -7,7 +7,7 @@ use lib.ListN.{length, drop}
 use lib.Dec.{eqb}
 use Rattle.octets.specs.Sentences.{pick, isSome}
 use Rattle.octets.specs.Table.{has}
-use Rattle.sets.specs.Contents.{entriesOf}
+use Rattle.sets.specs.Pieces.{piecesIn, piecesOf}
 use Rattle.sets.specs.Device.{deviceBody, iSerialNumber}
 use Rattle.sets.specs.Strings.{words, stringZero, languages, isNonzero, inEvery, mayRefer, zeroIf}
 use Rattle.rules.specs.declared.Fault.{Fault}
@@ -29,7 +29,7 @@ judged there serial table start at k r =
 pub record Judges (set : List ℕ) (there : Bool) (serial : ℕ) (table : List ℕ) : Type 0 where
   pub found : there ≡ isSome (stringZero set)
   pub index : serial ≡ iSerialNumber (deviceBody set)
-  pub named : (j : ℕ) → j < 256 → has table j ≡ inEvery (languages set) (entriesOf 3 set) j
+  pub named : (j : ℕ) → j < 256 → has table j ≡ inEvery (languages set) (piecesOf 3 (piecesIn set)) j
 
 -- string 0 of a set, empty where there is none
 pub record StringZero (set zero : List ℕ) (there : Bool) : Type 0 where

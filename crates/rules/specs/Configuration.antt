@@ -18,7 +18,8 @@ use Rattle.descriptors.specs.Configuration.{bNumInterfaces, isConfiguration, he
 use Rattle.descriptors.specs.Walk.{settingAt, before, standOf}
 use Rattle.descriptors.specs.Check.{onceInSetting, inNoSecondInterface, allCame, oneMayCome, onward, reachesLast, beginning}
 use Rattle.sets.specs.declared.Entry.{Entry}
-use Rattle.sets.specs.Contents.{bodyOf, isKind, entries, hasIndex, hasNoLanguage}
+use Rattle.sets.specs.Contents.{bodyOf, isKind, entries}
+use Rattle.sets.specs.Pieces.{pieceWith, hasIndex, hasNoLanguage}
 use Rattle.sets.specs.Opening.{valueNonzero, distinctValues}
 use Rattle.rules.specs.Findings.{Finding, asked, byteAt}
 
@@ -146,8 +147,8 @@ bodyFindings limits start body = cutFindings limits (length body) start (cut bod
 -- "indices 0 up by one, language 0, each body as below; bConfigurationValue nonzero and distinct between them"
 abbrev pub configurationFindings : Limits → ℕ → ℕ → Bool → Entry → List ℕ → List Finding
 configurationFindings limits at n distinct e body =
-    asked 401 (byteAt 0 at 1) (hasIndex n e) ∷
-    asked 402 (byteAt 0 at 2) (hasNoLanguage e) ∷
+    asked 401 (byteAt 0 at 1) (hasIndex n (pieceWith e body)) ∷
+    asked 402 (byteAt 0 at 2) (hasNoLanguage (pieceWith e body)) ∷
     (bodyFindings limits (e .offset) body ++ (asked 435 (byteAt (e .offset) 0 5) (valueNonzero body) ∷ asked 436 (byteAt (e .offset) 0 5) distinct ∷ []))
 
 -- a body beside those before it

@@ -6,7 +6,8 @@ use lib.ListN.{length}
 use lib.Dec.{eqb}
 use Rattle.descriptors.specs.declared.Limits.{Limits}
 use Rattle.sets.specs.declared.Entry.{Entry}
-use Rattle.sets.specs.Contents.{bodyOf, entriesOf, isOne, hasIndex, hasNoLanguage}
+use Rattle.sets.specs.Contents.{bodyOf, entriesOf}
+use Rattle.sets.specs.Pieces.{pieceFor, isOne, hasIndex, hasNoLanguage}
 use Rattle.sets.specs.Device.{has18Bytes, says18Bytes, isDevice, controlSize, subclassWithClass, countsConfiguration, atMost8Configurations, countIsEntries}
 use Rattle.sets.specs.Strings.{saysItsLength, typedString, evenLength, upTo254}
 use Rattle.sets.specs.Opening.{blockEmpty, atLeast4}
@@ -30,13 +31,13 @@ deviceCounts configurations start d =
 -- "one type 1 entry, index 0, language 0; 18 bytes". Entries ascend by type, so it is the first entry, at byte 4, and a second one stands at byte 12
 abbrev pub oneFindings : Limits → List ℕ → Entry → List Finding
 oneFindings limits set e =
-    asked 302 (byteAt 0 0 5) (hasIndex 0 e) ∷
-    asked 303 (byteAt 0 0 6) (hasNoLanguage e) ∷
+    asked 302 (byteAt 0 0 5) (hasIndex 0 (pieceFor set e)) ∷
+    asked 303 (byteAt 0 0 6) (hasNoLanguage (pieceFor set e)) ∷
     asked 304 (byteAt 0 0 10) (has18Bytes (bodyOf set e)) ∷
     (deviceHead limits (e .offset) (bodyOf set e) ++ deviceCounts (length (entriesOf 2 set)) (e .offset) (bodyOf set e))
 
 abbrev pub deviceEntryFindings : Limits → List ℕ → List Entry → List Finding
-deviceEntryFindings limits set [] = asked 301 (byteAt 0 0 4) (isOne []) ∷ []
+deviceEntryFindings limits set [] = asked 301 (byteAt 0 0 4) (isOne {A = Entry} []) ∷ []
 deviceEntryFindings limits set (e ∷ es) =
     asked 301 (byteAt 0 0 12) (isOne (e ∷ es)) ∷ oneFindings limits set e
 

@@ -9,6 +9,7 @@ use Rattle.descriptors.specs.Descriptor.{isInterface, iInterface}
 use Rattle.descriptors.specs.Configuration.{iConfiguration}
 use Rattle.sets.specs.declared.Entry.{Entry}
 use Rattle.sets.specs.Contents.{bodiesAt, bodyOf, isKind, entries, entriesOf}
+use Rattle.sets.specs.Pieces.{pieceWith, piecesIn, piecesOf}
 use Rattle.sets.specs.Device.{deviceBody, iManufacturer, iProduct, iSerialNumber}
 use Rattle.sets.specs.Strings.{saysItsLength, typedString, evenLength, upTo254, isStringZero, stringZero, languages, listsOne, listsAtMostFour, isNonzero, ascends, languageZero, listed, notSerial, goodReference, zeroIf}
 use Rattle.rules.specs.Findings.{Finding, asked, byteAt}
@@ -36,10 +37,11 @@ stringFindings start body =
 -- "No entry has the index iSerialNumber when that is nonzero"
 abbrev pub stringEntryFindings : List ℕ → ℕ → ℕ → Entry → List ℕ → List Finding
 stringEntryFindings ls serial at e body =
+    let p = pieceWith e body in
     stringFindings (e .offset) body ++
-    (asked 504 (byteAt 0 at 2) (languageZero e) ∷
-    (pick (isStringZero e) (languageFindings (e .offset) ls) [] ++
-    (asked 509 (byteAt 0 at 2) (listed ls e) ∷ asked 511 (byteAt 0 at 1) (notSerial serial e) ∷ [])))
+    (asked 504 (byteAt 0 at 2) (languageZero p) ∷
+    (pick (isStringZero p) (languageFindings (e .offset) ls) [] ++
+    (asked 509 (byteAt 0 at 2) (listed ls p) ∷ asked 511 (byteAt 0 at 1) (notSerial serial p) ∷ [])))
 
 -- the entries from `at` on
 unfoldable pub stringsFrom : List ℕ → List ℕ → ℕ → ℕ → List Entry → List Finding
@@ -53,7 +55,7 @@ stringsFrom set ls serial at (e ∷ es) =
 abbrev pub referenceFindings : List ℕ → ℕ → ℕ → ℕ → ℕ → List Finding
 referenceFindings set start at k r =
     asked 510 (byteAt start at k) (zeroIf (isNonzero r) (isSome (stringZero set))) ∷
-    asked 512 (byteAt start at k) (goodReference (languages set) (entriesOf 3 set) (iSerialNumber (deviceBody set)) r) ∷ []
+    asked 512 (byteAt start at k) (goodReference (languages set) (piecesOf 3 (piecesIn set)) (iSerialNumber (deviceBody set)) r) ∷ []
 
 -- the iInterface of every interface descriptor, from `at` on
 unfoldable pub interfacesFrom : List ℕ → ℕ → ℕ → Cutting → List Finding
@@ -79,5 +81,5 @@ deviceReferences set =
 -- "If there is any string entry .., index 0 is there", where it has to stand: first of all strings, behind the entries of the device and of the configurations
 abbrev pub stringsFindings : List ℕ → List Finding
 stringsFindings set =
-    asked 510 (byteAt 0 (12 + 8 * length (entriesOf 2 set)) 0) (zeroIf (not (isEmpty (entriesOf 3 set))) (isSome (stringZero set))) ∷
+    asked 510 (byteAt 0 (12 + 8 * length (entriesOf 2 set)) 0) (zeroIf (not (isEmpty (piecesOf 3 (piecesIn set)))) (isSome (stringZero set))) ∷
     (stringsFrom set (languages set) (iSerialNumber (deviceBody set)) 4 (entries set) ++ (deviceReferences set ++ referencesFrom set (entries set)))

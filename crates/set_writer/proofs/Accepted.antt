@@ -18,8 +18,8 @@ use Rattle.sets.specs.Contents.{entries, before, total, bodiesAt, endToEnd, goo
 use Rattle.sets.specs.Opening.{lent, opening}
 use Rattle.sets.specs.Found.{isAt}
 use Rattle.sets.proofs.Groups.{groups}
-use Rattle.pieces.specs.Pieces.{Piece, ends, pieces}
-use Rattle.pieces.specs.Held.{pieceFor, piecesIn}
+use Rattle.pieces.specs.Pieces.{ends, pieces}
+use Rattle.sets.specs.Pieces.{Piece, pieceFor, piecesIn}
 use Rattle.pieces.specs.Sorted.{precedes, sorted}
 use Rattle.pieces.specs.Laid.{laid}
 use Rattle.pieces.specs.Shuffled.{Shuffled, onward}

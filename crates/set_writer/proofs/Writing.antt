@@ -15,7 +15,8 @@ use Rattle.octets.proofs.Sentences.{or-left, or-right}
 use Rattle.descriptors.specs.declared.Limits.{Limits}
 use Rattle.sets.specs.Opening.{lent, opening}
 use Rattle.pieces.specs.declared.Counted.the-variants.{Broken, Pieces}
-use Rattle.pieces.specs.Pieces.{Piece, ends, pieces}
+use Rattle.pieces.specs.Pieces.{ends, pieces}
+use Rattle.sets.specs.Pieces.{Piece}
 use Rattle.pieces.specs.Sorted.{sorted}
 use Rattle.pieces.specs.Laid.{total, laid}
 use Rattle.pieces.proofs.Laid.{laid-parts, laid-length}

@@ -9,5 +9,6 @@ pub mod GoodStrings
 pub mod Groups
 pub mod Lookups
 pub mod Passing
+pub mod Pieces
 pub mod References
 pub mod Strings

@@ -2,7 +2,7 @@
 use Prim.Native.Nat.{ℕ, _+_, _≤_, _<_}
 use native.Mathlib.Omega.{arith}
 use mathlib.Core.Path.{_≡_, refl, sym, ap, _∙_}
-use mathlib.Core.List.{List, [], _∷_}
+use mathlib.Core.List.{List, [], _∷_, map}
 use mathlib.Core.Bool.{Bool, true, false, _&&_, _||_, not, and-true, and-false, or-true, or-false}
 use mathlib.Core.Logic.{_⊎_, inl, inr}
 use lib.ListN.{length, drop}
@@ -16,10 +16,11 @@ use Rattle.descriptors.specs.Limits.{named}
 use Rattle.octets.specs.Table.{has, with}
 use Rattle.octets.proofs.Tables.{with-long, allOf, has-none, has-all}
 use Rattle.sets.specs.declared.Entry.{Entry}
-use Rattle.sets.specs.Contents.{total, count, bodiesAt, isKind, before, endToEnd, entries, entriesOf, goodFrame, goodContents}
+use Rattle.sets.specs.Contents.{total, count, bodiesAt, before, endToEnd, entries, goodFrame, goodContents}
+use Rattle.sets.specs.Pieces.{Piece, pieceFor, piecesIn, piecesOf, kindOf}
 use Rattle.sets.specs.Strings.{words, isString, inEvery, goodLanguages, goodReference}
-use Rattle.sets.specs.Checks.{goodStringEntry, noNames, Ordered}
-use Rattle.sets.proofs.Entries.{rest, restOf, rest-start, every-cons, any-cons, only-here, only-later, only-empty}
+use Rattle.sets.specs.Checks.{goodStringPiece, noNames, Ordered}
+use Rattle.sets.proofs.Entries.{rest, rest-start, every-cons, any-cons, only-here, only-later, only-empty}
 use Rattle.sets.proofs.Strings.{any-only, entry-in, entry-past, words-more, words-end, languages-few, with-serial}
 
 -- ---- once groups 1 and 2 are met
@@ -58,33 +59,38 @@ later-on l e f p h = kinds h (either (ltb (e .kind) (f .kind)) _ p)
         let (s, r) = both (eqb (e .kind) (f .kind)) _ q in
         languages k (eqb-true (e .kind) (f .kind) s) b (either (ltb (e .language) (f .language)) _ r)
 
-module _ (j : ℕ) (e : Entry) (es : List Entry) where
-  other-kind : (m : ℕ) → (e .kind ≡ 3 → ⊥) → any (isString j m) (only (isKind 3) (e ∷ es)) ≡ any (isString j m) (only (isKind 3) es)
-  other-kind m h = any-only (isString j m) (isKind 3) e es ∙ rw (ne-eqb (e .kind) 3 h)
+module _ (j : ℕ) (p : Piece) (ps : List Piece) where
+  other-kind : (m : ℕ) → (p .kind ≡ 3 → ⊥) → any (isString j m) (piecesOf 3 (p ∷ ps)) ≡ any (isString j m) (piecesOf 3 ps)
+  other-kind m h = any-only (isString j m) (kindOf 3) p ps ∙ rw (ne-eqb (p .kind) 3 h)
 
-  other-language : (m : ℕ) → (e .language ≡ m → ⊥) → any (isString j m) (only (isKind 3) (e ∷ es)) ≡ any (isString j m) (only (isKind 3) es)
-  other-language m h = any-only (isString j m) (isKind 3) e es ∙ rw (ne-eqb (e .language) m h) (simp and-false)
+  other-language : (m : ℕ) → (p .language ≡ m → ⊥) → any (isString j m) (piecesOf 3 (p ∷ ps)) ≡ any (isString j m) (piecesOf 3 ps)
+  other-language m h = any-only (isString j m) (kindOf 3) p ps ∙ rw (ne-eqb (p .language) m h) (simp and-false)
 
-  not-here : (l : ℕ) → Later l e → any (isString j l) (only (isKind 3) (e ∷ es)) ≡ any (isString j l) (only (isKind 3) es)
-  not-here l (inl a) = other-kind l (λ p. omega arith)
-  not-here l (inr (k, b)) = other-language l (λ p. omega arith)
+module _ (set : List ℕ) where
+  -- the strings of some entries
+  abbrev stringsOf : List Entry → List Piece
+  stringsOf es = piecesOf 3 (map (pieceFor set) es)
 
-none-later : (l j : ℕ) (e : Entry) (es : List Entry) → neighbours before (e ∷ es) ≡ true → Later l e → any (isString j l) (only (isKind 3) (e ∷ es)) ≡ false
-unfolding neighbours any only
-none-later l j e [] n h = not-here j e [] l h
-none-later l j e (f ∷ es) n h =
-    let (a, b) = both (before e f) (neighbours before (f ∷ es)) n in
-    not-here j e (f ∷ es) l h ∙ none-later l j f es b (later-on l e f a h)
+  not-here : (j : ℕ) (e : Entry) (es : List Entry) (l : ℕ) → Later l e → any (isString j l) (stringsOf (e ∷ es)) ≡ any (isString j l) (stringsOf es)
+  not-here j e es l (inl a) = other-kind j (pieceFor set e) (map (pieceFor set) es) l (λ p. omega arith)
+  not-here j e es l (inr (k, b)) = other-language j (pieceFor set e) (map (pieceFor set) es) l (λ p. omega arith)
 
--- ---- the languages ascend: an entry in none after this one is passed for them
-passed : (l j : ℕ) (e : Entry) (es : List Entry) (ls : List ℕ) → neighbours ltb (l ∷ ls) ≡ true → e .language ≤ l
-    → inEvery ls (only (isKind 3) (e ∷ es)) j ≡ inEvery ls (only (isKind 3) es) j
-unfolding neighbours every
-passed l j e es [] q h = refl
-passed l j e es (m ∷ ls) q h =
-    let (a, b) = both (ltb l m) (neighbours ltb (m ∷ ls)) q in
-    let c = ltb-true l m a in
-    rw (other-language j e es m (λ p. omega arith), passed m j e es ls b (omega arith))
+  none-later : (l j : ℕ) (e : Entry) (es : List Entry) → neighbours before (e ∷ es) ≡ true → Later l e → any (isString j l) (stringsOf (e ∷ es)) ≡ false
+  unfolding neighbours any only
+  none-later l j e [] n h = not-here j e [] l h
+  none-later l j e (f ∷ es) n h =
+      let (a, b) = both (before e f) (neighbours before (f ∷ es)) n in
+      not-here j e (f ∷ es) l h ∙ none-later l j f es b (later-on l e f a h)
+
+  -- ---- the languages ascend: an entry in none after this one is passed for them
+  passed : (l j : ℕ) (e : Entry) (es : List Entry) (ls : List ℕ) → neighbours ltb (l ∷ ls) ≡ true → e .language ≤ l
+      → inEvery ls (stringsOf (e ∷ es)) j ≡ inEvery ls (stringsOf es) j
+  unfolding neighbours every
+  passed l j e es [] q h = refl
+  passed l j e es (m ∷ ls) q h =
+      let (a, b) = both (ltb l m) (neighbours ltb (m ∷ ls)) q in
+      let c = ltb-true l m a in
+      rw (other-language j (pieceFor set e) (map (pieceFor set) es) m (λ p. omega arith), passed m j e es ls b (omega arith))
 
 neighbours-tail : {A : Type 0} (r : A → A → Bool) (x : A) (xs : List A) → neighbours r (x ∷ xs) ≡ true → neighbours r xs ≡ true
 unfolding neighbours
@@ -95,7 +101,7 @@ in-none : (j l : ℕ) (ls : List ℕ) → inEvery (l ∷ ls) [] j ≡ false
 unfolding every any
 in-none j l ls = refl
 
-no-more : (es : List Entry) (j : ℕ) → inEvery [] es j ≡ true
+no-more : (es : List Piece) (j : ℕ) → inEvery [] es j ≡ true
 unfolding every
 no-more es j = refl
 
@@ -127,9 +133,9 @@ module _ (set languages : List ℕ) (serial : ℕ) where
     pub ascend : neighbours ltb (words (drop at languages)) ≡ true
     pub known : (x : ℕ) → member x (words (drop at languages)) ≡ true → member x (words (drop 2 languages)) ≡ true
     pub sorted : neighbours before (rest set i) ≡ true
-    pub good : every (goodStringEntry set (words (drop 2 languages)) serial) (entriesOf 3 set) ≡ every (goodStringEntry set (words (drop 2 languages)) serial) (restOf 3 set i)
-    pub named : (j : ℕ) → j < 256 → inEvery (words (drop 2 languages)) (entriesOf 3 set) j
-        ≡ ((has next j || (has table j && any (isString j language) (restOf 3 set i))) && inEvery (words (drop (at + 2) languages)) (restOf 3 set i) j)
+    pub good : every (goodStringPiece (words (drop 2 languages)) serial) (piecesOf 3 (piecesIn set)) ≡ every (goodStringPiece (words (drop 2 languages)) serial) (stringsOf set (rest set i))
+    pub named : (j : ℕ) → j < 256 → inEvery (words (drop 2 languages)) (piecesOf 3 (piecesIn set)) j
+        ≡ ((has next j || (has table j && any (isString j language) (stringsOf set (rest set i)))) && inEvery (words (drop (at + 2) languages)) (stringsOf set (rest set i)) j)
 
   pub begins : Ordered set → goodLanguages (words (drop 2 languages)) ≡ true → Passing (allOf 4294967295) (allOf 0) 2 (word languages 2) 0
   begins o g =
@@ -144,10 +150,10 @@ module _ (set languages : List ℕ) (serial : ℕ) where
         ascend = both (leb 1 (length (words (drop 2 languages))) && leb (length (words (drop 2 languages))) 4 && every (λ l. leb 1 l) (words (drop 2 languages))) (neighbours ltb (words (drop 2 languages))) g .1;
         known = λ x p. p;
         sorted = sym (ap (neighbours before) (rest-start set)) ∙ o .sorted;
-        good = ap (λ es. every (goodStringEntry set (words (drop 2 languages)) serial) (only (isKind 3) es)) (rest-start set);
-        named = λ j l. ap (λ es. inEvery (words (drop 2 languages)) (only (isKind 3) es) j) (rest-start set)
-            ∙ ap (λ ws. inEvery ws (restOf 3 set 0) j) h
-            ∙ every-cons (λ m. any (isString j m) (restOf 3 set 0)) (word languages 2) (words (drop 4 languages))
+        good = ap (λ es. every (goodStringPiece (words (drop 2 languages)) serial) (stringsOf set es)) (rest-start set);
+        named = λ j l. ap (λ es. inEvery (words (drop 2 languages)) (stringsOf set es) j) (rest-start set)
+            ∙ ap (λ ws. inEvery ws (stringsOf set (rest set 0)) j) h
+            ∙ every-cons (λ m. any (isString j m) (stringsOf set (rest set 0))) (word languages 2) (words (drop 4 languages))
             ∙ rw (has-none j, has-all j l);
       }
 
@@ -163,9 +169,9 @@ module _ (set languages : List ℕ) (serial : ℕ) where
         let m = ltb-true (at + 3) (length languages) b in
         let (k, l) = both (eqb (e .kind) 3) (ltb language (e .language)) kl in
         let h = words-more languages (at + 2) (omega arith) in
-        let n : (j : ℕ) → any (isString j language) (restOf 3 set i) ≡ false = λ j.
-        ap (λ es. any (isString j language) (only (isKind 3) es)) r
-        ∙ none-later language j e es (rw r at (s .sorted)) (inr (eqb-true (e .kind) 3 k, ltb-true language (e .language) l)) in
+        let n : (j : ℕ) → any (isString j language) (stringsOf set (rest set i)) ≡ false = λ j.
+        ap (λ es. any (isString j language) (stringsOf set es)) r
+        ∙ none-later set language j e es (rw r at (s .sorted)) (inr (eqb-true (e .kind) 3 k, ltb-true language (e .language) l)) in
         record {
           long = refl;
           there = omega arith;
@@ -175,7 +181,7 @@ module _ (set languages : List ℕ) (serial : ℕ) where
           sorted = s .sorted;
           good = s .good;
           named = λ j q. s .named j q
-              ∙ rw (n j, h, every-cons, has-none j) (moving (has next j) (has table j) (any (isString j (word languages (at + 2))) (restOf 3 set i)) _);
+              ∙ rw (n j, h, every-cons, has-none j) (moving (has next j) (has table j) (any (isString j (word languages (at + 2))) (stringsOf set (rest set i))) _);
         }
 
     sorted-on : (e : Entry) → rest set i ≡ e ∷ rest set (i + 1) → neighbours before (rest set (i + 1)) ≡ true
@@ -184,7 +190,7 @@ module _ (set languages : List ℕ) (serial : ℕ) where
     -- on to the next entry: this one is no string
     pub other : (e : Entry) → rest set i ≡ e ∷ rest set (i + 1) → (e .kind ≡ 3 → ⊥) → Passing table next at language (i + 1)
     other e r k =
-        let o : restOf 3 set i ≡ restOf 3 set (i + 1) = ap (only (isKind 3)) r ∙ only-later (isKind 3) e (rest set (i + 1)) (ne-eqb (e .kind) 3 k) in
+        let o : stringsOf set (rest set i) ≡ stringsOf set (rest set (i + 1)) = ap (stringsOf set) r ∙ only-later (kindOf 3) (pieceFor set e) (map (pieceFor set) (rest set (i + 1))) (ne-eqb (e .kind) 3 k) in
         record {
           long = s .long;
           there = s .there;
@@ -192,35 +198,35 @@ module _ (set languages : List ℕ) (serial : ℕ) where
           ascend = s .ascend;
           known = s .known;
           sorted = sorted-on e r;
-          good = s .good ∙ ap (every (goodStringEntry set (words (drop 2 languages)) serial)) o;
+          good = s .good ∙ ap (every (goodStringPiece (words (drop 2 languages)) serial)) o;
           named = λ j q. s .named j q
               ∙ ap (λ es. (has next j || (has table j && any (isString j language) es)) && inEvery (words (drop (at + 2) languages)) es j) o;
         }
 
     -- it is a string, and good or not
     good-turn : (e : Entry) → rest set i ≡ e ∷ rest set (i + 1) → e .kind ≡ 3
-        → every (goodStringEntry set (words (drop 2 languages)) serial) (entriesOf 3 set)
-        ≡ (goodStringEntry set (words (drop 2 languages)) serial e && every (goodStringEntry set (words (drop 2 languages)) serial) (restOf 3 set (i + 1)))
+        → every (goodStringPiece (words (drop 2 languages)) serial) (piecesOf 3 (piecesIn set))
+        ≡ (goodStringPiece (words (drop 2 languages)) serial (pieceFor set e) && every (goodStringPiece (words (drop 2 languages)) serial) (stringsOf set (rest set (i + 1))))
     good-turn e r k =
-        let f = goodStringEntry set (words (drop 2 languages)) serial in
-        s .good ∙ ap (every f) (ap (only (isKind 3)) r ∙ only-here (isKind 3) e (rest set (i + 1)) (eq-eqb (e .kind) 3 k)) ∙ every-cons f e _
+        let f = goodStringPiece (words (drop 2 languages)) serial in
+        s .good ∙ ap (every f) (ap (stringsOf set) r ∙ only-here (kindOf 3) (pieceFor set e) (map (pieceFor set) (rest set (i + 1))) (eq-eqb (e .kind) 3 k)) ∙ every-cons f (pieceFor set e) _
 
-    pub refused : (e : Entry) → rest set i ≡ e ∷ rest set (i + 1) → e .kind ≡ 3 → goodStringEntry set (words (drop 2 languages)) serial e ≡ false
-        → false ≡ every (goodStringEntry set (words (drop 2 languages)) serial) (entriesOf 3 set)
+    pub refused : (e : Entry) → rest set i ≡ e ∷ rest set (i + 1) → e .kind ≡ 3 → goodStringPiece (words (drop 2 languages)) serial (pieceFor set e) ≡ false
+        → false ≡ every (goodStringPiece (words (drop 2 languages)) serial) (piecesOf 3 (piecesIn set))
     refused e r k g = sym (good-turn e r k ∙ rw g)
 
     -- where it is in no language that comes after this one
     later-passed : (e : Entry) → e .kind ≡ 3 → (eqb (e .kind) 3 && ltb language (e .language) && ltb (at + 3) (length languages)) ≡ false → (j : ℕ) (es : List Entry)
-        → inEvery (words (drop (at + 2) languages)) (only (isKind 3) (e ∷ es)) j ≡ inEvery (words (drop (at + 2) languages)) (only (isKind 3) es) j
+        → inEvery (words (drop (at + 2) languages)) (stringsOf set (e ∷ es)) j ≡ inEvery (words (drop (at + 2) languages)) (stringsOf set es) j
     later-passed e k t j es = cases (ltb language (e .language))
         (λ p. let m = ltb-false (at + 3) (length languages) (rw (eq-eqb (e .kind) 3 k, p) at t) in
         rw (words-end languages (at + 2) (omega arith)) (no-more _ j ∙ sym (no-more _ j)))
         (λ p. let m = ltb-false language (e .language) p in
-        passed language j e es (words (drop (at + 2) languages)) (sym (ap (neighbours ltb) (s .here)) ∙ s .ascend) (omega arith))
+        passed set language j e es (words (drop (at + 2) languages)) (sym (ap (neighbours ltb) (s .here)) ∙ s .ascend) (omega arith))
 
     module _ (e : Entry) (r : rest set i ≡ e ∷ rest set (i + 1)) (k : e .kind ≡ 3)
         (t : (eqb (e .kind) 3 && ltb language (e .language) && ltb (at + 3) (length languages)) ≡ false)
-        (g : goodStringEntry set (words (drop 2 languages)) serial e ≡ true) where
+        (g : goodStringPiece (words (drop 2 languages)) serial (pieceFor set e) ≡ true) where
       pub skips : (eqb (e .kind) 3 && eqb (e .language) language && has table (e .index)) ≡ false → Passing table next at language (i + 1)
       skips p = record {
         long = s .long;
@@ -231,8 +237,8 @@ module _ (set languages : List ℕ) (serial : ℕ) where
         sorted = sorted-on e r;
         good = good-turn e r k ∙ rw g;
         named = λ j q. s .named j q
-            ∙ ap (λ es. (has next j || (has table j && any (isString j language) (only (isKind 3) es))) && inEvery (words (drop (at + 2) languages)) (only (isKind 3) es) j) r
-            ∙ rw (later-passed e k t j (rest set (i + 1)), entry-past table next language e (rest set (i + 1)) j p);
+            ∙ ap (λ es. (has next j || (has table j && any (isString j language) (stringsOf set es))) && inEvery (words (drop (at + 2) languages)) (stringsOf set es) j) r
+            ∙ rw (later-passed e k t j (rest set (i + 1)), entry-past table next language (pieceFor set e) (map (pieceFor set) (rest set (i + 1))) j p);
       }
 
       pub takes : e .index < 256 → (eqb (e .kind) 3 && eqb (e .language) language && has table (e .index)) ≡ true → Passing table (with next (e .index)) at language (i + 1)
@@ -245,36 +251,39 @@ module _ (set languages : List ℕ) (serial : ℕ) where
         sorted = sorted-on e r;
         good = good-turn e r k ∙ rw g;
         named = λ j q. s .named j q
-            ∙ ap (λ es. (has next j || (has table j && any (isString j language) (only (isKind 3) es))) && inEvery (words (drop (at + 2) languages)) (only (isKind 3) es) j) r
-            ∙ rw (later-passed e k t j (rest set (i + 1)), entry-in table next language e (rest set (i + 1)) j (s .long) h p);
+            ∙ ap (λ es. (has next j || (has table j && any (isString j language) (stringsOf set es))) && inEvery (words (drop (at + 2) languages)) (stringsOf set es) j) r
+            ∙ rw (later-passed e k t j (rest set (i + 1)), entry-in table next language (pieceFor set e) (map (pieceFor set) (rest set (i + 1))) j (s .long) h p);
       }
 
     -- no entry is left
-    module _ (r : restOf 3 set i ≡ []) where
-      pub all-good : true ≡ every (goodStringEntry set (words (drop 2 languages)) serial) (entriesOf 3 set)
-      unfolding every
-      all-good = sym (s .good ∙ ap (every (goodStringEntry set (words (drop 2 languages)) serial)) r)
+    module _ (r : rest set i ≡ []) where
+      none-left : stringsOf set (rest set i) ≡ []
+      none-left = ap (stringsOf set) r ∙ only-empty (kindOf 3)
 
-      ended : (j : ℕ) → j < 256 → inEvery (words (drop 2 languages)) (entriesOf 3 set) j ≡ (has next j && inEvery (words (drop (at + 2) languages)) [] j)
+      pub all-good : true ≡ every (goodStringPiece (words (drop 2 languages)) serial) (piecesOf 3 (piecesIn set))
+      unfolding every
+      all-good = sym (s .good ∙ ap (every (goodStringPiece (words (drop 2 languages)) serial)) none-left)
+
+      ended : (j : ℕ) → j < 256 → inEvery (words (drop 2 languages)) (piecesOf 3 (piecesIn set)) j ≡ (has next j && inEvery (words (drop (at + 2) languages)) [] j)
       unfolding any
       ended j q = s .named j q
-          ∙ ap (λ es. (has next j || (has table j && any (isString j language) es)) && inEvery (words (drop (at + 2) languages)) es j) r
+          ∙ ap (λ es. (has next j || (has table j && any (isString j language) es)) && inEvery (words (drop (at + 2) languages)) es j) none-left
           ∙ rw (and-false, or-false)
 
       names-none : at + 3 < length languages → serial < 256 → (j : ℕ) → j < 256
-          → has (with (with noNames serial) 0) j ≡ goodReference (words (drop 2 languages)) (entriesOf 3 set) serial j
+          → has (with (with noNames serial) 0) j ≡ goodReference (words (drop 2 languages)) (piecesOf 3 (piecesIn set)) serial j
       names-none m h j q =
           with-serial noNames serial j h refl
           ∙ rw (has-none j, ended j q, words-more languages (at + 2) (omega arith), in-none j (word languages (at + 2)) (words (drop (at + 2 + 2) languages)), and-false)
 
       names-last : length languages ≤ at + 3 → serial < 256 → (j : ℕ) → j < 256
-          → has (with (with next serial) 0) j ≡ goodReference (words (drop 2 languages)) (entriesOf 3 set) serial j
+          → has (with (with next serial) 0) j ≡ goodReference (words (drop 2 languages)) (piecesOf 3 (piecesIn set)) serial j
       names-last m h j q =
           with-serial next serial j h (s .long)
           ∙ rw (ended j q, words-end languages (at + 2) (omega arith), no-more [] j, and-true)
 
       pub names-read : serial < 256 → (j : ℕ) → j < 256
-          → has (with (with (pick (ltb (at + 3) (length languages)) noNames next) serial) 0) j ≡ goodReference (words (drop 2 languages)) (entriesOf 3 set) serial j
+          → has (with (with (pick (ltb (at + 3) (length languages)) noNames next) serial) 0) j ≡ goodReference (words (drop 2 languages)) (piecesOf 3 (piecesIn set)) serial j
       names-read h j q = cases (ltb (at + 3) (length languages))
           (λ p. rw p (names-none (ltb-true (at + 3) (length languages) p) h j q))
           (λ p. rw p (names-last (ltb-false (at + 3) (length languages) p) h j q))

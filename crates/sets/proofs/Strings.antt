@@ -5,7 +5,7 @@ use native.Mathlib.Omega.{arith}
 use mathlib.Core.Path.{_≡_, refl, sym, ap, _∙_}
 use mathlib.Core.List.{List, [], _∷_}
 use mathlib.Core.Bool.{Bool, true, false, _&&_, _||_, and-false, and-assoc, or-true, or-false, or-assoc}
-use mathlib.Core.Option.{Option, some, none}
+use mathlib.Core.Option.{Option, some, none, Option·map}
 use lib.ListN.{length, drop, length-drop}
 use lib.Seq.{drop-cons}
 use lib.Dec.{eqb, leb, ltb}
@@ -18,8 +18,10 @@ use Rattle.octets.proofs.Tables.{with-long, has-with, allOf, has-none}
 use Rattle.sets.specs.declared.Entry.{Entry}
 use Rattle.sets.specs.declared.EntryFound.the-variants.{At, Nothing}
 use Rattle.sets.specs.Contents.{isKind, entries}
+use Rattle.sets.specs.Pieces.{Piece, pieceFor, piecesIn, piecesOf, kindOf}
 use Rattle.sets.specs.Strings.{words, isString, isStringZero, stringZero, languagesIn, languages, goodLanguages}
 use Rattle.sets.specs.Found.{found, isAt}
+use Rattle.sets.proofs.Pieces.{first-map}
 use Rattle.sets.proofs.Devices.{at-same, at-missing}
 
 -- ---- the numbers that a body lists, from a place on
@@ -99,21 +101,21 @@ past n t a true l s false p h = refl
 past n t a true false s true p h = refl
 past n t a true true s true p h = rw (sym (h refl) ∙ p)
 
-module _ (table next : List ℕ) (language : ℕ) (e : Entry) (es : List Entry) (j : ℕ) where
+module _ (table next : List ℕ) (language : ℕ) (e : Piece) (es : List Piece) (j : ℕ) where
   same-index : eqb (e .index) j ≡ true → has table (e .index) ≡ has table j
   same-index p = ap (has table) (eqb-true (e .index) j p)
 
   pub entry-in : length next ≡ 8 → e .index < 256 → (eqb (e .kind) 3 && eqb (e .language) language && has table (e .index)) ≡ true
-      → (has next j || (has table j && any (isString j language) (only (isKind 3) (e ∷ es))))
-      ≡ (has (with next (e .index)) j || (has table j && any (isString j language) (only (isKind 3) es)))
+      → (has next j || (has table j && any (isString j language) (piecesOf 3 (e ∷ es))))
+      ≡ (has (with next (e .index)) j || (has table j && any (isString j language) (piecesOf 3 es)))
   entry-in p h q =
       let (kl, t) = both (eqb (e .kind) 3 && eqb (e .language) language) (has table (e .index)) q in
       let (k, l) = both (eqb (e .kind) 3) (eqb (e .language) language) kl in
       rw (any-only, k, l, has-with next (e .index) h p j) (into (has next j) (has table j) _ (eqb (e .index) j) (λ x. sym (same-index x) ∙ t))
 
   pub entry-past : (eqb (e .kind) 3 && eqb (e .language) language && has table (e .index)) ≡ false
-      → (has next j || (has table j && any (isString j language) (only (isKind 3) (e ∷ es))))
-      ≡ (has next j || (has table j && any (isString j language) (only (isKind 3) es)))
+      → (has next j || (has table j && any (isString j language) (piecesOf 3 (e ∷ es))))
+      ≡ (has next j || (has table j && any (isString j language) (piecesOf 3 es)))
   entry-past q = rw any-only (past (has next j) (has table j) _ (eqb (e .kind) 3) (eqb (e .language) language) (has table (e .index)) (eqb (e .index) j) q same-index)
 
 -- ---- the table of what a reference may be: with the serial number's index and 0, and 0 alone
@@ -133,8 +135,11 @@ unfolding neighbours
 neighbours-one r x = refl
 
 -- ---- string 0, as it is looked up
-pub string-zero : (set : List ℕ) → stringZero set ≡ first (isAt 3 0 0) (entries set)
-string-zero set = first-only isStringZero (isKind 3) (entries set) ∙ first-alike _ (isAt 3 0 0) (entries set) (λ e m. sym (and-assoc (isKind 3 e) (eqb (e .index) 0) (eqb (e .language) 0)))
+pub string-zero : (set : List ℕ) → stringZero set ≡ Option·map (pieceFor set) (first (isAt 3 0 0) (entries set))
+string-zero set =
+    first-only isStringZero (kindOf 3) (piecesIn set)
+    ∙ first-map (pieceFor set) (λ p. kindOf 3 p && isStringZero p) (entries set)
+    ∙ ap (Option·map (pieceFor set)) (first-alike _ (isAt 3 0 0) (entries set) (λ e m. sym (and-assoc (isKind 3 e) (eqb (e .index) 0) (eqb (e .language) 0))))
 
 pub found-some : (o : Option Entry) {e : Entry} → found o ≡ At e → o ≡ some e
 found-some none p = at-missing (sym p)
@@ -145,12 +150,12 @@ found-none none p = refl
 found-none (some d) p = at-missing p
 
 module _ (set : List ℕ) where
-  pub zero-some : {e : Entry} → found (first (isAt 3 0 0) (entries set)) ≡ At e → stringZero set ≡ some e
-  zero-some p = string-zero set ∙ found-some _ p
+  pub zero-some : {e : Entry} → found (first (isAt 3 0 0) (entries set)) ≡ At e → stringZero set ≡ some (pieceFor set e)
+  zero-some p = string-zero set ∙ ap (Option·map (pieceFor set)) {x = first (isAt 3 0 0) (entries set)} (found-some _ p)
 
   pub zero-none : found (first (isAt 3 0 0) (entries set)) ≡ Nothing → stringZero set ≡ none
-  zero-none p = string-zero set ∙ found-none _ p
+  zero-none p = string-zero set ∙ ap (Option·map (pieceFor set)) {x = first (isAt 3 0 0) (entries set)} (found-none _ p)
 
-  pub languages-of : {o : Option Entry} → stringZero set ≡ o → languages set ≡ languagesIn set o
+  pub languages-of : {o : Option Piece} → stringZero set ≡ o → languages set ≡ languagesIn o
   unfolding languages
-  languages-of p = ap (languagesIn set) p
+  languages-of p = ap languagesIn p

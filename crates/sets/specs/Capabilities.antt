@@ -6,11 +6,6 @@ use mathlib.Core.Bool.{Bool, _&&_}
 use lib.ListN.{length}
 use lib.Dec.{eqb, leb}
 use Rattle.octets.specs.Octets.{word}
-use Rattle.sets.specs.declared.Entry.{Entry}
-use Rattle.sets.specs.Contents.{sole}
 
 abbrev pub goodStore : List ℕ → Bool
 goodStore body = leb 5 (length body) && eqb (word body 2) (length body)
-
-abbrev pub goodStoreEntries : List ℕ → List Entry → Bool
-goodStoreEntries = sole goodStore

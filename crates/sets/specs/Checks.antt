@@ -5,15 +5,17 @@ use mathlib.Core.List.{List, [], _∷_}
 use mathlib.Core.Bool.{Bool, true, _&&_, _||_, not}
 use lib.ListN.{length}
 use lib.Dec.{eqb}
-use Rattle.octets.specs.Sentences.{pick, every, neighbours}
+use Rattle.octets.specs.Sentences.{pick, every, neighbours, isEmpty}
 use Rattle.descriptors.specs.declared.Limits.{Limits}
+use Rattle.descriptors.specs.declared.check.Verdict.{Verdict}
 use Rattle.descriptors.specs.Configuration.{goodConfiguration}
 use Rattle.octets.specs.Table.{has}
 use Rattle.descriptors.specs.Check.{configurationRefers}
 use Rattle.sets.specs.declared.Entry.{Entry}
-use Rattle.sets.specs.Contents.{bodyOf, bodies, bodiesAt, entries, entriesOf, before, kindAllowed, bodyLongEnough, beginsAt, hasIndex, hasNoLanguage}
+use Rattle.sets.specs.Contents.{bodies, bodiesAt, entries, before, goodFrame, goodContents, kindAllowed, bodyLongEnough, beginsAt}
+use Rattle.sets.specs.Pieces.{Piece, pieceWith, piecesIn, piecesOf, hasIndex, hasNoLanguage}
 use Rattle.sets.specs.Device.{deviceBody, iManufacturer, iProduct, iSerialNumber}
-use Rattle.sets.specs.Opening.{valueNonzero}
+use Rattle.sets.specs.Opening.{goodDevices, valueNonzero}
 use Rattle.sets.specs.Strings.{goodString, goodLanguages, languageZero, languages, listed, notSerial, goodReference}
 
 -- an entry is the first, or comes after another
@@ -27,22 +29,22 @@ goodEntry limits first last start e = kindAllowed limits e && bodyLongEnough e &
 -- a configuration entry with index n, its body, and whether its value was there before
 abbrev pub goodNumbered : Limits → Entry → ℕ → List ℕ → Bool → Bool
 goodNumbered limits e n body seen =
-    hasIndex n e && hasNoLanguage e && goodConfiguration limits body && valueNonzero body && not seen
+    hasIndex n (pieceWith e body) && hasNoLanguage (pieceWith e body) && goodConfiguration limits body && valueNonzero body && not seen
 
--- what is asked of a string entry alone, once the languages are known
-abbrev pub goodStringEntry : List ℕ → List ℕ → ℕ → Entry → Bool
-goodStringEntry set languages serial e =
-    goodString (bodyOf set e) && languageZero e && listed languages e && notSerial serial e
+-- what is asked of a string alone, once the languages are known
+abbrev pub goodStringPiece : List ℕ → ℕ → Piece → Bool
+goodStringPiece languages serial p = goodString (p .body) && languageZero p && listed languages p && notSerial serial p
 
--- what is asked of the string entries, where string 0 lists these languages; without it, that there are none
+-- what is asked of the strings, where string 0 lists these languages; without it, that there are none
 abbrev pub goodListed : List ℕ → List ℕ → Bool
 goodListed set languages =
-    pick (goodLanguages languages) (every (goodStringEntry set languages (iSerialNumber (deviceBody set))) (entriesOf 3 set)) (eqb (length (entriesOf 3 set)) 0)
+    let strings = piecesOf 3 (piecesIn set) in
+    pick (goodLanguages languages) (every (goodStringPiece languages (iSerialNumber (deviceBody set))) strings) (isEmpty strings)
 
 -- what a reference may be, where string 0 lists these languages; without it, none
 abbrev pub mayName : List ℕ → List ℕ → ℕ → Bool
 mayName set languages r =
-    pick (goodLanguages languages) (goodReference languages (entriesOf 3 set) (iSerialNumber (deviceBody set)) r) (eqb r 0)
+    pick (goodLanguages languages) (goodReference languages (piecesOf 3 (piecesIn set)) (iSerialNumber (deviceBody set)) r) (eqb r 0)
 
 -- a table of nothing
 abbrev pub noNames : List ℕ
@@ -67,3 +69,15 @@ pub record Read (set names : List ℕ) (refer good : Bool) : Type 0 where
   pub entries : good ≡ goodListed set (languages set)
   pub named : good ≡ true → (j : ℕ) → j < 256 → has names j ≡ mayName set (languages set) j
   pub told : refer ≡ every (configurationRefers names) (bodies 2 set)
+
+-- groups 1 to 3 are met
+pub record Begins (limits : Limits) (set : List ℕ) : Type 0 where
+  pub frame : goodFrame set ≡ true
+  pub contents : goodContents limits set ≡ true
+  pub devices : goodDevices limits (piecesIn set) ≡ true
+
+-- what is read and walked through before groups 4 to 6 are asked: the strings, and the configurations with their references
+pub record Ready (set names : List ℕ) (good : Bool) (configurations : Verdict) : Type 0 where
+  pub entries : good ≡ goodListed set (languages set)
+  pub named : good ≡ true → (j : ℕ) → j < 256 → has names j ≡ mayName set (languages set) j
+  pub told : configurations .good ≡ true → configurations .refers ≡ every (configurationRefers names) (bodies 2 set)

@@ -5,10 +5,9 @@ use crate::contents::count_of;
 use crate::contents::entry_of;
 use descriptors::Limits;
 ghost use mathlib.Core.Path.{_≡_};
-ghost use Rattle.octets.specs.Sentences.{_⇒_};
-ghost use Rattle.descriptors.specs.Limits.{named};
-ghost use Rattle.sets.specs.Contents.{entriesOf};
-ghost use Rattle.sets.specs.Capabilities.{goodStore, goodStoreEntries};
+ghost use Rattle.sets.specs.Pieces.{piecesIn, piecesOf, sole};
+ghost use Rattle.sets.specs.Capabilities.{goodStore};
+ghost use Rattle.sets.specs.Opening.{oneStore};
 
 fn good_store(body: &[u8]) -> bool
     ensures { λ r. ⌜ r ≡ goodStore (now (body .entry)) ⌝ }
@@ -17,7 +16,7 @@ fn good_store(body: &[u8]) -> bool
 }
 
 fn good_store_entries(set: &[u8]) -> bool
-    ensures { λ r. ⌜ r ≡ goodStoreEntries (now (set .entry)) (entriesOf 15 (now (set .entry))) ⌝ }
+    ensures { λ r. ⌜ r ≡ sole goodStore (piecesOf 15 (piecesIn (now (set .entry)))) ⌝ }
 {
     if count_of(set, 15) != 1 {
         return false;
@@ -30,7 +29,7 @@ fn good_store_entries(set: &[u8]) -> bool
 
 // Asked only of a kind of set that has one.
 pub fn good_capabilities(set: &[u8], limits: Limits) -> bool
-    ensures { λ r. ⌜ r ≡ (named (limits .entries) 15 ⇒ goodStoreEntries (now (set .entry)) (entriesOf 15 (now (set .entry)))) ⌝ }
+    ensures { λ r. ⌜ r ≡ oneStore limits (piecesIn (now (set .entry))) ⌝ }
 {
     if descriptors::check::is_named(limits.entries, 15) {
         return good_store_entries(set);

@@ -14,6 +14,7 @@ ghost use mathlib.Core.Path.{_≡_};
 ghost use Rattle.octets.specs.Sentences.{first, any, every};
 ghost use Rattle.descriptors.specs.Check.{verdict, configurationRefers};
 ghost use Rattle.sets.specs.Contents.{entries, entriesOf, bodies};
+ghost use Rattle.sets.specs.Pieces.{piecesIn};
 ghost use Rattle.sets.specs.Found.{found, valued, canWake};
 ghost use Rattle.sets.specs.Opening.{goodConfigurations};
 ghost use Rattle.sets.specs.View.{entryByIndex};
@@ -45,7 +46,7 @@ fn good_configuration_entry(
 // Group 4, and whether every reference of the configurations is in `names`: a pass over the entries, with the index that is next and
 // the values that were there.
 pub fn good_configurations(set: &[u8], limits: Limits, names: &[u32; 8]) -> Verdict
-    ensures { λ r. ⌜ r ≡ verdict (goodConfigurations limits (now (set .entry))) (every (configurationRefers (now (names .entry))) (bodies 2 (now (set .entry)))) ⌝ }
+    ensures { λ r. ⌜ r ≡ verdict (goodConfigurations limits (piecesIn (now (set .entry)))) (every (configurationRefers (now (names .entry))) (bodies 2 (now (set .entry)))) ⌝ }
 {
     let count = octets::peek(set, 2);
     let mut index: u8 = 0;

@@ -9,9 +9,10 @@ use octets::table::holds;
 ghost use mathlib.Core.Path.{_≡_};
 ghost use Prim.Native.Nat.{_≤_};
 ghost use lib.ListN.{length};
-ghost use Rattle.sets.specs.Contents.{bodiesAt, entriesOf};
-ghost use Rattle.sets.specs.Device.{goodDevice, goodDeviceEntries, deviceBody, iSerialNumber};
-ghost use Rattle.sets.specs.Opening.{goodDevices, goodSerial};
+ghost use Rattle.sets.specs.Contents.{bodiesAt};
+ghost use Rattle.sets.specs.Pieces.{piecesIn};
+ghost use Rattle.sets.specs.Device.{goodDevice, deviceBody, iSerialNumber};
+ghost use Rattle.sets.specs.Opening.{oneDevice, goodDevices, goodSerial};
 ghost use Rattle.sets.specs.Checks.{deviceRefers};
 
 // The device descriptor, beside the number of type 2 entries.
@@ -41,7 +42,7 @@ pub fn device_body(set: &[u8]) -> &[u8]
 
 fn good_device_entries(set: &[u8], limits: Limits) -> bool
     requires { ⌜ bodiesAt (now set) ≤ length (now set) ⌝ }
-    ensures { λ r. ⌜ r ≡ goodDeviceEntries limits (now (set .entry)) (entriesOf 1 (now (set .entry))) ⌝ }
+    ensures { λ r. ⌜ r ≡ oneDevice limits (piecesIn (now (set .entry))) ⌝ }
 {
     if count_whole(set, 1) != 1 {
         return false;
@@ -60,7 +61,7 @@ fn good_device_entries(set: &[u8], limits: Limits) -> bool
 // Group 3, once the contents are whole.
 pub fn good_devices(set: &[u8], limits: Limits) -> bool
     requires { ⌜ bodiesAt (now set) ≤ length (now set) ⌝ }
-    ensures { λ r. ⌜ r ≡ goodDevices limits (now (set .entry)) ⌝ }
+    ensures { λ r. ⌜ r ≡ goodDevices limits (piecesIn (now (set .entry))) ⌝ }
 {
     good_capabilities(set, limits) & good_device_entries(set, limits)
 }

@@ -1,5 +1,6 @@
 // A descriptor set: its contents, and whether it may be opened.
 pub mod capabilities;
+pub mod checks;
 pub mod configuration;
 pub mod contents;
 pub mod device;
@@ -24,38 +25,18 @@ pub enum EntryFound {
     Nothing,
 }
 
-// What a pass over the string entries tells: whether they are good, and then the numbers that a reference may be.
-pub struct Reading {
-    pub good: bool,
-    pub names: [u32; 8],
-}
-
 // Opening: 0, or the number of the first group that is broken.
 pub fn opening(set: &[u8], serial: &[u8], limits: Limits) -> u8
     ensures { λ r. ⌜ r ≡ opening limits (lent (now (set .entry)) (now (serial .entry))) ⌝ }
 {
-    if !contents::good_frame(set) {
-        return 1;
-    }
-    if !contents::good_contents(set, limits) {
-        return 2;
-    }
-    if !device::good_devices(set, limits) {
-        return 3;
+    let first = checks::first_groups(set, limits);
+    if first != 0 {
+        return first;
     }
     // The strings are read first: the one walk through a configuration tells its references too.
     let languages = string::string_zero(set);
-    let strings = string::read(set, languages);
-    let names = strings.names;
+    let mut names = [0u32; 8];
+    let strings = string::read(set, languages, &mut names);
     let configurations = configuration::good_configurations(set, limits, &names);
-    if !configurations.good {
-        return 4;
-    }
-    if !string::good_strings(set, strings.good, &names, configurations.refers) {
-        return 5;
-    }
-    if !device::good_serial(device::serial_index(set), serial) {
-        return 6;
-    }
-    0
+    checks::last_groups(set, serial, configurations, strings, &names)
 }

@@ -1,7 +1,6 @@
 // The strings of a set. Group 5.
 use crate::Entry;
 use crate::EntryFound;
-use crate::Reading;
 use crate::contents::body_of;
 use crate::contents::count_of;
 use crate::contents::entry_at;
@@ -17,10 +16,10 @@ ghost use mathlib.Core.Bool.{true, _&&_, _||_};
 ghost use lib.ListN.{drop, getD};
 ghost use lib.Dec.{eqb, ltb};
 ghost use Rattle.octets.specs.Sentences.{pick, any, every, member};
-ghost use Rattle.sets.specs.Contents.{entriesOf};
+ghost use Rattle.sets.specs.Pieces.{pieceWith, piecesIn, piecesOf};
 ghost use Rattle.sets.specs.Strings.{words, isString, isStringZero, goodString, languageZero, notSerial, goodLanguages, languages, inEvery, goodReference, goodStrings};
 ghost use Rattle.octets.specs.Table.{has, with};
-ghost use Rattle.sets.specs.Checks.{goodStringEntry, goodListed, mayName, noNames, Ordered, Ascend, Read};
+ghost use Rattle.sets.specs.Checks.{goodStringPiece, goodListed, mayName, noNames, Ordered, Ascend, Read};
 
 // String 0 lists one to four languages, nonzero and ascending.
 fn good_languages(body: &[u8]) -> bool
@@ -99,7 +98,7 @@ fn is_listed(e: Entry, language: u16, table: &[u32; 8]) -> bool
 
 // Those in a table that have a string in a language.
 fn in_language(set: &[u8], language: u16, table: &[u32; 8]) -> [u32; 8]
-    ensures { λ r. ⌜ ((j : ℕ) → j < 256 → has r j ≡ (has (now (table .entry)) j && any (isString j language) (entriesOf 3 (now (set .entry))))) ⌝ }
+    ensures { λ r. ⌜ ((j : ℕ) → j < 256 → has r j ≡ (has (now (table .entry)) j && any (isString j language) (piecesOf 3 (piecesIn (now (set .entry)))))) ⌝ }
 {
     let count = octets::peek(set, 2);
     let mut next = [0u32; 8];
@@ -116,7 +115,7 @@ fn in_language(set: &[u8], language: u16, table: &[u32; 8]) -> [u32; 8]
 
 // The indices that have a string in every listed language, of any set: opening, which knows that the entries ascend, has them from one pass. `languages` is string 0.
 pub fn in_every_language(set: &[u8], languages: &[u8]) -> [u32; 8]
-    ensures { λ r. ⌜ ((j : ℕ) → j < 256 → has r j ≡ inEvery (words (drop 2 (now (languages .entry)))) (entriesOf 3 (now (set .entry))) j) ⌝ }
+    ensures { λ r. ⌜ ((j : ℕ) → j < 256 → has r j ≡ inEvery (words (drop 2 (now (languages .entry)))) (piecesOf 3 (piecesIn (now (set .entry)))) j) ⌝ }
 {
     let mut table = [4294967295u32; 8];
     let mut at = 2;
@@ -143,7 +142,7 @@ fn good_string(body: &[u8]) -> bool
 
 // A string entry, its body, and whether its language is listed. Each test ends it by itself: one after another they cost less than together.
 fn good_string_entry(body: &[u8], e: Entry, listed: bool, serial: u8) -> bool
-    ensures { λ r. ⌜ r ≡ (goodString (now (body .entry)) && languageZero e && (isStringZero e || listed) && notSerial serial e) ⌝ }
+    ensures { λ r. ⌜ (let p = pieceWith e (now (body .entry)) in r ≡ (goodString (p .body) && languageZero p && (isStringZero p || listed) && notSerial serial p)) ⌝ }
 {
     if !good_string(body) {
         return false;
@@ -178,35 +177,27 @@ fn is_later(e: Entry, language: u16, more: bool) -> bool
     (e.kind == 3) & (language < e.language) & more
 }
 
-// What was seen in the last language that is listed: nothing, where more are listed than the entries came to.
-fn seen_last(next: [u32; 8], more: bool) -> [u32; 8]
-    ensures { λ r. ⌜ r ≡ pick more noNames next ⌝ }
+// What a reference may be: what was seen in the last language that is listed, nothing where more are listed than the entries came to; and the serial number's
+// index and 0 besides.
+fn close(names: &mut [u32; 8], more: bool, serial: u8)
+    ensures { λ _. ⌜ now (names .exit) ≡ with (with (pick more noNames (now (names .entry))) serial) 0 ⌝ }
 {
     if more {
-        return [0u32; 8];
+        *names = [0u32; 8];
     }
-    next
-}
-
-// A table with what a reference may be besides: the serial number's index, and 0.
-fn with_serial(names: [u32; 8], serial: u8) -> [u32; 8]
-    ensures { λ r. ⌜ r ≡ with (with names serial) 0 ⌝ }
-{
-    let mut table = names;
-    join(&mut table, serial);
-    join(&mut table, 0);
-    table
+    join(names, serial);
+    join(names, 0);
 }
 
 // The string entries, where string 0 lists good languages: whether they are good, and then what a reference may be. One pass, since the entries ascend by language and
-// so do the languages: `table` has the indices that every language before this one has, `next` those of them that were seen in this one.
-fn read_listed(set: &[u8], languages: &[u8], serial: u8) -> Reading
+// so do the languages: `table` has the indices that every language before this one has, `names` those of them that were seen in this one.
+fn read_listed(set: &[u8], languages: &[u8], serial: u8, names: &mut [u32; 8]) -> bool
     requires { ⌜ Ascend (now set) (words (drop 2 (now languages))) ⌝ }
-    ensures { λ r. ⌜ (r .good ≡ every (goodStringEntry (now (set .entry)) (words (drop 2 (now (languages .entry)))) serial) (entriesOf 3 (now (set .entry)))) × (r .good ≡ true → (j : ℕ) → j < 256 → has (r .names) j ≡ goodReference (words (drop 2 (now (languages .entry)))) (entriesOf 3 (now (set .entry))) serial j) ⌝ }
+    ensures { λ r. ⌜ (r ≡ every (goodStringPiece (words (drop 2 (now (languages .entry)))) serial) (piecesOf 3 (piecesIn (now (set .entry))))) × (r ≡ true → (j : ℕ) → j < 256 → has (now (names .exit)) j ≡ goodReference (words (drop 2 (now (languages .entry)))) (piecesOf 3 (piecesIn (now (set .entry)))) serial j) ⌝ }
 {
     let count = octets::peek(set, 2);
     let mut table = [4294967295u32; 8];
-    let mut next = [0u32; 8];
+    *names = [0u32; 8];
     let mut at = 2;
     let mut language = octets::word(languages, 2);
     let mut i: u8 = 0;
@@ -215,51 +206,42 @@ fn read_listed(set: &[u8], languages: &[u8], serial: u8) -> Reading
         if is_later(e, language, at + 3 < languages.len()) {
             at += 2;
             language = octets::word(languages, at);
-            table = next;
-            next = [0u32; 8];
+            table = *names;
+            *names = [0u32; 8];
             continue;
         }
         i += 1;
         if e.kind == 3 {
             let listed = lists_beside(languages, language, e.language);
             if !good_string_entry(body_of(set, e), e, listed, serial) {
-                return Reading {
-                    good: false,
-                    names: next,
-                };
+                return false;
             }
             if is_listed(e, language, &table) {
-                join(&mut next, e.index);
+                join(names, e.index);
             }
         }
     }
-    let seen = seen_last(next, at + 3 < languages.len());
-    Reading {
-        good: true,
-        names: with_serial(seen, serial),
-    }
+    close(names, at + 3 < languages.len(), serial);
+    true
 }
 
-// The strings of a set; `languages` is string 0, without which there is no string.
-pub fn read(set: &[u8], languages: &[u8]) -> Reading
+// The strings of a set: whether they are good, and then what a reference may be, in the table that is lent; `languages` is string 0, without which there is no string.
+pub fn read(set: &[u8], languages: &[u8], names: &mut [u32; 8]) -> bool
     requires { ⌜ Ordered (now set) ⌝ }
-    ensures { λ r. ⌜ (r .good ≡ goodListed (now (set .entry)) (words (drop 2 (now (languages .entry))))) × (r .good ≡ true → (j : ℕ) → j < 256 → has (r .names) j ≡ mayName (now (set .entry)) (words (drop 2 (now (languages .entry)))) j) ⌝ }
+    ensures { λ r. ⌜ (r ≡ goodListed (now (set .entry)) (words (drop 2 (now (languages .entry))))) × (r ≡ true → (j : ℕ) → j < 256 → has (now (names .exit)) j ≡ mayName (now (set .entry)) (words (drop 2 (now (languages .entry)))) j) ⌝ }
 {
     if good_languages(languages) {
-        return read_listed(set, languages, serial_index(set));
+        return read_listed(set, languages, serial_index(set), names);
     }
-    let mut none = [0u32; 8];
-    join(&mut none, 0);
-    Reading {
-        good: count_of(set, 3) == 0,
-        names: none,
-    }
+    *names = [0u32; 8];
+    join(names, 0);
+    count_of(set, 3) == 0
 }
 
 // Group 5, once the strings are read and it is known whether the references of the configurations are in `names`.
 pub fn good_strings(set: &[u8], good: bool, names: &[u32; 8], refer: bool) -> bool
     requires { ⌜ Read (now set) (now names) refer good ⌝ }
-    ensures { λ r. ⌜ r ≡ goodStrings (now (set .entry)) ⌝ }
+    ensures { λ r. ⌜ r ≡ goodStrings (piecesIn (now (set .entry))) ⌝ }
 {
     refer & device_refers(set, names) & good
 }

@@ -2,29 +2,29 @@
 use Prim.Native.Nat.{ℕ, _%_, _<_}
 use native.Mathlib.Omega.{arith}
 use mathlib.Core.Path.{_≡_, refl, sym, _∙_}
-use mathlib.Core.Bool.{Bool, true, false, _&&_, not, false≢true}
-use mathlib.Core.List.{List, [], _∷_, List·Memᴰ}
+use mathlib.Core.Bool.{Bool, true, false, _&&_, false≢true}
+use mathlib.Core.List.{List, [], List·Memᴰ}
 use mathlib.Core.Option.{Option, some, none}
 use lib.ListN.{length}
-use lib.Dec.{eqb, leb, ltb}
+use lib.Dec.{eqb, ltb}
 use borrow.Author.Tests.{eqb-true, ltb-true, ltb-false}
 use Rattle.octets.specs.Bit.{bit}
-use Rattle.octets.specs.Sentences.{pick, every, any, first, pairs}
-use Rattle.octets.proofs.Sentences.{both, conjunct, every-map, every-member, any-member, first-some}
+use Rattle.octets.specs.Sentences.{pick, every, any, first}
+use Rattle.octets.proofs.Sentences.{both, every-map, every-member, any-member, first-some}
 use Rattle.descriptors.specs.declared.Limits.{Limits}
 use Rattle.descriptors.specs.Cut.{cut, cutAfter, descriptorsOf, wellCut}
 use Rattle.descriptors.specs.Interfaces.{grouped, endpointsOf}
-use Rattle.descriptors.specs.Configuration.{Configuration, hasInterface, bConfigurationValue, goodDescriptors, goodConfiguration, groupsOf, configurationOf}
+use Rattle.descriptors.specs.Configuration.{Configuration, hasInterface, goodDescriptors, goodConfiguration, groupsOf, configurationOf}
 use Rattle.descriptors.specs.Survey.{TellsInterfaces}
 use Rattle.sets.specs.declared.Entry.{Entry}
 use Rattle.sets.specs.declared.EntryFound.{EntryFound}
 use Rattle.sets.specs.declared.EntryFound.the-variants.{At, Nothing}
 use Rattle.sets.specs.Contents.{bodyOf, bodies, entriesOf}
-use Rattle.sets.specs.Opening.{Board, numberedFrom, goodConfigurations, opening}
+use Rattle.sets.specs.Opening.{Board, opening}
 use Rattle.sets.specs.Found.{found, valued, configurationFound}
 use Rattle.sets.specs.View.{byValue}
 use Rattle.octets.specs.Octets.{Bytes}
-use Rattle.sets.proofs.Groups.{Groups, groups}
+use Rattle.sets.proofs.Groups.{Groups, groups, each-rule}
 use Rattle.sets.proofs.Bodies.{bytes-part, soundConfiguration}
 use Rattle.sets.proofs.Strings.{found-some}
 use Rattle.sets.proofs.Lookups.{value-found}
@@ -62,12 +62,7 @@ module _ (set : List ℕ) where
 -- ---- the selected configuration's body of an accepted board
 module _ (limits : Limits) (b : Board) (h : Bytes (b .set)) (g : Groups limits b) (value : ℕ) where
   good : every (goodConfiguration limits) (bodies 2 (b .set)) ≡ true
-  unfolding goodConfigurations
-  good =
-      let set = b .set in
-      let rules = numberedFrom 0 (entriesOf 2 set) ∷ every (goodConfiguration limits) (bodies 2 set) ∷ every (λ x. leb 1 (bConfigurationValue x)) (bodies 2 set)
-      ∷ pairs (λ x y. not (eqb (bConfigurationValue x) (bConfigurationValue y))) (bodies 2 set) ∷ [] in
-      conjunct 1 rules (g .configurations)
+  good = each-rule limits (b .set) (g .configurations) .good
 
   none-usable : Usable []
   unfolding wellCut configurationOf groupsOf grouped cutAfter descriptorsOf any

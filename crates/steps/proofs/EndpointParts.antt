@@ -10,7 +10,7 @@ use lib.Seq.{take-take, drop-drop}
 use lib.Dec.{eqb, leb}
 use borrow.Author.Tests.{eq-eqb, ne-eqb, eqb-true, leb-true}
 use Rattle.octets.specs.Octets.{byte, part}
-use Rattle.octets.specs.Sentences.{pick, _⇒_, every, any, first, pairs, isSome}
+use Rattle.octets.specs.Sentences.{pick, _⇒_, any, first, isSome}
 use Rattle.octets.proofs.Sentences.{cases, if-then, conjunct, every-map, every-member, only-member, first-some}
 use Rattle.octets.proofs.Counting.{at-member}
 use Rattle.descriptors.specs.declared.Limits.{Limits}
@@ -29,10 +29,10 @@ use Rattle.sets.specs.declared.Entry.{Entry}
 use Rattle.sets.specs.declared.EntryFound.{EntryFound}
 use Rattle.sets.specs.declared.EntryFound.the-variants.{At, Nothing}
 use Rattle.sets.specs.Contents.{total, count, bodiesAt, bodyOf, isKind, bodies, entries, entriesOf, goodFrame}
-use Rattle.sets.specs.Opening.{Board, numberedFrom, goodConfigurations, opening}
+use Rattle.sets.specs.Opening.{Board, opening}
 use Rattle.sets.specs.Found.{found, valued, canWake, isFound}
 use Rattle.sets.specs.View.{View, viewOf, hasValue, wakes, openingOf, accepted}
-use Rattle.sets.proofs.Groups.{Groups, groups, inside}
+use Rattle.sets.proofs.Groups.{Groups, groups, each-rule, inside}
 use Rattle.sets.proofs.Bodies.{mapped}
 use Rattle.sets.proofs.Lookups.{value-there, wakes-found}
 use Rattle.records.specs.declared.Device.{Device}
@@ -147,12 +147,9 @@ module _ (limits : Limits) (b : Board) (opens : opening limits b ≡ 0) (d : Dev
 
   -- the body of a configuration's entry obeys the rules
   entry-good : (e : Entry) → List·Memᴰ e (entriesOf 2 (b .set)) → goodConfiguration limits (bodyOf (b .set) e) ≡ true
-  unfolding goodConfigurations
   entry-good e m =
       let set = b .set in
-      let rules = numberedFrom 0 (entriesOf 2 set) ∷ every (goodConfiguration limits) (bodies 2 set) ∷ every (λ x. leb 1 (bConfigurationValue x)) (bodies 2 set)
-      ∷ pairs (λ x y. not (eqb (bConfigurationValue x) (bConfigurationValue y))) (bodies 2 set) ∷ [] in
-      every-member (λ e. goodConfiguration limits (bodyOf set e)) (sym (every-map (goodConfiguration limits) (bodyOf set) (entriesOf 2 set)) ∙ conjunct 1 rules (g .configurations)) m
+      every-member (λ e. goodConfiguration limits (bodyOf set e)) (sym (every-map (goodConfiguration limits) (bodyOf set) (entriesOf 2 set)) ∙ each-rule limits set (g .configurations) .good) m
 
   in-entry : (e : Entry) → List·Memᴰ e (entriesOf 2 (b .set)) → (q : DescriptorAt) → List·Memᴰ q (currentDescriptors (d .alternates) (bodyOf (b .set) e)) → Stands limits (b .set) (inSet e q)
   in-entry e m q n =

@@ -2,6 +2,8 @@
 use descriptors::ConfigurationIndex;
 use descriptors::ConfigurationValue;
 use descriptors::survey;
+use descriptors::survey::Asked;
+use descriptors::survey::Survey;
 use events::Event;
 use events::facts::Facts;
 use events::facts::Located;
@@ -20,8 +22,10 @@ ghost use Rattle.octets.specs.Sentences.{pick};
 ghost use Rattle.sets.specs.Found.{isFound};
 ghost use Rattle.sets.specs.View.{hasValue};
 ghost use Rattle.events.specs.Requests.{languageFor, locateString, locate};
-ghost use Rattle.events.specs.Facts.{naming, questionOf, Tells};
+ghost use Rattle.records.specs.declared.Device.{Device};
+ghost use Rattle.events.specs.Facts.{naming, questionOf, askedBy, Tells};
 ghost use Rattle.steps.specs.Gathering.{configurationsIn, Openable, viewIn, bodyFound, located};
+ghost use Rattle.steps.specs.Selected.{Knows};
 
 // The question of a function event, or of one that asks nothing.
 fn naming(address: u8) -> Setup
@@ -156,27 +160,54 @@ fn locate(set: &[u8], serial: &[u8], setup: Setup) -> Located
     Located::Nowhere
 }
 
-// The facts of the set in use, one of two or lent alone: one lookup of the selected configuration and one walk through it; what only one request asks is looked up for it alone.
-pub fn gather(paired: bool, set: &[u8], serial: &[u8], device: Device, event: Event) -> Facts
-    requires { ⌜ Openable (now set) (now serial) ⌝ }
-    ensures { λ r. ⌜ Tells (viewIn paired (now (set .entry)) (now (serial .entry))) device (questionOf event) r ⌝ }
+// What an event asks of the selected configuration.
+pub fn asked_of(event: Event) -> Asked
+    ensures { λ r. ⌜ r ≡ askedBy (questionOf event) ⌝ }
 {
     let question = question_of(event);
+    Asked {
+        address: question.wIndex,
+        interface: question.wIndex,
+        alternate: question.wValue,
+    }
+}
+
+// What an event knows of the configurations: whether the selected one is there, whether some one supports remote wakeup, and the selected one's survey.
+pub struct Selected {
+    pub configured: bool,
+    pub waking: bool,
+    pub survey: Survey,
+}
+
+// The selected configuration, looked up, and one walk through it.
+pub fn look_up(set: &[u8], serial: &[u8], device: Device, event: Event) -> Selected
+    requires { ⌜ Openable (now set) (now serial) ⌝ }
+    ensures { λ r. ⌜ Knows (now (set .entry)) (device .configuration) (device .alternates) (askedBy (questionOf event)) r ⌝ }
+{
     let selected = configuration::by_value(set, ConfigurationValue(device.configuration));
     let body = body_found(set, selected);
     let alternates = device.alternates;
-    let index = question.wIndex;
-    let asked = survey::Asked {
-        address: index,
-        interface: index,
-        alternate: question.wValue,
-    };
-    let survey = survey::walk(body, alternates, asked);
-    Facts {
-        paired,
+    let survey = survey::walk(body, alternates, asked_of(event));
+    Selected {
         configured: is_found(selected),
         waking: configuration::wakes(set),
-        interface: is_among(survey.existing, index),
+        survey,
+    }
+}
+
+// The facts of the set in use, one of two or lent alone, from what is known of its configurations; what only one request asks is looked up for it alone.
+pub fn gather(paired: bool, set: &[u8], serial: &[u8], event: Event, known: Selected) -> Facts
+    requires { ⌜ Openable (now set) (now serial) ⌝ }
+    ensures { λ r. ⌜ ((d : Device) → Knows (now (set .entry)) (d .configuration) (d .alternates) (askedBy (questionOf event)) known
+        → Tells (viewIn paired (now (set .entry)) (now (serial .entry))) d (questionOf event) r) ⌝ }
+{
+    let question = question_of(event);
+    let survey = known.survey;
+    Facts {
+        paired,
+        configured: known.configured,
+        waking: known.waking,
+        interface: is_among(survey.existing, question.wIndex),
         survey,
         configuration: has_asked(set, question),
         located: locate(set, serial, question),

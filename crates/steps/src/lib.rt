@@ -1,4 +1,5 @@
 // The step of a device: the set or the two sets and the serial block that are lent are checked, then the record, and then the event is answered.
+use crate::facts::Selected;
 use events::Answer;
 use events::Event;
 use events::Outcome;
@@ -12,9 +13,10 @@ ghost use Rattle.octets.specs.Sentences.{pick};
 ghost use Rattle.sets.specs.Opening.{lent};
 ghost use Rattle.sets.specs.View.{openingOf};
 ghost use Rattle.events.specs.Answer.{gives};
-ghost use Rattle.events.specs.Facts.{outcomeOf};
+ghost use Rattle.events.specs.Facts.{outcomeOf, questionOf, askedBy};
 ghost use Rattle.events.specs.Step.{step};
 ghost use Rattle.steps.specs.Gathering.{Openable, viewIn, stepIn};
+ghost use Rattle.steps.specs.Selected.{Knows};
 
 pub mod endpoint;
 pub mod facts;
@@ -38,8 +40,28 @@ pub fn in_use<'a>(full: &'a [u8], high: &'a [u8], speed: u8) -> &'a [u8]
     high
 }
 
-// The reaction to an event on a board that was checked: `number` is what opening gives, `set` is the set in use, one of two if `paired`. Opening
-// is asked before this frame stands, to spare the stack.
+// The reaction to an event on a board that was checked and opens, from what is known of the selected configuration: `set` is the set in use, one of two
+// if `paired`.
+pub fn react_knowing(
+    paired: bool,
+    set: &[u8],
+    serial: &[u8],
+    device: Device,
+    event: Event,
+    known: Selected,
+) -> Reaction
+    requires { ⌜ Openable (now set) (now serial) × Knows (now set) (device .configuration) (device .alternates) (askedBy (questionOf event)) known ⌝ }
+    ensures { λ r. ⌜ outcomeOf r device ≡ stepIn 0 (viewIn paired (now (set .entry)) (now (serial .entry))) device event ⌝ }
+{
+    let facts = facts::gather(paired, set, serial, event, known);
+    let survey = facts.survey;
+    if !records::fits(survey, facts.configured, facts.waking, paired, device) {
+        return reaction::refused(8);
+    }
+    events::respond::respond(facts, device, event)
+}
+
+// The reaction to an event on a board that was checked: `number` is what opening gives. Opening is asked before this frame stands, to spare the stack.
 pub fn react(
     number: u8,
     paired: bool,
@@ -54,12 +76,8 @@ pub fn react(
     if number != 0 {
         return reaction::refused(7);
     }
-    let known = facts::gather(paired, set, serial, device, event);
-    let survey = known.survey;
-    if !records::fits(survey, known.configured, known.waking, paired, device) {
-        return reaction::refused(8);
-    }
-    events::respond::respond(known, device, event)
+    let known = facts::look_up(set, serial, device, event);
+    react_knowing(paired, set, serial, device, event, known)
 }
 
 // The step on a board that lends one set and was checked.

@@ -16,14 +16,14 @@ use Rattle.descriptors.specs.declared.Limits.{Limits}
 use Rattle.sets.specs.declared.Entry.{Entry}
 use Rattle.sets.specs.Contents.{entries}
 use Rattle.sets.specs.Found.{isAt}
-use Rattle.pieces.specs.Pieces.{Piece}
+use Rattle.sets.specs.Pieces.{Piece, pieceFor, piecesIn, kindOf}
+use Rattle.sets.proofs.Pieces.{map-only}
 use Rattle.pieces.specs.Laid.{laid}
-use Rattle.pieces.specs.Held.{pieceFor, piecesIn}
 use Rattle.pieces.proofs.ReadBack.{read-back}
 use Rattle.keeping.specs.Keeping.{named, namedString, zeroStays, kept}
 use Rattle.trimming.specs.Trim.{keptPieces, trimmed, padded, Trims}
 use Rattle.trimming.specs.Asked.{bodyIn, bodyUnder, left}
-use Rattle.pieces.proofs.InPieces.{map-only, only-only, any-only, first-only, kindOf, Alike, same-device, same-references}
+use Rattle.pieces.proofs.InPieces.{only-only, any-only, first-only, Alike, same-device, same-references}
 
 -- ---- in pieces
 abbrev pub keptPiece : List ℕ → Piece → Bool

@@ -4,7 +4,7 @@ use native.Mathlib.Omega.{arith}
 use mathlib.Core.Path.{_≡_, refl, sym, ap, _∙_}
 use mathlib.Core.Bool.{Bool, true, false}
 use mathlib.Core.List.{List, [], _∷_, _++_, map}
-use mathlib.Core.Option.{Option, some, none}
+use mathlib.Core.Option.{Option, some, none, Option·map}
 use lib.ListN.{length, take, drop, length-append, length-replicate}
 use lib.Dec.{eqb, leb}
 use borrow.Author.Tests.{eq-eqb, eqb-true}
@@ -22,10 +22,9 @@ use Rattle.sets.specs.Opening.{lent, opening}
 use Rattle.sets.specs.Found.{isAt}
 use Rattle.sets.proofs.Groups.{groups}
 use Rattle.sets.proofs.Strings.{string-zero}
-use Rattle.pieces.specs.Pieces.{Piece}
+use Rattle.sets.specs.Pieces.{Piece, pieceFor}
 use Rattle.pieces.specs.Laid.{total, laid}
 use Rattle.pieces.proofs.Laid.{laid-length}
-use Rattle.pieces.specs.Held.{pieceFor}
 use Rattle.pieces.proofs.Canonical.{canonical}
 use Rattle.pieces.proofs.Stream.{two-bytes}
 use Rattle.keeping.specs.Keeping.{zeroStays, kept}
@@ -79,13 +78,13 @@ abbrev languagesAt : Option (List ℕ) → List ℕ
 languagesAt none = []
 languagesAt (some body) = words (drop 2 body)
 
-languages-at : (set : List ℕ) (o : Option Entry) → languagesIn set o ≡ languagesAt (bodyIn set o)
+languages-at : (set : List ℕ) (o : Option Entry) → languagesIn (Option·map (pieceFor set) o) ≡ languagesAt (bodyIn set o)
 languages-at set none = refl
 languages-at set (some e) = refl
 
 languages-under : (set : List ℕ) → languages set ≡ languagesAt (bodyUnder set 3 0 0)
 unfolding languages
-languages-under set = ap (languagesIn set) (string-zero set) ∙ languages-at set (first (isAt 3 0 0) (entries set))
+languages-under set = ap languagesIn (string-zero set) ∙ languages-at set (first (isAt 3 0 0) (entries set))
 
 pub same-languages : (set : List ℕ) → zeroStays set ≡ true → languages (trimmed set) ≡ languages set
 same-languages set z = languages-under (trimmed set) ∙ ap languagesAt (same-bytes 3 0 0 set z) ∙ sym (languages-under set)

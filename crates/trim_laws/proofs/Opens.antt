@@ -10,33 +10,26 @@ use Rattle.octets.specs.Sentences.{pick, every, any, only, neighbours, member}
 use Rattle.octets.proofs.Sentences.{cases, never, joined, conjunct, any-alike, only-alike, only-member}
 use Rattle.descriptors.specs.declared.Limits.{Limits}
 use Rattle.descriptors.specs.Limits as rows
-use Rattle.sets.specs.declared.Entry.{Entry}
-use Rattle.sets.specs.Contents.{entries, entriesOf, count, goodFrame, goodContents}
-use Rattle.sets.specs.Device.{deviceBody, iSerialNumber, goodDeviceEntries}
+use Rattle.sets.specs.Contents.{entries, count, goodFrame, goodContents}
+use Rattle.sets.specs.Device.{deviceBody, iSerialNumber}
 use Rattle.sets.specs.Strings.{references, goodStrings}
-use Rattle.sets.specs.Opening.{Board, lent, opening}
-use Rattle.sets.proofs.Groups.{Groups, groups, one-device}
+use Rattle.sets.specs.Opening.{lent, opening}
+use Rattle.sets.proofs.Groups.{Groups, groups, all-six, one-device, GoodTexts, texts-in, texts-out}
 use Rattle.octets.specs.Octets.{Bytes}
-use Rattle.pieces.specs.Pieces.{Piece}
+use Rattle.sets.specs.Pieces.{Piece, pieceFor, piecesIn, kindOf, piecesOf, sole}
 use Rattle.pieces.specs.Sorted.{precedes}
 use Rattle.pieces.specs.Laid.{total, laid}
 use Rattle.pieces.proofs.Laid.{laid-length}
-use Rattle.pieces.specs.Held.{pieceFor, piecesIn}
 use Rattle.pieces.proofs.Canonical.{canonical}
 use Rattle.pieces.proofs.Ascending.{neighbours-ascend}
 use Rattle.pieces.proofs.Precedes.{transitive}
 use Rattle.keeping.specs.Keeping.{zeroStays}
 use Rattle.trimming.specs.Trim.{trimmed}
 use Rattle.trimming.proofs.Rebuilding.{framed, entries-length}
-use Rattle.pieces.proofs.InPieces.{kindOf, of-kind, only-only, same-device, same-references, same-devices, same-configurations, same-block}
+use Rattle.pieces.proofs.InPieces.{only-only, same-devices, same-configurations, same-block}
 use Rattle.trim_laws.proofs.Again.{keptPiece, stringNamed, kept-pieces, reads-back, alike, zero-pieces, not-string}
 use Rattle.pieces.proofs.LaidOut.{laid-frame, laid-contents, ordered, every-some, some-length, some-neighbours, some-bodies}
-use Rattle.trim_laws.proofs.StringsIn.{Strings, strings-in, strings-out, needed, stayingPiece, still-strings}
-
--- ---- all six
-pub all-six : (limits : Limits) (b : Board) → Groups limits b → opening limits b ≡ 0
-unfolding opening
-all-six limits b g = rw (g .frame, g .contents, g .devices, g .configurations, g .strings, g .serial)
+use Rattle.trim_laws.proofs.StringsIn.{needed, stayingPiece, still-strings}
 
 -- ---- lists
 module _ {A : Type 0} (f g : A → Bool) where
@@ -56,9 +49,9 @@ module _ {A : Type 0} (f g : A → Bool) where
       go true e = rw e
       go false e = e
 
-a-device : (limits : Limits) (set : List ℕ) (es : List Entry) → goodDeviceEntries limits set es ≡ true → 1 ≤ length es
-a-device limits set [] p = never p refl
-a-device limits set (e ∷ es) p = omega arith
+a-device : (good : List ℕ → Bool) (ps : List Piece) → sole good ps ≡ true → 1 ≤ length ps
+a-device good [] p = never p refl
+a-device good (p ∷ ps) q = omega arith
 
 module _ (limits : Limits) (set serial : List ℕ) (small : Bytes set) (p : opening limits (lent set serial) ≡ 0) where
   g : Groups limits (lent set serial)
@@ -85,9 +78,8 @@ module _ (limits : Limits) (set serial : List ℕ) (small : Bytes set) (p : open
 
   one : 1 ≤ length (only k ps)
   one =
-      let d = a-device limits set (entriesOf 1 set) (one-device limits (lent set serial) g) in
-      let e = ap length (of-kind set 1 ∙ sym (only-only (kindOf 1) k (not-string set 1 refl) ps)) in
-      omega (arith, d, length-map (entriesOf 1 set) (pieceFor set), e, some-length (kindOf 1) (only k ps))
+      let d = a-device _ (piecesOf 1 ps) (one-device limits (lent set serial) g) in
+      omega (arith, d, ap length (only-only (kindOf 1) k (not-string set 1 refl) ps), some-length (kindOf 1) (only k ps))
 
   frame : goodFrame (trimmed set) ≡ true
   frame = rw is-laid (laid-frame (only k ps) one (omega (arith, few, some-length k ps)) (omega (arith, fits, some-length k ps, some-bodies k ps)))
@@ -115,8 +107,9 @@ module _ (limits : Limits) (set serial : List ℕ) (small : Bytes set) (p : open
   abbrev ss : List Piece
   ss = only (kindOf 3) ps
 
-  strings-before : Strings refs serialIndex ss
-  strings-before = strings-in set (g .strings)
+  strings-before : GoodTexts refs serialIndex ss
+  unfolding goodStrings references
+  strings-before = texts-in refs serialIndex ss (g .strings)
 
   abbrev j : Piece → Bool
   j = stayingPiece refs serialIndex serial-in ss strings-before
@@ -133,10 +126,11 @@ module _ (limits : Limits) (set serial : List ℕ) (small : Bytes set) (p : open
       ap (only (kindOf 3)) (reads-back set) ∙ commute (kindOf 3) k ps
       ∙ only-alike k j ss (λ p m. rw (only-member (kindOf 3) ps m .1, same-need))
 
-  strings : goodStrings (trimmed set) ≡ true
+  strings : goodStrings (piecesIn (trimmed set)) ≡ true
+  unfolding goodStrings references
   strings =
-      let s : Strings refs serialIndex (only j ss) = still-strings refs serialIndex serial-in ss strings-before in
-      strings-out (trimmed set) (rw (same-references (alike set), same-device (alike set), same-strings) s)
+      let s = texts-out refs serialIndex (only j ss) (still-strings refs serialIndex serial-in ss strings-before) in
+      rw (alike set .device, alike set .configurations, same-strings) s
 
   six : Groups limits (lent (trimmed set) serial)
   six = record {

@@ -7,7 +7,7 @@ use Rattle.descriptors.specs.Limits.{fullSpeed}
 use Rattle.sets.specs.Opening.{lent, opening}
 use Rattle.events.specs.Answer.{numberOf}
 use Rattle.events.specs.Step.{step, setupEvent}
-use Rattle.pieces.specs.Held.{piecesIn}
+use Rattle.sets.specs.Pieces.{piecesIn}
 use Rattle.pieces.specs.Laid.{contents, bodies, laid}
 use Rattle.promises.specs.Examples.{bytes, computed, S, T}
 use Rattle.promises.specs.Inhabited.{acceptedT, bytesT, configured}

@@ -15,8 +15,7 @@ use Rattle.records.specs.declared.Device.{Device}
 use Rattle.records.specs.Fits.{fitsOn}
 use Rattle.events.specs.declared.Event.{Event}
 use Rattle.events.specs.Step.{step, event}
-use Rattle.pieces.specs.Pieces.{Piece}
-use Rattle.pieces.specs.Held.{piecesIn}
+use Rattle.sets.specs.Pieces.{Piece, piecesIn}
 use Rattle.keeping.specs.Keeping.{kept}
 use Rattle.trimming.specs.Trim.{trimmed, Trims}
 use Rattle.trimming.specs.Asked.{bodyUnder, left}

@@ -16,7 +16,7 @@ use Rattle.sets.specs.Contents.{bodyOf, endToEnd}
 use Rattle.sets.proofs.Entries.{only-here, only-later, only-empty}
 use Rattle.pieces.proofs.Laid.{bodies-none, bodies-more}
 use Rattle.writing.specs.Written.{Wrote}
-use Rattle.pieces.specs.Held.{pieceFor}
+use Rattle.sets.specs.Pieces.{pieceFor}
 use Rattle.trimming.specs.Entries.{entryWith, contentsWith, lengths, bodiesWith}
 
 pub length-take-le-any : (n : ℕ) (l : List ℕ) → length (take n l) ≤ n

@@ -15,13 +15,12 @@ use Rattle.octets.proofs.Sentences.{cases, conjunct}
 use Rattle.sets.specs.declared.Entry.{Entry}
 use Rattle.sets.specs.Contents.{entryOf, entriesFrom, entries, count, total, bodiesAt, bodyOf, endToEnd, goodFrame}
 use Rattle.sets.proofs.Entries.{only-here, only-later, only-empty}
-use Rattle.pieces.specs.Pieces.{Piece}
+use Rattle.sets.specs.Pieces.{Piece, pieceFor}
 use Rattle.pieces.specs.Laid as pieces
 use Rattle.pieces.specs.Laid.{contents, bodies, front, header, laid}
 use Rattle.pieces.proofs.Laid.{laid-parts, laid-length}
 use Rattle.writing.specs.Written.{Room, Wrote}
 use Rattle.writing.proofs.Written.{wrote-both}
-use Rattle.pieces.specs.Held.{pieceFor}
 use Rattle.trimming.specs.Entries.{contentsWith, lengths, bodiesWith}
 use Rattle.trimming.specs.Trim.{padded}
 use Rattle.trimming.proofs.Moving.{Next, next-body, bodies-here, bodies-fit, still}

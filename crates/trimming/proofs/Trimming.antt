@@ -2,27 +2,27 @@
 use Prim.Native.Nat.{ℕ, zero, suc, _+_, _<_}
 use mathlib.Core.Path.{_≡_, sym, ap, _∙_}
 use mathlib.Core.Logic.{⊎-elim}
-use mathlib.Core.Bool.{Bool, true, _||_, not}
+use mathlib.Core.Bool.{Bool, true, _||_}
 use mathlib.Core.List.{List, [], _∷_, map, List·Memᴰ, List·Memᴰ·cases-cons, List·Memᴰ·not-nil}
 use lib.ListN.{length, drop}
 use lib.Seq.{getD-drop}
 use lib.Dec.{eqb, leb}
 use borrow.Author.Tests.{eqb-true, ne-eqb}
 use Rattle.octets.specs.Octets.{byte, Bytes}
-use Rattle.octets.specs.Sentences.{every, neighbours, pairs, only, any}
+use Rattle.octets.specs.Sentences.{every, neighbours, only, any}
 use Rattle.octets.proofs.Sentences.{both, conjunct, every-member, member-every}
 use Rattle.descriptors.specs.declared.Limits.{Limits}
 use Rattle.descriptors.specs.Limits.{named}
 use Rattle.descriptors.specs.Cut.{cut, descriptorsOf, wellCut}
 use Rattle.octets.specs.Table.{has}
-use Rattle.descriptors.specs.Configuration.{bConfigurationValue, goodConfiguration, goodDescriptors}
+use Rattle.descriptors.specs.Configuration.{goodConfiguration, goodDescriptors}
 use Rattle.sets.specs.declared.Entry.{Entry}
-use Rattle.sets.specs.Contents.{entriesFrom, entries, bodies, entriesOf, before, count, total, bodiesAt, endToEnd, goodFrame, goodContents}
+use Rattle.sets.specs.Contents.{entriesFrom, entries, bodies, before, count, total, bodiesAt, endToEnd, goodFrame, goodContents}
 use Rattle.sets.specs.Device.{deviceBody, iSerialNumber}
-use Rattle.sets.specs.Opening.{opening, numberedFrom, goodConfigurations, lent}
-use Rattle.sets.proofs.Groups.{Groups, groups}
+use Rattle.sets.specs.Opening.{opening, lent}
+use Rattle.sets.proofs.Groups.{Groups, groups, each-rule}
 use Rattle.pieces.specs.Laid.{laid}
-use Rattle.pieces.specs.Held.{pieceFor}
+use Rattle.sets.specs.Pieces.{pieceFor}
 use Rattle.keeping.specs.Keeping as keeping
 use Rattle.keeping.specs.Keeping.{walkable, keepsBy, tableNames, zeroStays}
 use Rattle.keeping.proofs.Naming.{same-named, same-kept}
@@ -33,12 +33,10 @@ module _ (limits : Limits) (set serial : List ℕ) (p : opening limits (lent set
   g = groups limits (lent set serial) p
 
   pub walks : walkable set ≡ true
-  unfolding goodConfigurations goodConfiguration
+  unfolding goodConfiguration
   walks =
-      let rules = numberedFrom 0 (entriesOf 2 set) ∷ every (goodConfiguration limits) (bodies 2 set) ∷ every (λ x. leb 1 (bConfigurationValue x)) (bodies 2 set)
-      ∷ pairs (λ x y. not (eqb (bConfigurationValue x) (bConfigurationValue y))) (bodies 2 set) ∷ [] in
       member-every (λ b. wellCut (cut b)) (bodies 2 set)
-      (λ b m. both (wellCut (cut b)) (goodDescriptors limits (length b) (descriptorsOf (cut b))) (every-member (goodConfiguration limits) (conjunct 1 rules (g .configurations)) m) .0)
+      (λ b m. both (wellCut (cut b)) (goodDescriptors limits (length b) (descriptorsOf (cut b))) (every-member (goodConfiguration limits) (each-rule limits set (g .configurations) .good) m) .0)
 
   pub framing : goodFrame set ≡ true
   framing = g .frame

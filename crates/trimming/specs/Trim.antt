@@ -8,9 +8,8 @@ use Rattle.octets.specs.Sentences.{pick, only}
 use Rattle.descriptors.specs.declared.Limits.{Limits}
 use Rattle.sets.specs.Contents.{entries}
 use Rattle.sets.specs.Opening.{lent, opening}
-use Rattle.pieces.specs.Pieces.{Piece}
+use Rattle.sets.specs.Pieces.{Piece, pieceFor}
 use Rattle.pieces.specs.Laid.{laid}
-use Rattle.pieces.specs.Held.{pieceFor}
 use Rattle.keeping.specs.Keeping.{kept}
 
 -- the entries that stay, with their bodies

@@ -11,7 +11,7 @@ ghost use lib.ListN.{length, replicate};
 ghost use Rattle.octets.specs.Sentences.{only};
 ghost use Rattle.sets.specs.Contents.{entries, bodiesAt, endToEnd, goodFrame};
 ghost use Rattle.pieces.specs.Laid.{laid};
-ghost use Rattle.pieces.specs.Held.{pieceFor};
+ghost use Rattle.sets.specs.Pieces.{pieceFor};
 ghost use Rattle.writing.specs.Written.{Room, Wrote};
 ghost use Rattle.keeping.specs.Keeping.{keepsBy};
 ghost use Rattle.trimming.specs.Entries.{entryWith, contentsWith, lengths, bodiesWith};

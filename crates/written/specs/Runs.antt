@@ -12,7 +12,7 @@ use Rattle.records.specs.Fits.{fits}
 use Rattle.records.specs.Device.{Sized}
 use Rattle.events.specs.declared.Event.{Event}
 use Rattle.pieces.specs.Pieces.{streamOf}
-use Rattle.pieces.specs.Held.{piecesIn}
+use Rattle.sets.specs.Pieces.{piecesIn}
 use Rattle.set_writer.specs.Writer.{setOf, writing}
 use Rattle.promises.specs.Keeps.{FitImage, Reached, reachedFits}
 use Rattle.promises.specs.Rearranged.{Rearranged, after, heard}

@@ -16,8 +16,8 @@ use Rattle.descriptors.specs.declared.Limits.{Limits}
 use Rattle.sets.specs.declared.Entry.{Entry}
 use Rattle.sets.specs.Contents.{entries, bodyOf, total, count, bodiesAt, goodFrame}
 use Rattle.sets.specs.Found.{isAt}
-use Rattle.pieces.specs.Pieces.{Piece, ends, pieces, streamOf}
-use Rattle.pieces.specs.Held.{pieceFor, piecesIn}
+use Rattle.pieces.specs.Pieces.{ends, pieces, streamOf}
+use Rattle.sets.specs.Pieces.{Piece, pieceFor, piecesIn}
 use Rattle.pieces.specs.Sorted.{precedes, sorted}
 use Rattle.pieces.specs.Laid.{laid}
 use Rattle.pieces.specs.Shuffled.{Shuffled}

@@ -8,7 +8,7 @@ use borrow.Author.Needs.{needs}
 use Rattle.octets.specs.Sentences.{only}
 use Rattle.sets.specs.Contents.{entries, bodiesAt}
 use Rattle.pieces.specs.Laid.{laid}
-use Rattle.pieces.specs.Held.{pieceFor}
+use Rattle.sets.specs.Pieces.{pieceFor}
 use Rattle.keeping.specs.Keeping.{keepsBy}
 use Rattle.trimming.specs.Trim.{padded}
 use Rattle.trimming.proofs.Moving.{length-take-le-any}

@@ -1,9 +1,11 @@
 -- `rules::string::judged_fault` meets its contract. No axiom.
 use Prim.Native.Nat.{_<_}
 use mathlib.Core.Path.{_≡_, refl, sym, ap, _∙_}
-use Rattle.sets.specs.Contents.{bodiesAt, entries, entriesOf}
+use Rattle.sets.specs.Contents.{bodiesAt, entries}
 use Rattle.sets.specs.Device.{deviceBody, iManufacturer, iProduct, iSerialNumber}
+use Rattle.sets.specs.Pieces.{piecesIn, piecesOf}
 use Rattle.sets.specs.Strings.{languages, inEvery}
+use Rattle.sets.proofs.Pieces.{length-of}
 use Rattle.rules.specs.Strings.{stringsFrom, referenceFindings, deviceReferences}
 use Rattle.rules.specs.After.{Judges}
 use Rattle.rules.proofs.Entries.{judged-same, some-left}
@@ -16,7 +18,7 @@ judges : (c : tie.After-in-every-language) → Judges (c .before .before .before
 judges c = record {
   found = c .before .before .before .before .pre .found;
   index = c .before .serial-index .ensures;
-  named = λ j h. c .in-every-language .ensures j h ∙ ap (λ ls. inEvery ls (entriesOf 3 (c .before .before .before .before .args .set .now)) j) (c .before .before .before .before .pre .listed);
+  named = λ j h. c .in-every-language .ensures j h ∙ ap (λ ls. inEvery ls (piecesOf 3 (piecesIn (c .before .before .before .before .args .set .now))) j) (c .before .before .before .before .pre .listed);
 }
 
 -- the device's references are bytes
@@ -102,7 +104,7 @@ returns c =
     let at = c .before .before .before .before .before .before .before .before .before .before .before .before .before .before .before .peek .ensures in
     let b = c .before .before .before .before .before .before .before .before .before .before .before .before .before .before .before .before .device-body .ensures in
     let s = bodiesAt set in
-    asks _ _ _ (rw (c .before .before .before .before .before .before .before .before .before .before .before .before .before .count-of2 .ensures, c .before .before .before .before .before .before .before .before .before .before .before .before .before .before .count-of .ensures, some-left (entriesOf 3 set), p .found) at (c .before .before .before .before .before .before .before .before .before .before .before .before .ask .ensures))
+    asks _ _ _ (rw (c .before .before .before .before .before .before .before .before .before .before .before .before .before .count-of2 .ensures, c .before .before .before .before .before .before .before .before .before .before .before .before .before .before .count-of .ensures, length-of set 3, some-left (piecesOf 3 (piecesIn set)), p .found) at (c .before .before .before .before .before .before .before .before .before .before .before .before .ask .ensures))
     (joins _ (stringsFrom set (languages set) (iSerialNumber d) 4 (entries set)) _ (rw (p .listed, c .before .before .before .before .before .before .before .before .before .before .before .before .before .before .before .before .before .before .serial-index .ensures) at (c .before .before .before .before .before .before .before .before .before .before .before .entries-fault .ensures))
     (joins _ (deviceReferences set) _
     (joins _ (referenceFindings set s 0 14 (iManufacturer d)) _ (rw (at, c .before .before .before .before .before .before .before .before .before .before .peek2 .ensures, b, judged-same j s 0 14 (iManufacturer d) (first (c .before .before .before .before .before .before .before .before .before .before))) at (c .before .before .before .before .before .before .before .before .reference-fault .ensures))

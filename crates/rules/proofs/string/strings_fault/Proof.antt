@@ -30,7 +30,7 @@ judged-fault-requires c κs =
     record {
       listed = rw (c .body-of .ensures) (sym (languages-of set p));
       found = rw p;
-      small = rw (c .body-of .ensures) (zero-small set (λ k. s .before .shared-slice-known .given k .fits) p);
+      small = rw (c .body-of .ensures) (zero-small set (λ k. s .before .shared-slice-known .given k .fits) (sym (s .find-entry .ensures) ∙ c .before .before .e .given .1));
     }
 
 enum-told : tie.Need-enum-told

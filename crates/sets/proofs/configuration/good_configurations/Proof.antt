@@ -14,6 +14,7 @@ use Rattle.octets.specs.Table.{has}
 use Rattle.descriptors.proofs.CheckReferences.{refused, told}
 use Rattle.octets.proofs.Tables.{allOf, with-long}
 use Rattle.sets.specs.Contents.{bodyOf, bodies, isKind}
+use Rattle.sets.specs.Pieces.{pieceFor, piecesIn}
 use Rattle.sets.specs.Checks.{goodNumbered}
 use Rattle.sets.specs.Opening.{goodConfigurations}
 use Rattle.sets.proofs.Configurations.{goodFrom, good-start, good-end, good-more}
@@ -23,7 +24,7 @@ use Rattle.sets.proofs.configuration.good_configurations.Tie as tie
 
 abbrev Inv-loop : tie.InvT-loop
 Inv-loop set limits names count index₀ seen₀ refers₀ i₀ index seen refers i =
-    (index ≤ i) × (length seen ≡ 8) × (goodConfigurations limits set ≡ goodFrom limits set index seen (restOf 2 set i))
+    (index ≤ i) × (length seen ≡ 8) × (goodConfigurations limits (piecesIn set) ≡ goodFrom limits index seen (map (pieceFor set) (restOf 2 set i)))
     × (every (configurationRefers names) (bodies 2 set) ≡ (refers && every (configurationRefers names) (map (bodyOf set) (restOf 2 set i))))
 
 abbrev μ-loop : tie.MeasureT-loop
@@ -52,7 +53,7 @@ loop-holds c =
     let a = c .before .before .args in (
       omega arith,
       refl,
-      good-start (a .limits) (a .set .now) ∙ ap (λ es. goodFrom (a .limits) (a .set .now) 0 (allOf 0) (only (isKind 2) es)) (rest-start (a .set .now)),
+      good-start (a .limits) (a .set .now) ∙ ap (λ es. goodFrom (a .limits) 0 (allOf 0) (map (pieceFor (a .set .now)) (only (isKind 2) es))) (rest-start (a .set .now)),
       ap (λ es. every (configurationRefers (a .names .now)) (map (bodyOf (a .set .now)) (only (isKind 2) es))) (rest-start (a .set .now)),
     )
 
@@ -86,8 +87,8 @@ returns c =
     c .refuse .ensures
     ∙ refused _
     (sym
-    (asked-here 2 (goodFrom (a .limits) (a .set .now) (l .index) (l .seen)) (a .set .now) _ (s .before .before .before .peek .ensures) (l .i) (l .inv .2) (s .before .loop-test .taken) _ (s .entry-at .ensures) (c .before .before .before .before .before .before .before .before .if1 .taken)
-    ∙ good-more (a .limits) (a .set .now) (l .index) (l .seen) (s .entry-at .result) _ (small (c .before .before .before .before .before .before)) (l .inv .1)
+    (asked-here 2 (λ es. goodFrom (a .limits) (l .index) (l .seen) (map (pieceFor (a .set .now)) es)) (a .set .now) _ (s .before .before .before .peek .ensures) (l .i) (l .inv .2) (s .before .loop-test .taken) _ (s .entry-at .ensures) (c .before .before .before .before .before .before .before .before .if1 .taken)
+    ∙ good-more (a .limits) (l .index) (l .seen) (s .entry-at .result) (bodyOf (a .set .now) (s .entry-at .result)) _ (small (c .before .before .before .before .before .before)) (l .inv .1)
     ∙ rw (sym (ap (λ v. v .good) (asked v)), not-true (v .good-configuration-entry .result .good) (c .before .if2 .taken))))
 
 join-requires : tie.Need-join-requires Inv-loop μ-loop
@@ -110,8 +111,8 @@ loop-again c =
     let f = configurationRefers (a .names .now) in (
       omega arith,
       rw (c .join .ensures) (with-long (l .seen) _ (l .inv .1)),
-      asked-here 2 (goodFrom (a .limits) (a .set .now) (l .index) (l .seen)) (a .set .now) _ (s .before .before .before .peek .ensures) (l .i) (l .inv .2) (s .before .loop-test .taken) _ (s .entry-at .ensures) kind
-          ∙ good-more (a .limits) (a .set .now) (l .index) (l .seen) (s .entry-at .result) _ (small (v .before .before .before)) (l .inv .1)
+      asked-here 2 (λ es. goodFrom (a .limits) (l .index) (l .seen) (map (pieceFor (a .set .now)) es)) (a .set .now) _ (s .before .before .before .peek .ensures) (l .i) (l .inv .2) (s .before .loop-test .taken) _ (s .entry-at .ensures) kind
+          ∙ good-more (a .limits) (l .index) (l .seen) (s .entry-at .result) (bodyOf (a .set .now) (s .entry-at .result)) _ (small (v .before .before .before)) (l .inv .1)
           ∙ rw (sym (ap (λ v. v .good) (asked v)), good, c .join .ensures, v .before .before .before .peek2 .ensures, v .before .before .before .before .body-of .ensures),
       rw (told (v .good-configuration-entry .result) _ (f (bodyOf (a .set .now) (s .entry-at .result))) (asked v) good)
           (asked-here 2 (λ es. l .refers && every f (map (bodyOf (a .set .now)) es)) (a .set .now) _ (s .before .before .before .peek .ensures) (l .i) (l .inv .3) (s .before .loop-test .taken) _ (s .entry-at .ensures) kind ∙ rw every-cons (sym (and-assoc (l .refers) _ _))),
@@ -128,7 +129,7 @@ loop-again-2 c =
     let f = configurationRefers (a .names .now) in (
       omega arith,
       l .inv .1,
-      asked-other 2 (goodFrom (a .limits) (a .set .now) (l .index) (l .seen)) (a .set .now) _ (s .before .before .before .peek .ensures) (l .i) (l .inv .2) (s .before .loop-test .taken) _ (s .entry-at .ensures) (c .if1 .left),
+      asked-other 2 (λ es. goodFrom (a .limits) (l .index) (l .seen) (map (pieceFor (a .set .now)) es)) (a .set .now) _ (s .before .before .before .peek .ensures) (l .i) (l .inv .2) (s .before .loop-test .taken) _ (s .entry-at .ensures) (c .if1 .left),
       asked-other 2 (λ es. l .refers && every f (map (bodyOf (a .set .now)) es)) (a .set .now) _ (s .before .before .before .peek .ensures) (l .i) (l .inv .3) (s .before .loop-test .taken) _ (s .entry-at .ensures) (c .if1 .left),
     )
 
@@ -137,7 +138,7 @@ returns-2 c =
     let a = c .before .before .before .before .args in
     let l = c .before .loop in
     let f = configurationRefers (a .names .now) in
-    let good = asked-none 2 (goodFrom (a .limits) (a .set .now) (l .index) (l .seen)) (a .set .now) _ (c .before .before .peek .ensures) (l .i) (l .inv .2) (c .loop-test .left) ∙ good-end (a .limits) (a .set .now) (l .index) (l .seen) in
+    let good = asked-none 2 (λ es. goodFrom (a .limits) (l .index) (l .seen) (map (pieceFor (a .set .now)) es)) (a .set .now) _ (c .before .before .peek .ensures) (l .i) (l .inv .2) (c .loop-test .left) ∙ good-end (a .limits) (l .index) (l .seen) in
     let refer = asked-none 2 (λ es. l .refers && every f (map (bodyOf (a .set .now)) es)) (a .set .now) _ (c .before .before .peek .ensures) (l .i) (l .inv .3) (c .loop-test .left) ∙ ap (λ b. l .refers && b) (every-empty f) ∙ and-true (l .refers) in
     rw (good, refer)
 

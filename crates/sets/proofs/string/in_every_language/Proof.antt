@@ -8,7 +8,7 @@ use borrow.Author.Needs.{needs}
 use Rattle.octets.specs.Sentences.{every, any}
 use Rattle.octets.specs.Table.{has}
 use Rattle.octets.proofs.Tables.{has-all}
-use Rattle.sets.specs.Contents.{entriesOf}
+use Rattle.sets.specs.Pieces.{piecesIn, piecesOf}
 use Rattle.sets.specs.Strings.{words, isString, inEvery}
 use Rattle.sets.proofs.Entries.{every-cons, every-empty}
 use Rattle.sets.proofs.Strings.{words-more, words-end}
@@ -16,7 +16,7 @@ use Rattle.sets.proofs.string.in_every_language.Statement.{statement}
 use Rattle.sets.proofs.string.in_every_language.Tie as tie
 
 abbrev Inv-loop : tie.InvT-loop
-Inv-loop set languages table₀ at₀ table at = (at ≤ length languages + 2) × ((j : ℕ) → j < 256 → inEvery (words (drop 2 languages)) (entriesOf 3 set) j ≡ (has table j && inEvery (words (drop at languages)) (entriesOf 3 set) j))
+Inv-loop set languages table₀ at₀ table at = (at ≤ length languages + 2) × ((j : ℕ) → j < 256 → inEvery (words (drop 2 languages)) (piecesOf 3 (piecesIn set)) j ≡ (has table j && inEvery (words (drop at languages)) (piecesOf 3 (piecesIn set)) j))
 
 abbrev μ-loop : tie.MeasureT-loop
 μ-loop set languages table₀ at₀ table at = length languages - at
@@ -44,7 +44,7 @@ loop-again c =
     let s = c .before .before .before .before in
     let a = s .before .before .before .args in (
       omega arith,
-      λ j h. let f : ℕ → Bool = λ l. any (isString j l) (entriesOf 3 (a .set .now)) in s .loop .inv .1 j h ∙ ap (λ ls. has (s .loop .table) j && every f ls) (words-more (a .languages .now) (s .loop .at) (c .before .before .before .loop-test .taken)) ∙ rw
+      λ j h. let f : ℕ → Bool = λ l. any (isString j l) (piecesOf 3 (piecesIn (a .set .now))) in s .loop .inv .1 j h ∙ ap (λ ls. has (s .loop .table) j && every f ls) (words-more (a .languages .now) (s .loop .at) (c .before .before .before .loop-test .taken)) ∙ rw
           (every-cons, ← c .before .before .word .ensures, c .in-language .ensures j h)
           (sym (and-assoc (has (s .loop .table) j) (f (c .before .before .word .result)) (every f (words (drop (s .loop .at + 2) (a .languages .now)))))),
     )
@@ -53,7 +53,7 @@ returns : tie.Need-returns Inv-loop μ-loop
 returns c =
     let s = c .before in
     let a = s .before .before .before .args in
-    λ j h. let f : ℕ → Bool = λ l. any (isString j l) (entriesOf 3 (a .set .now)) in sym
+    λ j h. let f : ℕ → Bool = λ l. any (isString j l) (piecesOf 3 (piecesIn (a .set .now))) in sym
     (s .loop .inv .1 j h
     ∙ ap (λ ls. has (s .loop .table) j && every f ls) (words-end (a .languages .now) (s .loop .at) (c .loop-test .left))
     ∙ rw (every-empty, and-true))

@@ -1,6 +1,7 @@
 -- `sets::string::read` meets its contract. No axiom.
 use mathlib.Core.Path.{sym, _∙_}
 use borrow.Author.Needs.{needs}
+use Rattle.sets.proofs.Pieces.{none-of}
 use Rattle.sets.proofs.Strings.{with-none}
 use Rattle.sets.proofs.string.read.Statement.{statement}
 use Rattle.sets.proofs.string.read.Tie as tie
@@ -12,12 +13,12 @@ serial-index-requires : tie.Need-serial-index-requires
 serial-index-requires c κs = search needs
 
 read-listed-requires : tie.Need-read-listed-requires
-read-listed-requires c κs = record { order = c .before .before .before .before .before .pre; good = sym (c .before .before .good-languages .ensures) ∙ c .before .if1 .taken }
+read-listed-requires c κs = record { order = c .before .before .before .before .before .before .pre; good = sym (c .before .before .before .good-languages .ensures) ∙ c .before .before .if1 .taken }
 
 returns : tie.Need-returns
 returns c =
-    let g = sym (c .before .before .before .good-languages .ensures) ∙ c .before .before .if1 .taken in
-    let serial = c .before .serial-index .ensures in (
+    let g = sym (c .before .before .before .before .good-languages .ensures) ∙ c .before .before .before .if1 .taken in
+    let serial = c .before .before .serial-index .ensures in (
       rw g (rw serial at (c .read-listed .ensures .0)),
       λ p j q. rw g (rw serial at (c .read-listed .ensures .1 p j q)),
     )
@@ -30,8 +31,8 @@ count-of-requires c κs = search needs
 
 returns-2 : tie.Need-returns-2
 returns-2 c =
-    let g = sym (c .before .before .before .before .good-languages .ensures) ∙ c .before .before .before .if1 .left in (
-      rw (g, c .count-of .ensures),
+    let g = sym (c .before .before .before .before .before .good-languages .ensures) ∙ c .before .before .before .before .if1 .left in (
+      rw (g, c .count-of .ensures) (none-of (c .before .before .before .before .before .before .before .before .args .set .now) 3),
       λ p j q. rw (g, c .before .join .ensures) (with-none j),
     )
 

@@ -6,29 +6,31 @@ use mathlib.Core.Path.{_≡_, sym, _∙_}
 use lib.ListN.{length, drop}
 use borrow.Author.Tests.{not-true, not-false}
 use Rattle.sets.specs.Strings.{words}
-use Rattle.sets.specs.Checks.{goodStringEntry}
-use Rattle.sets.proofs.Entries.{rest, restOf, next-entry, kind-end}
+use Rattle.sets.specs.Pieces.{pieceFor}
+use Rattle.sets.specs.Checks.{goodStringPiece}
+use Rattle.sets.proofs.Entries.{rest, next-entry, no-entry}
 use borrow.Author.Needs.{needs}
 use Rattle.sets.proofs.Passing.{Passing, begins, listed-here, moves, other, refused, skips, takes, all-good, names-read}
 use Rattle.sets.proofs.string.read_listed.Statement.{statement}
 use Rattle.sets.proofs.string.read_listed.Tie as tie
 
 abbrev Inv-loop : tie.InvT-loop
-Inv-loop set languages serial count table₀ next₀ at₀ language₀ i₀ table next at language i = Passing set languages serial table next at language i
+Inv-loop set languages serial names₀ count table₀ at₀ language₀ i₀ names table at language i = Passing set languages serial table names at language i
 
 abbrev μ-loop : tie.MeasureT-loop
-μ-loop set languages serial count table₀ next₀ at₀ language₀ i₀ table next at language i = (count - i) + (length languages - at)
+μ-loop set languages serial names₀ count table₀ at₀ language₀ i₀ names table at language i = (count - i) + (length languages - at)
 
 -- the entries from here on, where one is left and where none is
-turn : (c : tie.After-entry-whole Inv-loop μ-loop) → rest (c .before .before .before .before .before .before .before .args .set .now) (c .before .before .loop .i) ≡ c .entry-whole .result ∷ rest (c .before .before .before .before .before .before .before .args .set .now) (c .before .before .loop .i + 1)
-turn c = next-entry (c .before .before .before .before .before .before .before .args .set .now) (c .before .before .before .before .peek .result) (c .before .before .before .before .peek .ensures) (c .before .before .loop .i) (c .before .loop-test .taken) (c .entry-whole .result) (c .entry-whole .ensures)
+turn : (c : tie.After-entry-whole Inv-loop μ-loop) → rest (c .before .before .before .before .before .before .before .before .args .set .now) (c .before .before .loop .i) ≡ c .entry-whole .result ∷ rest (c .before .before .before .before .before .before .before .before .args .set .now) (c .before .before .loop .i + 1)
+turn c = next-entry (c .before .before .before .before .before .before .before .before .args .set .now) (c .before .before .before .before .before .peek .result) (c .before .before .before .before .before .peek .ensures) (c .before .before .loop .i) (c .before .loop-test .taken) (c .entry-whole .result) (c .entry-whole .ensures)
 
-end : (c : tie.After-loop Inv-loop μ-loop) → restOf 3 (c .before .before .before .before .before .before .args .set .now) (c .before .loop .i) ≡ []
-end c = kind-end 3 (c .before .before .before .before .before .before .args .set .now) (c .before .before .before .peek .result) (c .before .before .before .peek .ensures) (c .before .loop .i) (c .loop-test .left)
+end : (c : tie.After-loop Inv-loop μ-loop) → rest (c .before .before .before .before .before .before .before .args .set .now) (c .before .loop .i) ≡ []
+end c = no-entry (c .before .before .before .before .before .before .before .args .set .now) (c .before .before .before .before .peek .result) (c .before .before .before .before .peek .ensures) (c .before .loop .i) (c .loop-test .left)
 
 -- what is asked of this entry
 verdict : (c : tie.After-good-string-entry Inv-loop μ-loop)
-    → goodStringEntry (c .before .before .before .before .before .before .before .before .before .before .before .before .before .before .args .set .now) (words (drop 2 (c .before .before .before .before .before .before .before .before .before .before .before .before .before .before .args .languages .now))) (c .before .before .before .before .before .before .before .before .before .before .before .before .before .before .args .serial) (c .before .before .before .before .before .before .before .entry-whole .result) ≡ c .good-string-entry .result
+    → let a = c .before .before .before .before .before .before .before .before .before .before .before .before .before .before .before .args in
+    goodStringPiece (words (drop 2 (a .languages .now))) (a .serial) (pieceFor (a .set .now) (c .before .before .before .before .before .before .before .entry-whole .result)) ≡ c .good-string-entry .result
 verdict c = rw (← c .before .body-of .ensures, ← c .before .before .lists-beside .ensures) (sym (c .good-string-entry .ensures))
 
 peek-requires : tie.Need-peek-requires Inv-loop μ-loop
@@ -38,7 +40,7 @@ word-requires : tie.Need-word-requires Inv-loop μ-loop
 word-requires c κs = search needs
 
 loop-holds : tie.Need-loop-holds Inv-loop μ-loop
-loop-holds c = rw (c .word .ensures) (begins (c .before .before .before .before .args .set .now) (c .before .before .before .before .args .languages .now) (c .before .before .before .before .args .serial) (c .before .before .before .before .pre .order) (c .before .before .before .before .pre .good))
+loop-holds c = rw (c .word .ensures) (begins (c .before .before .before .before .before .args .set .now) (c .before .before .before .before .before .args .languages .now) (c .before .before .before .before .before .args .serial) (c .before .before .before .before .before .pre .order) (c .before .before .before .before .before .pre .good))
 
 entry-whole-requires : tie.Need-entry-whole-requires Inv-loop μ-loop
 entry-whole-requires c κs = search needs
@@ -60,8 +62,8 @@ loop-less c = search needs
 
 loop-again : tie.Need-loop-again Inv-loop μ-loop
 loop-again c =
-    let s = c .before .before .before in
-    rw (c .word2 .ensures) (moves _ _ _ (s .before .before .loop .inv) (s .entry-whole .result) _ (turn s) (sym (c .before .before .is-later .ensures) ∙ c .before .if1 .taken))
+    let s = c .before .before .before .before .before in
+    rw (c .before .before .word2 .ensures) (moves _ _ _ (s .before .before .loop .inv) (s .entry-whole .result) _ (turn s) (sym (c .before .before .before .before .is-later .ensures) ∙ c .before .before .before .if1 .taken))
 
 add-i : tie.Need-add-i Inv-loop μ-loop
 add-i c = search needs
@@ -113,21 +115,18 @@ loop-less-4 c = search needs
 loop-again-4 : tie.Need-loop-again-4 Inv-loop μ-loop
 loop-again-4 c = let s = c .before .before .before .before in other _ _ _ (s .before .before .loop .inv) (s .entry-whole .result) (turn s) (c .if2 .left)
 
-add-seen-last : tie.Need-add-seen-last Inv-loop μ-loop
-add-seen-last c = search needs
+add-close : tie.Need-add-close Inv-loop μ-loop
+add-close c = search needs
 
-seen-last-requires : tie.Need-seen-last-requires Inv-loop μ-loop
-seen-last-requires c κs = search needs
-
-with-serial-requires : tie.Need-with-serial-requires Inv-loop μ-loop
-with-serial-requires c κs = search needs
+close-requires : tie.Need-close-requires Inv-loop μ-loop
+close-requires c κs = search needs
 
 returns-2 : tie.Need-returns-2 Inv-loop μ-loop
 returns-2 c =
     let w = c .before .before in
     let l = w .before .loop in (
       all-good _ _ _ (l .inv) (end w),
-      λ p j q. rw (c .with-serial .ensures, c .before .seen-last .ensures) (names-read _ _ _ (l .inv) (end w) (search needs) j q),
+      λ p j q. rw (c .close .ensures) (names-read _ _ _ (l .inv) (end w) (search needs) j q),
     )
 
 pub read-listed-spec : {M : Type 1} → statement M
@@ -159,7 +158,6 @@ read-listed-spec =
     loop-again-3
     loop-less-4
     loop-again-4
-    add-seen-last
-    seen-last-requires
-    with-serial-requires
+    add-close
+    close-requires
     returns-2)

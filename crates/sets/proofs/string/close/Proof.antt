@@ -1,0 +1,23 @@
+-- `sets::string::close` meets its contract: one number after the other. No axiom.
+use mathlib.Core.Logic.{⊎-elim}
+use mathlib.Core.Path.{_≡_, _∙_}
+use Rattle.octets.specs.Sentences.{pick}
+use Rattle.sets.specs.Checks.{noNames}
+use borrow.Author.Needs.{needs}
+use Rattle.sets.proofs.string.close.Statement.{statement}
+use Rattle.sets.proofs.string.close.Tie as tie
+
+join-requires : tie.Need-join-requires
+join-requires c κs = search needs
+
+join-requires-2 : tie.Need-join-requires-2
+join-requires-2 c κs = search needs
+
+seen : (c : tie.Joined1) → c .if1 .names ≡ pick (c .before .args .more) noNames (c .before .args .names .now)
+seen c = ⊎-elim (λ w. rw (w .0 .taken) (w .2)) (λ w. rw (w .0 .left) (w .1)) (c .if1 .came)
+
+returns : tie.Need-returns
+returns c = rw (c .join2 .ensures, c .before .before .join .ensures, seen (c .before .before .before .before))
+
+pub close-spec : {M : Type 1} → statement M
+close-spec = tie.close (tie.spec join-requires join-requires-2 returns)

@@ -1,0 +1,51 @@
+-- `steps::facts::look_up` meets its contract: the selected body is well cut, since the set opens. No axiom.
+use native.Mathlib.Omega.{arith}
+use borrow.Author.Needs.{needs}
+use mathlib.Core.Path.{ap, _∙_}
+use Rattle.sets.specs.Opening.{lent}
+use Rattle.sets.specs.Found.{isFound}
+use Rattle.steps.specs.Gathering.{bodyFound}
+use Rattle.steps.proofs.Configurations.{usable}
+use Rattle.steps.proofs.facts.look_up.Tie as tie
+use Rattle.steps.proofs.facts.look_up.Statement.{statement}
+
+by-value-requires : tie.Need-by-value-requires
+by-value-requires c κs = search needs
+
+body-found-requires : tie.Need-body-found-requires
+body-found-requires c κs = search needs
+
+asked-of-requires : tie.Need-asked-of-requires
+asked-of-requires c κs = search needs
+
+walk-requires : tie.Need-walk-requires
+walk-requires c κs = let start = c .before .before .before .before .before .before in
+    let a = start .args in
+    rw (c .before .before .body-found .ensures, c .before .before .before .by-value .ensures) (usable (start .pre .0) (lent (a .set .now) (a .serial .now)) (λ i. omega (arith, c .before .before .before .before .before .shared-slice-known .given i)) (start .pre .1) (a .device .configuration) .whole)
+
+is-found-requires : tie.Need-is-found-requires
+is-found-requires c κs = search needs
+
+wakes-requires : tie.Need-wakes-requires
+wakes-requires c κs = search needs
+
+returns : tie.Need-returns
+returns c = let a = c .before .before .before .before .before .before .before .before .before .args in
+    let there = c .before .before .before .before .before .before .by-value .ensures in
+    record {
+      configured = c .before .is-found .ensures ∙ ap isFound there;
+      waking = c .wakes .ensures;
+      surveyed = rw (c .before .before .before .before .before .body-found .ensures ∙ ap (bodyFound (a .set .now)) there, c .before .before .before .asked-of .ensures) at (c .before .before .walk .ensures);
+    }
+
+pub look-up-spec : {M : Type 1} → statement M
+look-up-spec =
+    tie.close
+    (tie.spec
+    by-value-requires
+    body-found-requires
+    asked-of-requires
+    walk-requires
+    is-found-requires
+    wakes-requires
+    returns)
