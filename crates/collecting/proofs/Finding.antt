@@ -4,14 +4,14 @@ use native.Mathlib.Omega.{arith}
 use native.Mathlib.Nat.{lt-of-not-le, add-mul-mod-self-left, mod-eq-of-lt}
 use mathlib.Core.Path.{_≡_, refl, sym, ap, _∙_}
 use mathlib.Core.List.{List}
-use mathlib.Core.Bool.{Bool, true, false, _&&_, _||_, and-true, and-false, or-false}
+use mathlib.Core.Bool.{Bool, true, false, _&&_, _||_, or-false}
 use lib.ListN.{getD}
-use lib.Dec.{eqb, leb, ltb}
+use lib.Dec.{eqb, leb}
 use borrow.Author.Tests.{eq-eqb, ne-eqb, le-leb, lt-leb, lt-ltb, eqb-true, eqb-false, leb-true, leb-false}
 use Rattle.octets.specs.Bit.{bit, setBit}
 use Rattle.octets.specs.Octets.{byte, word}
 use Rattle.octets.specs.Sentences.{pick}
-use Rattle.octets.proofs.Sentences.{cases, never, both}
+use Rattle.octets.proofs.Sentences.{cases, never}
 use Rattle.octets.proofs.Bits.{bit-zero}
 use Rattle.octets.proofs.Words.{set-digit}
 use Rattle.descriptors.specs.declared.Setting.{Setting}
@@ -20,17 +20,16 @@ use Rattle.descriptors.specs.declared.lookup.EndpointFound.{EndpointFound}
 use Rattle.descriptors.specs.declared.lookup.EndpointFound.the-variants.{At, Nothing}
 use Rattle.descriptors.specs.declared.survey.Asked.{Asked}
 use Rattle.descriptors.specs.declared.survey.Survey.{Survey}
-use Rattle.descriptors.specs.Descriptor.{isInterface, isEndpoint, bInterfaceNumber, bAlternateSetting, bEndpointAddress, bmAttributes, transferType}
+use Rattle.descriptors.specs.Descriptor.{isInterface, isEndpoint, bInterfaceNumber, bAlternateSetting, bEndpointAddress, bmAttributes}
 use Rattle.descriptors.specs.Interfaces.{begunBy}
 use Rattle.descriptors.specs.Walk.{settingAt, before}
-use Rattle.descriptors.specs.Lookup.{listed, withBit}
+use Rattle.descriptors.specs.Lookup.{listed}
 use Rattle.descriptors.specs.Check.{placed}
 use Rattle.descriptors.specs.Survey.{isSetting, earlier, foundHere, nothingSeen, onward}
 use Rattle.descriptors.specs.Survey.{atCurrent as seenAtCurrent, atOther as seenAtOther}
 use Rattle.descriptors.proofs.Surveying.{earlier-none, current-adds, other-adds, outside-adds}
 use Rattle.collecting.specs.declared.walk.Finds.{Finds}
-use Rattle.collecting.specs.declared.walk.Wanted.{Wanted}
-use Rattle.collecting.specs.Course.{wantedOf, roleOf, withSetting, firstFound, atOther, atCurrent, withEndpoint, endpointIn, settingOut, Tells}
+use Rattle.collecting.specs.Course.{wantedOf, roleOf, withSetting, firstFound, withEndpoint, endpointIn, settingOut, Tells}
 
 -- the role of the setting under which a descriptor stands
 abbrev roleAt : List ℕ → Asked → Stand → ℕ
@@ -131,19 +130,19 @@ module _ {alternates : List ℕ} {asked : Asked} {f : Finds} {role : ℕ} {s : S
     seen-next = rw (i, no-endpoint, lt-ltb (bInterfaceNumber d) 32 (omega arith), earlier-none (s .endpoint))
 
     told : (h m a : Bool) → Tells asked (record {
-        existing = setBit (s .existing) (bInterfaceNumber d);
-        current = pick h (setBit (s .current) (bInterfaceNumber d)) (s .current);
-        halting = s .halting;
-        endpoint = s .endpoint;
-        there = s .there || a;
-        bits = s .bits;
-      }) (pick (eqb (pick h (pick m 3 2) (pick a 1 0)) 0) f (record {
-        current = pick (leb 2 (pick h (pick m 3 2) (pick a 1 0))) (setBit (f .current) (bInterfaceNumber d)) (f .current);
-        halting = f .halting;
-        bits = f .bits;
-        endpoint = f .endpoint;
-        there = pick a 1 (f .there);
-      }))
+      existing = setBit (s .existing) (bInterfaceNumber d);
+      current = pick h (setBit (s .current) (bInterfaceNumber d)) (s .current);
+      halting = s .halting;
+      endpoint = s .endpoint;
+      there = s .there || a;
+      bits = s .bits;
+    }) (pick (eqb (pick h (pick m 3 2) (pick a 1 0)) 0) f (record {
+      current = pick (leb 2 (pick h (pick m 3 2) (pick a 1 0))) (setBit (f .current) (bInterfaceNumber d)) (f .current);
+      halting = f .halting;
+      bits = f .bits;
+      endpoint = f .endpoint;
+      there = pick a 1 (f .there);
+    }))
     told true true true = record { current = rw (g .tells .current); halting = g .tells .halting; bits = g .tells .bits; endpoint = g .tells .endpoint; there = sym (or-true (s .there)) }
     told true false true = record { current = rw (g .tells .current); halting = g .tells .halting; bits = g .tells .bits; endpoint = g .tells .endpoint; there = sym (or-true (s .there)) }
     told true true false = record { current = rw (g .tells .current); halting = g .tells .halting; bits = g .tells .bits; endpoint = g .tells .endpoint; there = g .tells .there ∙ sym (or-false (s .there)) }

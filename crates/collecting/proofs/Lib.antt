@@ -2,3 +2,4 @@ pub mod Rules
 pub mod Models
 pub mod Finding
 pub mod Reaching
+pub mod Whole

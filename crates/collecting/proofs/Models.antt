@@ -7,8 +7,8 @@ use mathlib.Core.Bool.{Bool, true, false, _&&_, _||_, not, and-true, and-false, 
 use lib.ListN.{length}
 use lib.Dec.{eqb, leb, ltb}
 use borrow.Author.Tests.{eq-eqb, ne-eqb, le-leb, lt-leb, lt-ltb, le-ltb, eqb-true, eqb-false, ltb-true, ltb-false, leb-true, leb-false}
-use Rattle.octets.specs.Bit.{bit, setBit}
-use Rattle.octets.specs.Octets.{byte, word}
+use Rattle.octets.specs.Bit.{bit}
+use Rattle.octets.specs.Octets.{word}
 use Rattle.octets.specs.Sentences.{pick, _⇒_}
 use Rattle.octets.proofs.Sentences.{cases, never, both, conjunct}
 use Rattle.octets.proofs.Bits.{bit-zero}
@@ -18,10 +18,10 @@ use Rattle.descriptors.specs.declared.Setting.{Setting}
 use Rattle.descriptors.specs.declared.Stand.{Stand}
 use Rattle.descriptors.specs.declared.check.Progress.{Progress}
 use Rattle.descriptors.specs.Limits.{named}
-use Rattle.descriptors.specs.Descriptor.{bDescriptorType, isInterface, isEndpoint, bInterfaceNumber, bAlternateSetting, bNumEndpoints, bEndpointAddress, goodEndpoint}
+use Rattle.descriptors.specs.Descriptor.{bDescriptorType, isInterface, isEndpoint, bInterfaceNumber, bAlternateSetting, bEndpointAddress, goodEndpoint}
 use Rattle.descriptors.specs.Interfaces.{begunBy}
 use Rattle.descriptors.specs.Configuration.{bitOf}
-use Rattle.descriptors.specs.Walk.{settingAt, before, standOf}
+use Rattle.descriptors.specs.Walk.{before, standOf}
 use Rattle.descriptors.specs.Check.{placed, fresh, mayBegin, mayList, allowed, atInterface, atEndpoint, ended, beginning}
 use Rattle.collecting.specs.declared.walk.Order.{Order}
 use Rattle.collecting.specs.Course.{nextOf, settles, Low, begins, BegunBy, listable, listedIn, settingOut}

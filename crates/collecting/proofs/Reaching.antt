@@ -1,15 +1,15 @@
 -- The loop: what the whole walk says, the walk from each place says, in the state that the course stands for; and beside it, what was found. No axiom.
 use Prim.Native.Nat.{ℕ, _+_, _-_, _≤_, _<_}
 use native.Mathlib.Omega.{arith}
-use native.Mathlib.Nat.{lt-of-not-le, add-sub-cancel-left, le-refl}
+use native.Mathlib.Nat.{lt-of-not-le, add-sub-cancel-left}
 use mathlib.Core.Path.{_≡_, refl, sym, ap, _∙_}
-use mathlib.Core.List.{List, [], _∷_}
-use mathlib.Core.Bool.{Bool, true, false, _&&_, _||_, not, and-true, and-false}
+use mathlib.Core.List.{List}
+use mathlib.Core.Bool.{Bool, true, false, _&&_, not, and-true, and-false}
 use mathlib.Core.Option.{some, none}
 use lib.ListN.{length, drop}
 use lib.Seq.{getD-take, getD-drop}
 use lib.Dec.{eqb, leb, ltb}
-use borrow.Author.Tests.{eq-eqb, ne-eqb, le-leb, lt-leb, lt-ltb, eqb-true, eqb-false, leb-true, leb-false, ltb-true, ltb-false}
+use borrow.Author.Tests.{ne-eqb, le-leb, lt-leb, lt-ltb, eqb-true, eqb-false, leb-true, leb-false, ltb-true, ltb-false}
 use Rattle.octets.specs.Bit.{bit}
 use Rattle.octets.specs.Octets.{byte, word}
 use Rattle.octets.specs.Sentences.{pick, _⇒_, every}
@@ -23,7 +23,7 @@ use Rattle.descriptors.specs.declared.check.Progress.{Progress}
 use Rattle.descriptors.specs.declared.survey.Asked.{Asked}
 use Rattle.descriptors.specs.declared.survey.Survey.{Survey}
 use Rattle.descriptors.specs.Limits.{named}
-use Rattle.descriptors.specs.Descriptor.{bDescriptorType, isInterface, isEndpoint, bInterfaceNumber, bAlternateSetting, bEndpointAddress, bmAttributes, iInterface, goodDescriptor}
+use Rattle.descriptors.specs.Descriptor.{bDescriptorType, isInterface, isEndpoint, bInterfaceNumber, bAlternateSetting, iInterface, goodDescriptor}
 use Rattle.descriptors.specs.Interfaces.{begunBy}
 use Rattle.descriptors.specs.Cut.{Cutting, whole, broken, descriptor, cut}
 use Rattle.descriptors.specs.Configuration.{bitOf}
@@ -39,7 +39,7 @@ use Rattle.descriptors.proofs.CheckReferences.{asked-all, asked-on}
 use Rattle.collecting.specs.declared.walk.Course.{Course}
 use Rattle.collecting.specs.declared.walk.Turned.{Turned}
 use Rattle.collecting.specs.declared.walk.Walked.{Walked}
-use Rattle.collecting.specs.Course.{wantedOf, nextOf, settles, begins, listable, settingOut, listedBy, StartedBy, Turns, Tells, Rests}
+use Rattle.collecting.specs.Course.{wantedOf, nextOf, settles, begins, listable, settingOut, listedBy, StartedBy, Turns, Rests}
 use Rattle.collecting.proofs.Models.{Models, models-begin, models-settles, models-endpoint, models-interface, models-ended, begins-allowed, lists-allowed, lists-inside}
 use Rattle.collecting.proofs.Finding.{Found, found-begin, found-other, found-interface, found-endpoint}
 

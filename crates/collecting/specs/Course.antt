@@ -6,7 +6,7 @@ use mathlib.Core.Path.{_≡_}
 use lib.ListN.{length, getD, drop}
 use lib.Dec.{eqb, leb, ltb}
 use Rattle.octets.specs.Bit.{bit, setBit}
-use Rattle.octets.specs.Octets.{byte, word}
+use Rattle.octets.specs.Octets.{word}
 use Rattle.octets.specs.Sentences.{pick, every}
 use Rattle.octets.specs.Table.{has}
 use Rattle.descriptors.specs.declared.Limits.{Limits}

@@ -13,10 +13,11 @@ use walk::Finds;
 ghost use mathlib.Core.Path.{_≡_};
 ghost use mathlib.Core.Bool.{true, false};
 ghost use Prim.Native.Nat.{ℕ, _≤_};
-ghost use lib.Dec.{eqb, ltb};
+ghost use lib.Dec.{ltb};
 ghost use Rattle.octets.specs.Bit.{bit};
 ghost use Rattle.octets.specs.Table.{has};
 ghost use Rattle.descriptors.specs.Limits.{fullSpeed};
+ghost use Rattle.descriptors.specs.Check.{verdict};
 ghost use Rattle.collecting.specs.Collected.{Collects};
 ghost use Rattle.collecting.specs.Course.{endpointIn, SurveyOf};
 
@@ -40,7 +41,7 @@ fn nothing() -> Survey {
 }
 
 fn refuse() -> Collected
-    ensures { λ r. ⌜ (r .verdict .good ≡ false) × (r .verdict .refers ≡ false) ⌝ }
+    ensures { λ r. ⌜ r .verdict ≡ verdict false false ⌝ }
 {
     Collected {
         verdict: descriptors::check::refuse(),
@@ -107,7 +108,16 @@ fn walk_once(
     if good_head(head, body.len()) {
         let interfaces = octets::peek(head, 4);
         let plain = walk::first_plain(limits.refused);
-        let walked = walk::rest(body, end, interfaces, plain, limits, names, alternates, asked);
+        let walked = walk::rest(
+            body,
+            end,
+            interfaces,
+            plain,
+            limits,
+            names,
+            alternates,
+            asked,
+        );
         let named = walked.refers & holds(names, octets::peek(body, 6));
         let finds = walked.finds;
         return Collected {

@@ -1,3 +1,4 @@
+-- `collecting::collect` meets its contract. No axiom.
 use mathlib.Core.Path.{sym, _∙_}
 use borrow.Author.Needs.{needs}
 use Rattle.collecting.proofs.collect.Statement.{statement}

@@ -1,3 +1,4 @@
+-- `collecting::collect_full_speed` meets its contract. No axiom.
 use borrow.Author.Needs.{needs}
 use Rattle.collecting.proofs.collect_full_speed.Statement.{statement}
 use Rattle.collecting.proofs.collect_full_speed.Tie as tie

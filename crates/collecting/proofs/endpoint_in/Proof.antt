@@ -1,3 +1,4 @@
+-- `collecting::endpoint_in` meets its contract. No axiom.
 use borrow.Author.Tests.{eq-eqb, ne-eqb}
 use borrow.Author.Needs.{needs}
 use Rattle.collecting.proofs.endpoint_in.Statement.{statement}

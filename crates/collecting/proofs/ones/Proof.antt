@@ -1,3 +1,4 @@
+-- `collecting::ones` meets its contract: a power of two less one. No axiom.
 use native.Mathlib.Omega.{arith}
 use lib.Pow.{pow-pos}
 use Rattle.octets.proofs.Bits.{shifted-one}

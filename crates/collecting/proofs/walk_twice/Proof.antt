@@ -1,5 +1,5 @@
--- `collecting::walk_twice` meets its contract. No axiom.
-use mathlib.Core.Path.{_≡_, sym, ap, _∙_}
+-- `collecting::walk_twice` meets its contract: the check, and the survey of a good body. No axiom.
+use mathlib.Core.Path.{sym, ap, _∙_}
 use mathlib.Core.Bool.{false≢true}
 use lib.ListN.{length}
 use Rattle.octets.proofs.Sentences.{both}

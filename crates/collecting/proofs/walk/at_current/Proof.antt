@@ -1,3 +1,4 @@
+-- `collecting::walk::at_current` meets its contract. No axiom.
 use borrow.Author.Needs.{needs}
 use Rattle.collecting.proofs.walk.at_current.Statement.{statement}
 use Rattle.collecting.proofs.walk.at_current.Tie as tie

@@ -1,3 +1,4 @@
+-- `collecting::walk::at_other` meets its contract. No axiom.
 use borrow.Author.Needs.{needs}
 use Rattle.collecting.proofs.walk.at_other.Statement.{statement}
 use Rattle.collecting.proofs.walk.at_other.Tie as tie

@@ -1,4 +1,4 @@
-use native.Mathlib.Omega.{arith}
+-- `collecting::walk::begin` meets its contract: by its length, the endpoints still to come, and its number. No axiom.
 use mathlib.Core.Path.{refl, sym, _∙_}
 use mathlib.Core.Bool.{and-false}
 use borrow.Author.Tests.{eq-eqb, ne-eqb, lt-leb, le-leb}

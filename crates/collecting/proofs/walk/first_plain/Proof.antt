@@ -1,3 +1,4 @@
+-- `collecting::walk::first_plain` meets its contract. No axiom.
 use native.Mathlib.Omega.{arith}
 use Rattle.octets.proofs.Bits.{bit-past}
 use Rattle.collecting.proofs.walk.first_plain.Statement.{statement}

@@ -1,3 +1,4 @@
+-- `collecting::walk::good_kind` meets its contract: by the attributes. No axiom.
 use mathlib.Core.Path.{_∙_}
 use Rattle.collecting.proofs.Rules.{kind-interrupt, kind-bulk, kind-isochronous, kind-none}
 use borrow.Author.Needs.{needs}

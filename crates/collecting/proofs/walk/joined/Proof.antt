@@ -1,3 +1,4 @@
+-- `collecting::walk::joined` meets its contract. No axiom.
 use borrow.Author.Needs.{needs}
 use Rattle.collecting.proofs.walk.joined.Statement.{statement}
 use Rattle.collecting.proofs.walk.joined.Tie as tie

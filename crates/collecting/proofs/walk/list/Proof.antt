@@ -1,4 +1,4 @@
-use native.Mathlib.Omega.{arith}
+-- `collecting::walk::list` meets its contract. No axiom.
 use mathlib.Core.Path.{refl, sym, _∙_}
 use mathlib.Core.List.{[], _∷_}
 use mathlib.Core.Bool.{not}

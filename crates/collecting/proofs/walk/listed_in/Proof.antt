@@ -1,3 +1,4 @@
+-- `collecting::walk::listed_in` meets its contract. No axiom.
 use borrow.Author.Needs.{needs}
 use Rattle.collecting.proofs.walk.listed_in.Statement.{statement}
 use Rattle.collecting.proofs.walk.listed_in.Tie as tie

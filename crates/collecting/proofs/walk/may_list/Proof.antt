@@ -1,3 +1,4 @@
+-- `collecting::walk::may_list` meets its contract: each rule that fails. No axiom.
 use native.Mathlib.Omega.{arith}
 use mathlib.Core.Bool.{and-false, not}
 use mathlib.Core.Path.{sym, ap, _∙_}

@@ -1,4 +1,5 @@
-use mathlib.Core.Path.{_≡_, refl, sym, _∙_}
+-- `collecting::walk::place` meets its contract: by its number. No axiom.
+use mathlib.Core.Path.{refl, sym, _∙_}
 use borrow.Author.Tests.{eq-eqb, ne-eqb}
 use Rattle.octets.proofs.Sentences.{never}
 use Rattle.collecting.specs.Course.{nextOf}

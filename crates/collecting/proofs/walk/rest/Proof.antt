@@ -1,12 +1,12 @@
-use Prim.Native.Nat.{ℕ, _+_, _-_, _<_, _≤_}
+-- `collecting::walk::rest` meets its contract: what the whole walk says, the walk from each place says, and what was found beside it. No axiom.
+use Prim.Native.Nat.{_+_, _-_, _<_, _≤_}
 use native.Mathlib.Omega.{arith}
-use mathlib.Core.Path.{_≡_, refl, sym, _∙_}
+use mathlib.Core.Path.{_≡_, refl, _∙_}
 use lib.ListN.{length}
 use borrow.Author.Tests.{not-true, not-false}
 use borrow.Author.Needs.{needs}
 use Rattle.octets.specs.Octets.{byte}
 use Rattle.descriptors.specs.declared.survey.Asked.{Asked}
-use Rattle.descriptors.proofs.Walk.{spanned}
 use Rattle.collecting.specs.Course.{wantedOf}
 use Rattle.collecting.proofs.Rules.{part-bytes}
 use Rattle.collecting.proofs.Models.{models-low}

@@ -1,3 +1,4 @@
+-- `collecting::walk::start` meets its contract. No axiom.
 use Prim.Native.Nat.{_<_}
 use Rattle.descriptors.specs.Descriptor.{bInterfaceNumber}
 use native.Mathlib.Omega.{arith}

@@ -1,3 +1,4 @@
+-- `collecting::walk::still_refers` meets its contract. No axiom.
 use mathlib.Core.Path.{sym, _∙_}
 use borrow.Author.Needs.{needs}
 use Rattle.collecting.proofs.walk.still_refers.Statement.{statement}

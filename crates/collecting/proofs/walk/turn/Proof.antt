@@ -1,3 +1,4 @@
+-- `collecting::walk::turn` meets its contract: by its type. No axiom.
 use mathlib.Core.Path.{refl, sym, ap, _∙_}
 use mathlib.Core.Bool.{not}
 use borrow.Author.Tests.{ne-eqb}

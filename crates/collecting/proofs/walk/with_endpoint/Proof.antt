@@ -1,3 +1,4 @@
+-- `collecting::walk::with_endpoint` meets its contract. No axiom.
 use borrow.Author.Tests.{eq-eqb, ne-eqb}
 use borrow.Author.Needs.{needs}
 use Rattle.collecting.proofs.walk.with_endpoint.Statement.{statement}
