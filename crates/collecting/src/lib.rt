@@ -1,12 +1,25 @@
-// The check of a configuration body and what an event asks of it.
+// The check of a configuration body and what an event asks of it, in one walk.
+pub mod walk;
+
+use descriptors::Endpoint;
 use descriptors::Limits;
 use descriptors::check::Verdict;
+use descriptors::check::good_head;
 use descriptors::lookup::EndpointFound;
 use descriptors::survey::Asked;
 use descriptors::survey::Survey;
+use octets::table::holds;
+use walk::Finds;
 ghost use mathlib.Core.Path.{_≡_};
-ghost use mathlib.Core.Bool.{false};
+ghost use mathlib.Core.Bool.{true, false};
+ghost use Prim.Native.Nat.{ℕ, _≤_};
+ghost use lib.Dec.{ltb};
+ghost use Rattle.octets.specs.Bit.{bit};
+ghost use Rattle.octets.specs.Table.{has};
+ghost use Rattle.descriptors.specs.Limits.{fullSpeed};
+ghost use Rattle.descriptors.specs.Check.{verdict};
 ghost use Rattle.collecting.specs.Collected.{Collects};
+ghost use Rattle.collecting.specs.Course.{endpointIn, SurveyOf};
 
 // What is found of a body: whether it is good, and whether it is and every string reference in it is in a table; if it is good, what is asked
 // of it.
@@ -27,15 +40,105 @@ fn nothing() -> Survey {
     }
 }
 
-// `names` are the numbers that a string reference may be, `alternates` the alternate setting of each interface.
-pub fn collect(
+fn refuse() -> Collected
+    ensures { λ r. ⌜ r .verdict ≡ verdict false false ⌝ }
+{
+    Collected {
+        verdict: descriptors::check::refuse(),
+        survey: nothing(),
+    }
+}
+
+// The lowest n bits.
+fn ones(n: u8) -> u32
+    requires { ⌜ n ≤ 16 ⌝ }
+    ensures { λ r. ⌜ ((k : ℕ) → bit r k ≡ ltb k n) ⌝ }
+{
+    let one: u32 = 1;
+    (one << (n as u32)) - 1
+}
+
+// The endpoint that a number of the walk stands for.
+fn endpoint_in(found: u32, address: u16) -> EndpointFound
+    ensures { λ r. ⌜ r ≡ endpointIn found address ⌝ }
+{
+    if found == 0 {
+        return EndpointFound::Nothing;
+    }
+    EndpointFound::At(Endpoint {
+        interface: (found % 256) as u8,
+        alternate: ((found / 256 + 255) % 256) as u8,
+        address: (address % 256) as u8,
+        attributes: (found / 65536 % 256) as u8,
+    })
+}
+
+// What the walk found, as a survey of a body with so many interfaces, numbered from 0 on.
+fn survey_of(finds: Finds, interfaces: u8, address: u16) -> Survey
+    requires { ⌜ interfaces ≤ 16 ⌝ }
+    ensures { λ r. ⌜ SurveyOf finds interfaces address r ⌝ }
+{
+    Survey {
+        existing: ones(interfaces),
+        current: finds.current,
+        halting: finds.halting,
+        endpoint: endpoint_in(finds.endpoint, address),
+        there: finds.there == 1,
+        bits: finds.bits,
+    }
+}
+
+// The walk, where number 0 is among the names.
+fn walk_once(
     body: &[u8],
     limits: Limits,
     names: &[u32; 8],
     alternates: &[u8; 16],
     asked: Asked,
 ) -> Collected
-    requires { ⌜ limits .companions ≡ false ⌝ }
+    requires { ⌜ (limits .companions ≡ false) × (has (now names) 0 ≡ true) ⌝ }
+    ensures { λ r. ⌜ Collects limits (now (names .entry)) (now (alternates .entry)) asked (now (body .entry)) r ⌝ }
+{
+    let step = descriptors::advance(body, 0, descriptors::outside());
+    let end = step.end;
+    if end == 0 {
+        return refuse();
+    }
+    let head = &body[..end];
+    if good_head(head, body.len()) {
+        let interfaces = octets::peek(head, 4);
+        let plain = walk::first_plain(limits.refused);
+        let walked = walk::rest(
+            body,
+            end,
+            interfaces,
+            plain,
+            limits,
+            names,
+            alternates,
+            asked,
+        );
+        let named = walked.refers & holds(names, octets::peek(body, 6));
+        let finds = walked.finds;
+        return Collected {
+            verdict: Verdict {
+                good: walked.good,
+                refers: walked.good & named,
+            },
+            survey: survey_of(finds, interfaces, asked.address),
+        };
+    }
+    refuse()
+}
+
+// The check and then the survey: the same in two walks, for any names.
+fn walk_twice(
+    body: &[u8],
+    limits: Limits,
+    names: &[u32; 8],
+    alternates: &[u8; 16],
+    asked: Asked,
+) -> Collected
     ensures { λ r. ⌜ Collects limits (now (names .entry)) (now (alternates .entry)) asked (now (body .entry)) r ⌝ }
 {
     let verdict = descriptors::check::good_configuration(body, limits, names);
@@ -49,4 +152,34 @@ pub fn collect(
         verdict,
         survey: nothing(),
     }
+}
+
+// `names` are the numbers that a string reference may be, `alternates` the alternate setting of each interface. Every table of a set's strings
+// has number 0, which the walk then need not look up for each interface.
+pub fn collect(
+    body: &[u8],
+    limits: Limits,
+    names: &[u32; 8],
+    alternates: &[u8; 16],
+    asked: Asked,
+) -> Collected
+    requires { ⌜ limits .companions ≡ false ⌝ }
+    ensures { λ r. ⌜ Collects limits (now (names .entry)) (now (alternates .entry)) asked (now (body .entry)) r ⌝ }
+{
+    if holds(names, 0) {
+        return walk_once(body, limits, names, alternates, asked);
+    }
+    walk_twice(body, limits, names, alternates, asked)
+}
+
+// The same at full speed: the limits are known in the walk, wherever it is called from.
+pub fn collect_full_speed(
+    body: &[u8],
+    names: &[u32; 8],
+    alternates: &[u8; 16],
+    asked: Asked,
+) -> Collected
+    ensures { λ r. ⌜ Collects fullSpeed (now (names .entry)) (now (alternates .entry)) asked (now (body .entry)) r ⌝ }
+{
+    collect(body, descriptors::full_speed(), names, alternates, asked)
 }

@@ -61,7 +61,7 @@ pub fn is_named(types: u16, t: u8) -> bool
 }
 
 // ---- one descriptor by itself
-fn good_address(address: u8) -> bool
+pub fn good_address(address: u8) -> bool
     ensures { λ r. ⌜ r ≡ goodAddress address ⌝ }
 {
     (address / 16 % 8 == 0) & (1 <= address % 16)
@@ -122,7 +122,7 @@ fn good_endpoint(d: &[u8], limits: Limits) -> bool
 }
 
 // The first descriptor of a body of so many bytes.
-fn good_head(d: &[u8], size: usize) -> bool
+pub fn good_head(d: &[u8], size: usize) -> bool
     ensures { λ r. ⌜ r ≡ goodHead size (now (d .entry)) ⌝ }
 {
     let attributes = octets::peek(d, 7);

@@ -1,0 +1,5 @@
+pub mod Rules
+pub mod Models
+pub mod Finding
+pub mod Reaching
+pub mod Whole

@@ -1,0 +1,68 @@
+-- `collecting::walk::start` meets its contract. No axiom.
+use Prim.Native.Nat.{_<_}
+use Rattle.descriptors.specs.Descriptor.{bInterfaceNumber}
+use native.Mathlib.Omega.{arith}
+use mathlib.Core.Path.{refl, sym, _∙_}
+use mathlib.Core.List.{[], _∷_}
+use mathlib.Core.Bool.{not}
+use lib.ListN.{length}
+use lib.Dec.{eqb, leb}
+use Rattle.octets.specs.Octets.{word}
+use Rattle.octets.proofs.Sentences.{never, conjunct}
+use Rattle.descriptors.specs.Limits.{named}
+use Rattle.collecting.specs.Course.{settles}
+use Rattle.collecting.proofs.Models.{low-number}
+use borrow.Author.Needs.{needs}
+use Rattle.collecting.proofs.walk.start.Statement.{statement}
+use Rattle.collecting.proofs.walk.start.Tie as tie
+
+begin-requires : tie.Need-begin-requires
+begin-requires c κs = search needs
+
+-- the number of an interface that may come
+low : (c : tie.After-next) → bInterfaceNumber (c .before .before .before .before .before .before .args .d .now) < 16
+low c =
+    let a = c .before .before .before .before .before .before .args in
+    let d = a .d .now in
+    let o = a .course .order in
+    let s = conjunct 3 (leb 9 (length d) ∷ not (named (a .limits .refused) 4) ∷ eqb (o .coming) 0 ∷ settles (o .again) (word d 2) ∷ []) (sym (c .before .before .begin .ensures .may) ∙ c .before .if1 .taken) in
+    omega (arith, low-number (o .again) (word d 2) (c .before .before .before .before .before .before .pre .0) s, c .before .before .before .before .before .shared-slice-known .given 2)
+
+role-of-requires : tie.Need-role-of-requires
+role-of-requires c κs = low c
+
+with-setting-requires : tie.Need-with-setting-requires
+with-setting-requires c κs = low (c .before)
+
+peek-requires : tie.Need-peek-requires
+peek-requires c κs = search needs
+
+still-refers-requires : tie.Need-still-refers-requires
+still-refers-requires c κs = search needs
+
+returns : tie.Need-returns
+returns c =
+    record {
+      may = sym (c .before .before .before .before .before .if1 .taken) ∙ c .before .before .before .before .before .before .begin .ensures .may;
+      on = λ _. record {
+        order = c .before .before .before .before .before .before .begin .ensures .on (c .before .before .before .before .before .if1 .taken);
+        role = c .before .before .before .role-of .ensures;
+        finds = c .before .before .with-setting .ensures ∙ rw (c .before .before .before .role-of .ensures);
+        refers = rw (c .still-refers .ensures, c .before .peek .ensures);
+      };
+    }
+
+returns-2 : tie.Need-returns-2
+returns-2 c = record { may = sym (c .if1 .left) ∙ c .before .begin .ensures .may; on = λ e. never e refl }
+
+pub start-spec : {M : Type 1} → statement M
+start-spec =
+    tie.close
+    (tie.spec
+    begin-requires
+    role-of-requires
+    with-setting-requires
+    peek-requires
+    still-refers-requires
+    returns
+    returns-2)

@@ -1,0 +1,211 @@
+-- Working definitions for the contracts of the walk that checks and collects, a descriptor at a time; no promise cites them.
+use Prim.Native.Nat.{ℕ, _+_, _-_, _*_, _/_, _%_, _<_, _≤_}
+use mathlib.Core.List.{List}
+use mathlib.Core.Bool.{Bool, true, false, _&&_, _||_, not}
+use mathlib.Core.Path.{_≡_}
+use lib.ListN.{length, getD, drop}
+use lib.Dec.{eqb, leb, ltb}
+use Rattle.octets.specs.Bit.{bit, setBit}
+use Rattle.octets.specs.Octets.{word}
+use Rattle.octets.specs.Sentences.{pick, every}
+use Rattle.octets.specs.Table.{has}
+use Rattle.descriptors.specs.declared.Limits.{Limits}
+use Rattle.descriptors.specs.declared.lookup.EndpointFound.{EndpointFound}
+use Rattle.descriptors.specs.declared.lookup.EndpointFound.the-variants.{At, Nothing}
+use Rattle.descriptors.specs.declared.survey.Asked.{Asked}
+use Rattle.descriptors.specs.declared.survey.Survey.{Survey}
+use Rattle.descriptors.specs.Limits.{named}
+use Rattle.descriptors.specs.Descriptor.{bDescriptorType, isInterface, isEndpoint, bInterfaceNumber, bAlternateSetting, bNumEndpoints, iInterface, bEndpointAddress, bmAttributes, transferType, goodAttributes, goodSize, goodInterval, goodEndpoint}
+use Rattle.descriptors.specs.Configuration.{bitOf}
+use Rattle.descriptors.specs.Cut.{cut}
+use Rattle.descriptors.specs.Walk.{before, walked, collected}
+use Rattle.descriptors.specs.Check.{starting, checking, referring}
+use Rattle.descriptors.specs.Lookup.{withBit}
+use Rattle.descriptors.specs.Survey.{nothingSeen, surveying}
+use Rattle.collecting.specs.declared.walk.Wanted.{Wanted}
+use Rattle.collecting.specs.declared.walk.Order.{Order}
+use Rattle.collecting.specs.declared.walk.Finds.{Finds}
+use Rattle.collecting.specs.declared.walk.Course.{Course}
+use Rattle.collecting.specs.declared.walk.Placing.{Placing}
+use Rattle.collecting.specs.declared.walk.Begun.{Begun}
+use Rattle.collecting.specs.declared.walk.Turned.{Turned}
+use Rattle.collecting.specs.declared.walk.Walked.{Walked}
+
+-- ---- what is asked: both numbers of a setting in one, which is a descriptor's two bytes if these are the numbers, and else none's
+abbrev pub wantedOf : Asked → Wanted
+wantedOf asked = record {
+  address = asked .address;
+  interface = asked .interface;
+  setting = asked .interface % 256 + 256 * asked .alternate + 16777216 * (asked .interface / 256);
+}
+
+-- ---- the order of settings: the two bytes that the next interface's first setting has, after a setting whose next one would have `again`
+abbrev pub nextOf : ℕ → ℕ
+nextOf again = (again % 256 + 1) % 256
+
+abbrev pub settles : ℕ → ℕ → Bool
+settles again setting = pick (eqb setting again) (leb setting 4095) (eqb setting (nextOf again) && ltb setting 16)
+
+-- `again` is no sum that overflows, and names one of 16 interfaces, if any
+pub record Low (again : ℕ) : Type 0 where
+  pub small : again < 131072
+  pub low : again ≤ 4095 → again % 256 < 16
+
+-- the addresses that may not come, and those of this interface's settings, once a setting is begun
+pub record Takes (o : Order) (setting taken own : ℕ) : Type 0 where
+  pub owns : own ≡ pick (eqb setting (o .again)) (o .own) 0
+  pub takes : (e : ℕ) → e < 32 → bit taken e ≡ pick (eqb setting (o .again)) (bit (o .taken) e && not (bit (o .own) e)) (bit (o .taken) e || bit (o .own) e)
+
+pub record Places (o : Order) (setting : ℕ) (r : Placing) : Type 0 where
+  pub may : r .good ≡ settles (o .again) setting
+  pub on : r .good ≡ true → Takes o setting (r .taken) (r .own)
+
+-- ---- an interface descriptor: whether it may come, and the order after it
+abbrev pub begins : Limits → Order → List ℕ → Bool
+begins limits o d = leb 9 (length d) && not (named (limits .refused) 4) && eqb (o .coming) 0 && settles (o .again) (word d 2)
+
+pub record BegunBy (o : Order) (d : List ℕ) (next : Order) : Type 0 where
+  pub again : next .again ≡ word d 2 + 256
+  pub comes : next .coming ≡ bNumEndpoints d
+  pub rest : Takes o (word d 2) (next .taken) (next .own)
+
+pub record Begins (limits : Limits) (o : Order) (d : List ℕ) (r : Begun) : Type 0 where
+  pub may : r .good ≡ begins limits o d
+  pub on : r .good ≡ true → BegunBy o d (r .order)
+
+-- ---- an endpoint descriptor: its attributes, size and interval; whether it may come, and the order after it
+abbrev pub goodKind : Limits → ℕ → ℕ → ℕ → Bool
+goodKind limits attributes size interval =
+    goodAttributes attributes && goodSize limits (transferType attributes) size && goodInterval limits (transferType attributes) interval
+
+abbrev pub listable : Limits → Order → List ℕ → Bool
+listable limits o d =
+    not (named (limits .refused) 5) && goodEndpoint limits d && leb 1 (o .coming) && not (bit (o .taken) (bitOf (bEndpointAddress d)))
+
+abbrev pub listedIn : Order → List ℕ → Order
+listedIn o d = record {
+  again = o .again;
+  coming = o .coming - 1;
+  taken = setBit (o .taken) (bitOf (bEndpointAddress d));
+  own = setBit (o .own) (bitOf (bEndpointAddress d));
+}
+
+-- ---- what is found. The role of a setting: 3 is current and of the asked interface, 2 is current, 1 is the asked one, 0 is none of these
+abbrev pub roleOf : List ℕ → Wanted → List ℕ → ℕ
+roleOf alternates wanted d =
+    pick (eqb (bAlternateSetting d) (getD alternates (bInterfaceNumber d) 0)) (pick (eqb (bInterfaceNumber d) (wanted .interface)) 3 2)
+    (pick (eqb (word d 2) (wanted .setting)) 1 0)
+
+abbrev pub withSetting : Finds → List ℕ → ℕ → Wanted → Finds
+withSetting f d role wanted = pick (eqb role 0) f (record {
+  current = pick (leb 2 role) (setBit (f .current) (bInterfaceNumber d)) (f .current);
+  halting = f .halting;
+  bits = f .bits;
+  endpoint = f .endpoint;
+  there = pick (eqb (word d 2) (wanted .setting)) 1 (f .there);
+})
+
+-- the endpoint that was found before, or else this one, in one number
+abbrev pub firstFound : ℕ → ℕ → List ℕ → Wanted → ℕ
+firstFound endpoint again d wanted = pick (eqb (bEndpointAddress d) (wanted .address) && eqb endpoint 0) (again + 65536 * bmAttributes d) endpoint
+
+abbrev pub atOther : Finds → List ℕ → Finds
+atOther f d = record { current = f .current; halting = f .halting; bits = withBit (f .bits) true d; endpoint = f .endpoint; there = f .there }
+
+abbrev pub atCurrent : Finds → List ℕ → ℕ → ℕ → Wanted → Finds
+atCurrent f d again role wanted = record {
+  current = f .current;
+  halting = withBit (f .halting) (leb 2 (transferType (bmAttributes d))) d;
+  bits = withBit (f .bits) (eqb role 3) d;
+  endpoint = firstFound (f .endpoint) again d wanted;
+  there = f .there;
+}
+
+abbrev pub withEndpoint : Finds → List ℕ → ℕ → ℕ → Wanted → Finds
+withEndpoint f d again role wanted = pick (eqb role 0) f (pick (eqb role 1) (atOther f d) (atCurrent f d again role wanted))
+
+-- the endpoint that a number stands for
+abbrev pub endpointIn : ℕ → ℕ → EndpointFound
+endpointIn found address = pick (eqb found 0) Nothing (At (record {
+  interface = found % 256;
+  alternate = (found / 256 + 255) % 256;
+  address = address % 256;
+  attributes = found / 65536 % 256;
+}))
+
+-- ---- a descriptor of any type
+abbrev pub settingOut : Course
+settingOut = record {
+  order = record { again = 65791; coming = 0; taken = 0; own = 0 };
+  finds = record { current = 0; halting = 0; bits = 0; endpoint = 0; there = 0 };
+  role = 0;
+  refers = 1;
+}
+
+abbrev pub proceeds : Limits → Order → List ℕ → Bool
+proceeds limits o d = pick (isEndpoint d) (listable limits o d) (pick (isInterface d) (begins limits o d) (not (named (limits .refused) (bDescriptorType d))))
+
+abbrev pub listedBy : Wanted → Course → List ℕ → Course
+listedBy wanted c d = record {
+  order = listedIn (c .order) d;
+  finds = withEndpoint (c .finds) d (c .order .again) (c .role) wanted;
+  role = c .role;
+  refers = c .refers;
+}
+
+pub record StartedBy (names alternates : List ℕ) (wanted : Wanted) (c : Course) (d : List ℕ) (next : Course) : Type 0 where
+  pub order : BegunBy (c .order) d (next .order)
+  pub role : next .role ≡ roleOf alternates wanted d
+  pub finds : next .finds ≡ withSetting (c .finds) d (roleOf alternates wanted d) wanted
+  pub refers : next .refers ≡ pick (has names (iInterface d)) (c .refers) 0
+
+pub record Starts (limits : Limits) (names alternates : List ℕ) (wanted : Wanted) (c : Course) (d : List ℕ) (r : Turned) : Type 0 where
+  pub may : r .good ≡ begins limits (c .order) d
+  pub on : r .good ≡ true → StartedBy names alternates wanted c d (r .course)
+
+pub record Lists (limits : Limits) (wanted : Wanted) (c : Course) (d : List ℕ) (r : Turned) : Type 0 where
+  pub may : r .good ≡ listable limits (c .order) d
+  pub on : r .good ≡ true → r .course ≡ listedBy wanted c d
+
+pub record Turns (limits : Limits) (names alternates : List ℕ) (wanted : Wanted) (c : Course) (d : List ℕ) (r : Turned) : Type 0 where
+  pub may : r .good ≡ proceeds limits (c .order) d
+  pub lists : isEndpoint d ≡ true → r .good ≡ true → r .course ≡ listedBy wanted c d
+  pub starts : isInterface d ≡ true → r .good ≡ true → StartedBy names alternates wanted c d (r .course)
+  pub passes : isInterface d ≡ false → isEndpoint d ≡ false → r .course ≡ c
+
+-- ---- the whole walk
+-- what is asked of its call: the body is short enough that no place overflows; types from `plain` on are not refused; number 0 is a name
+pub record Ready (limits : Limits) (names body : List ℕ) (n from plain : ℕ) : Type 0 where
+  pub alone : limits .companions ≡ false
+  pub short : length body ≤ 65535
+  pub some-bytes : 1 ≤ length body
+  pub inside : from ≤ length body
+  pub one : 1 ≤ n
+  pub few : n ≤ 16
+  pub allows : (t : ℕ) → plain ≤ t → bit (limits .refused) t ≡ false
+  pub plainly : 6 ≤ plain
+  pub zero : has names 0 ≡ true
+
+-- what is found says what a survey says, but for the interfaces that exist
+pub record Tells (asked : Asked) (s : Survey) (f : Finds) : Type 0 where
+  pub current : f .current ≡ s .current
+  pub halting : f .halting ≡ s .halting
+  pub bits : f .bits ≡ s .bits
+  pub endpoint : endpointIn (f .endpoint) (asked .address) ≡ s .endpoint
+  pub there : eqb (f .there) 1 ≡ s .there
+
+-- what the walk over the descriptors from `from` on answers
+pub record Rests (limits : Limits) (names alternates : List ℕ) (asked : Asked) (body : List ℕ) (n from : ℕ) (r : Walked) : Type 0 where
+  pub good : r .good ≡ walked (checking limits n) starting before (cut (drop from body))
+  pub refers : r .good ≡ true → r .refers ≡ every (has names) (collected referring body before from)
+  pub tells : r .good ≡ true → Tells asked (walked (surveying alternates asked) nothingSeen before (cut (drop from body))) (r .finds)
+  pub exists : r .good ≡ true → (k : ℕ) → k < 32 → bit (walked (surveying alternates asked) nothingSeen before (cut (drop from body)) .existing) k ≡ ltb k n
+
+-- a survey made of what was found, for n interfaces, numbered from 0 on
+pub record SurveyOf (f : Finds) (n address : ℕ) (s : Survey) : Type 0 where
+  pub existing : (k : ℕ) → bit (s .existing) k ≡ ltb k n
+  pub current : s .current ≡ f .current
+  pub halting : s .halting ≡ f .halting
+  pub bits : s .bits ≡ f .bits
+  pub endpoint : s .endpoint ≡ endpointIn (f .endpoint) address
+  pub there : s .there ≡ eqb (f .there) 1

@@ -1,0 +1,510 @@
+// One walk that checks a configuration body and collects what is asked of it. A descriptor's type is asked first, and that a descriptor which is only
+// stepped over ends inside the body only by where the walk ends. What the walk keeps are numbers of one width, so that a compiler keeps them in registers.
+use descriptors::Limits;
+use descriptors::check::good_address;
+use descriptors::check::is_doubled;
+use descriptors::check::is_named;
+use descriptors::check::is_sized;
+use descriptors::check::is_within;
+use descriptors::lookup::bit_of;
+use descriptors::lookup::with_bit;
+use descriptors::survey::Asked;
+use octets::table::holds;
+ghost use mathlib.Core.Path.{_≡_};
+ghost use mathlib.Core.Bool.{true, false};
+ghost use Prim.Native.Nat.{ℕ, _<_, _≤_, _+_};
+ghost use lib.Dec.{eqb};
+ghost use Rattle.octets.specs.Bit.{setBit};
+ghost use Rattle.octets.specs.Sentences.{pick};
+ghost use Rattle.octets.specs.Table.{has};
+ghost use Rattle.descriptors.specs.Limits.{named};
+ghost use Rattle.descriptors.specs.Descriptor.{bInterfaceNumber};
+ghost use Rattle.collecting.specs.Course.{wantedOf, nextOf, Low, Places, Begins, goodKind, listable, listedIn, roleOf, withSetting, firstFound, atOther, atCurrent, withEndpoint, settingOut, Starts, Lists, Turns, Ready, Rests};
+
+// What is asked, as the walk compares it: an address, an interface, and a setting by one number.
+pub struct Wanted {
+    pub address: u32,
+    pub interface: u32,
+    pub setting: u32,
+}
+
+// How far the check is. The two bytes of a setting, its interface's number and its alternate, are one number: `again` is that of this interface's next
+// setting, and before the first interface none that a setting has. `coming` endpoints are still to come; `taken` are the addresses that may not come
+// in this setting, `own` those of this interface's settings.
+struct Order {
+    again: u32,
+    coming: u32,
+    taken: u32,
+    own: u32,
+}
+
+// What was found so far: a survey's words; the endpoint asked for, in one number, or 0; 1 if the setting asked for is there.
+pub struct Finds {
+    pub current: u32,
+    pub halting: u32,
+    pub bits: u32,
+    pub endpoint: u32,
+    pub there: u32,
+}
+
+// How far the walk is; the role of this setting, and 1 if every string reference so far is in the table.
+struct Course {
+    order: Order,
+    finds: Finds,
+    role: u32,
+    refers: u32,
+}
+
+// A setting that comes: whether it may, and the addresses then.
+struct Placing {
+    good: bool,
+    taken: u32,
+    own: u32,
+}
+
+// An interface descriptor: whether it may come, and the order then.
+struct Begun {
+    good: bool,
+    order: Order,
+}
+
+// One more descriptor: whether it may come, and how far the walk is then.
+struct Turned {
+    good: bool,
+    course: Course,
+}
+
+// Whether the body is good; if so, whether the references are in the table, and what was found.
+pub struct Walked {
+    pub good: bool,
+    pub refers: bool,
+    pub finds: Finds,
+}
+
+// From this type on, no type is refused.
+pub fn first_plain(refused: u16) -> u8
+    ensures { λ r. ⌜ (6 ≤ r) × ((t : ℕ) → r ≤ t → named refused t ≡ false) ⌝ }
+{
+    if refused < 256 {
+        return 8;
+    }
+    16
+}
+
+pub fn wanted_of(asked: Asked) -> Wanted
+    ensures { λ r. ⌜ r ≡ wantedOf asked ⌝ }
+{
+    let interface = asked.interface as u32;
+    Wanted {
+        address: asked.address as u32,
+        interface,
+        setting: interface % 256 + 256 * asked.alternate as u32 + 16777216 * (interface / 256),
+    }
+}
+
+fn set_out() -> Course
+    ensures { λ r. ⌜ r ≡ settingOut ⌝ }
+{
+    Course {
+        order: Order {
+            again: 65791,
+            coming: 0,
+            taken: 0,
+            own: 0,
+        },
+        finds: Finds {
+            current: 0,
+            halting: 0,
+            bits: 0,
+            endpoint: 0,
+            there: 0,
+        },
+        role: 0,
+        refers: 1,
+    }
+}
+
+// The number of the next interface's first setting.
+fn next_of(again: u32) -> u32
+    ensures { λ r. ⌜ r ≡ nextOf again ⌝ }
+{
+    (again % 256 + 1) % 256
+}
+
+// A setting that comes, by its number.
+fn place(order: Order, setting: u32) -> Placing
+    ensures { λ r. ⌜ Places order setting r ⌝ }
+{
+    if setting == order.again {
+        return Placing {
+            good: setting <= 4095,
+            taken: octets::without(order.taken, order.own),
+            own: order.own,
+        };
+    }
+    if setting == next_of(order.again) {
+        return Placing {
+            good: setting < 16,
+            taken: order.taken | order.own,
+            own: 0,
+        };
+    }
+    Placing {
+        good: false,
+        taken: order.taken,
+        own: order.own,
+    }
+}
+
+// An interface descriptor, as to the check.
+fn begin(d: &[u8], order: Order, limits: Limits) -> Begun
+    ensures { λ r. ⌜ Begins limits order (now (d .entry)) r ⌝ }
+{
+    if d.len() < 9 {
+        return Begun { good: false, order };
+    }
+    if is_named(limits.refused, 4) {
+        return Begun { good: false, order };
+    }
+    if order.coming != 0 {
+        return Begun { good: false, order };
+    }
+    let setting = octets::word(d, 2) as u32;
+    let placed = place(order, setting);
+    Begun {
+        good: placed.good,
+        order: Order {
+            again: setting + 256,
+            coming: octets::peek(d, 4) as u32,
+            taken: placed.taken,
+            own: placed.own,
+        },
+    }
+}
+
+// An endpoint's attributes, size and interval.
+fn good_kind(limits: Limits, attributes: u8, size: u16, interval: u8) -> bool
+    ensures { λ r. ⌜ r ≡ goodKind limits attributes size interval ⌝ }
+{
+    if attributes == 3 {
+        return is_sized(limits, limits.interrupt, size)
+            & is_within(limits.polling, interval as u16);
+    }
+    if attributes == 2 {
+        return is_doubled(limits.bulk, size);
+    }
+    if attributes % 4 == 1 {
+        return (attributes <= 63)
+            & is_sized(limits, limits.isochronous, size)
+            & is_within(limits.period, interval as u16);
+    }
+    false
+}
+
+// An endpoint descriptor may come.
+fn may_list(d: &[u8], order: Order, limits: Limits) -> bool
+    ensures { λ r. ⌜ r ≡ listable limits order (now (d .entry)) ⌝ }
+{
+    if d.len() < 7 {
+        return false;
+    }
+    if is_named(limits.refused, 5) {
+        return false;
+    }
+    if order.coming == 0 {
+        return false;
+    }
+    let address = octets::peek(d, 2);
+    if good_address(address) {
+        if good_kind(
+            limits,
+            octets::peek(d, 3),
+            octets::word(d, 4),
+            octets::peek(d, 6),
+        ) {
+            return !octets::test_bit(order.taken, bit_of(address));
+        }
+        return false;
+    }
+    false
+}
+
+// The order after it.
+fn listed_in(d: &[u8], order: Order) -> Order
+    requires { ⌜ 1 ≤ order .coming ⌝ }
+    ensures { λ r. ⌜ r ≡ listedIn order (now (d .entry)) ⌝ }
+{
+    let e = bit_of(octets::peek(d, 2));
+    Order {
+        again: order.again,
+        coming: order.coming - 1,
+        taken: octets::set_bit(order.taken, e),
+        own: octets::set_bit(order.own, e),
+    }
+}
+
+// Whether every reference is in `names`, after one more: number 0 is, and is the most frequent.
+fn still_refers(refers: u32, k: u8, names: &[u32; 8]) -> u32
+    requires { ⌜ has (now names) 0 ≡ true ⌝ }
+    ensures { λ r. ⌜ r ≡ pick (has (now (names .entry)) k) refers 0 ⌝ }
+{
+    if k == 0 {
+        return refers;
+    }
+    if holds(names, k) {
+        return refers;
+    }
+    0
+}
+
+// The role of the setting that an interface descriptor begins.
+fn role_of(d: &[u8], alternates: &[u8; 16], wanted: Wanted) -> u32
+    requires { ⌜ bInterfaceNumber (now d) < 16 ⌝ }
+    ensures { λ r. ⌜ r ≡ roleOf (now (alternates .entry)) wanted (now (d .entry)) ⌝ }
+{
+    let number = octets::peek(d, 2);
+    if octets::peek(d, 3) == alternates[number as usize] {
+        if number as u32 == wanted.interface {
+            return 3;
+        }
+        return 2;
+    }
+    if octets::word(d, 2) as u32 == wanted.setting {
+        return 1;
+    }
+    0
+}
+
+// The word, with an interface's bit if it is `wanted`.
+fn joined(word: u32, number: u8, wanted: bool) -> u32
+    requires { ⌜ number < 16 ⌝ }
+    ensures { λ r. ⌜ r ≡ pick wanted (setBit word number) word ⌝ }
+{
+    if wanted {
+        return octets::set_bit(word, number as u32);
+    }
+    word
+}
+
+// 1 if it is `so`, or else what it was.
+fn raised(flag: u32, so: bool) -> u32
+    ensures { λ r. ⌜ r ≡ pick so 1 flag ⌝ }
+{
+    if so {
+        return 1;
+    }
+    flag
+}
+
+// What is found once a setting with this role is begun; most have none.
+fn with_setting(finds: Finds, d: &[u8], role: u32, wanted: Wanted) -> Finds
+    requires { ⌜ bInterfaceNumber (now d) < 16 ⌝ }
+    ensures { λ r. ⌜ r ≡ withSetting finds (now (d .entry)) role wanted ⌝ }
+{
+    if role == 0 {
+        return finds;
+    }
+    let number = octets::peek(d, 2);
+    let asked = octets::word(d, 2) as u32 == wanted.setting;
+    Finds {
+        current: joined(finds.current, number, 2 <= role),
+        halting: finds.halting,
+        bits: finds.bits,
+        endpoint: finds.endpoint,
+        there: raised(finds.there, asked),
+    }
+}
+
+// The endpoint that was found before, or else the one that a descriptor lists, if its address is asked for.
+fn first_found(endpoint: u32, again: u32, d: &[u8], wanted: Wanted) -> u32
+    requires { ⌜ again < 131072 ⌝ }
+    ensures { λ r. ⌜ r ≡ firstFound endpoint again (now (d .entry)) wanted ⌝ }
+{
+    if octets::peek(d, 2) as u32 == wanted.address {
+        if endpoint == 0 {
+            return again + 65536 * octets::peek(d, 3) as u32;
+        }
+    }
+    endpoint
+}
+
+// What is found once an endpoint descriptor comes, in a setting that is not current but asked for.
+fn at_other(finds: Finds, d: &[u8]) -> Finds
+    ensures { λ r. ⌜ r ≡ atOther finds (now (d .entry)) ⌝ }
+{
+    Finds {
+        current: finds.current,
+        halting: finds.halting,
+        bits: with_bit(finds.bits, d, true),
+        endpoint: finds.endpoint,
+        there: finds.there,
+    }
+}
+
+// The same in a current setting.
+fn at_current(finds: Finds, d: &[u8], again: u32, role: u32, wanted: Wanted) -> Finds
+    requires { ⌜ again < 131072 ⌝ }
+    ensures { λ r. ⌜ r ≡ atCurrent finds (now (d .entry)) again role wanted ⌝ }
+{
+    Finds {
+        current: finds.current,
+        halting: with_bit(finds.halting, d, 2 <= octets::peek(d, 3) % 4),
+        bits: with_bit(finds.bits, d, role == 3),
+        endpoint: first_found(finds.endpoint, again, d, wanted),
+        there: finds.there,
+    }
+}
+
+// The same in a setting with this role; most have none.
+fn with_endpoint(finds: Finds, d: &[u8], again: u32, role: u32, wanted: Wanted) -> Finds
+    requires { ⌜ again < 131072 ⌝ }
+    ensures { λ r. ⌜ r ≡ withEndpoint finds (now (d .entry)) again role wanted ⌝ }
+{
+    if role == 0 {
+        return finds;
+    }
+    if role == 1 {
+        return at_other(finds, d);
+    }
+    at_current(finds, d, again, role, wanted)
+}
+
+// An endpoint descriptor.
+fn list(d: &[u8], course: Course, limits: Limits, wanted: Wanted) -> Turned
+    requires { ⌜ Low (course .order .again) ⌝ }
+    ensures { λ r. ⌜ Lists limits wanted course (now (d .entry)) r ⌝ }
+{
+    let order = course.order;
+    let finds = course.finds;
+    if may_list(d, order, limits) {
+        return Turned {
+            good: true,
+            course: Course {
+                order: listed_in(d, order),
+                finds: with_endpoint(finds, d, order.again, course.role, wanted),
+                role: course.role,
+                refers: course.refers,
+            },
+        };
+    }
+    Turned {
+        good: false,
+        course,
+    }
+}
+
+// An interface descriptor.
+fn start(
+    d: &[u8],
+    course: Course,
+    limits: Limits,
+    names: &[u32; 8],
+    alternates: &[u8; 16],
+    wanted: Wanted,
+) -> Turned
+    requires { ⌜ Low (course .order .again) × (has (now names) 0 ≡ true) ⌝ }
+    ensures { λ r. ⌜ Starts limits (now (names .entry)) (now (alternates .entry)) wanted course (now (d .entry)) r ⌝ }
+{
+    let order = course.order;
+    let finds = course.finds;
+    let begun = begin(d, order, limits);
+    if begun.good {
+        let next = begun.order;
+        let role = role_of(d, alternates, wanted);
+        return Turned {
+            good: true,
+            course: Course {
+                order: next,
+                finds: with_setting(finds, d, role, wanted),
+                role,
+                refers: still_refers(course.refers, octets::peek(d, 8), names),
+            },
+        };
+    }
+    Turned {
+        good: false,
+        course,
+    }
+}
+
+fn turn(
+    d: &[u8],
+    course: Course,
+    limits: Limits,
+    names: &[u32; 8],
+    alternates: &[u8; 16],
+    wanted: Wanted,
+) -> Turned
+    requires { ⌜ Low (course .order .again) × (has (now names) 0 ≡ true) ⌝ }
+    ensures { λ r. ⌜ Turns limits (now (names .entry)) (now (alternates .entry)) wanted course (now (d .entry)) r ⌝ }
+{
+    let t = octets::peek(d, 1);
+    if t == 5 {
+        return list(d, course, limits, wanted);
+    }
+    if t == 4 {
+        return start(d, course, limits, names, alternates, wanted);
+    }
+    Turned {
+        good: !is_named(limits.refused, t),
+        course,
+    }
+}
+
+// How the walk ends: `ends` is whether the body may end so.
+fn told(course: Course, ends: bool) -> Walked
+    ensures { λ r. ⌜ (r .good ≡ ends) × (r .refers ≡ eqb (course .refers) 1) × (r .finds ≡ course .finds) ⌝ }
+{
+    let finds = course.finds;
+    Walked {
+        good: ends,
+        refers: course.refers == 1,
+        finds,
+    }
+}
+
+// The descriptors from `from` on, for so many interfaces; no type from `plain` on is refused.
+pub fn rest(
+    body: &[u8],
+    from: usize,
+    interfaces: u8,
+    plain: u8,
+    limits: Limits,
+    names: &[u32; 8],
+    alternates: &[u8; 16],
+    asked: Asked,
+) -> Walked
+    requires { ⌜ Ready limits (now names) (now body) interfaces from plain ⌝ }
+    ensures { λ r. ⌜ Rests limits (now (names .entry)) (now (alternates .entry)) asked (now (body .entry)) interfaces from r ⌝ }
+{
+    let wanted = wanted_of(asked);
+    let mut course = set_out();
+    let mut at = from;
+    let last = body.len() - 1;
+    while at < last {
+        let size = body[at] as usize;
+        let t = body[at + 1];
+        if size < 2 {
+            return told(course, false);
+        }
+        let end = at + size;
+        if plain <= t {
+            at = end;
+            continue;
+        }
+        if body.len() < end {
+            return told(course, false);
+        }
+        let turned = turn(&body[at..end], course, limits, names, alternates, wanted);
+        if !turned.good {
+            return told(course, false);
+        }
+        course = turned.course;
+        at = end;
+    }
+    let order = course.order;
+    let ends = (at == body.len())
+        & (next_of(order.again) == interfaces as u32)
+        & (order.coming == 0);
+    told(course, ends)
+}
