@@ -26,6 +26,7 @@ ERRORS = [
     "memory outside the blocks was touched",
     "the call stopped the program",
     "the command was not understood",
+    "the second way gave or left something else",
 ]
 
 

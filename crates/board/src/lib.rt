@@ -15,6 +15,7 @@ mod endpoint;
 mod makers;
 mod numbers;
 mod ports;
+mod table;
 mod two;
 
 // Opens a set with its serial block: the image becomes the fresh record, whether they are accepted or not.
@@ -43,7 +44,9 @@ fn happen(
     ensures answer { λ r. ⌜ r ≡ eventIn number (viewIn paired (now (set .entry)) (now (serial .entry))) (now (image .entry)) what .answer ⌝ }
     ensures image { λ _. ⌜ now (image .exit) ≡ eventIn number (viewIn paired (now (set .entry)) (now (serial .entry))) (now (image .entry)) what .image ⌝ }
 {
-    let reaction = steps::react(number, paired, set, serial, records::read(image), what);
+    let device = records::read(image);
+    let known = steps::facts::look_up(number, set, serial, device, what);
+    let reaction = steps::react(number, paired, set, serial, device, what, known);
     let change = reaction.next;
     records::renewal::renew(image, reaction.settles, change);
     reaction.answer

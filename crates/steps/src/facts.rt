@@ -1,6 +1,7 @@
 // What an event has to know of a board, gathered from its set and its serial block.
 use descriptors::ConfigurationIndex;
 use descriptors::ConfigurationValue;
+use descriptors::lookup::EndpointFound;
 use descriptors::survey;
 use descriptors::survey::Asked;
 use descriptors::survey::Survey;
@@ -25,7 +26,7 @@ ghost use Rattle.events.specs.Requests.{languageFor, locateString, locate};
 ghost use Rattle.records.specs.declared.Device.{Device};
 ghost use Rattle.events.specs.Facts.{naming, questionOf, askedBy, Tells};
 ghost use Rattle.steps.specs.Gathering.{configurationsIn, Openable, viewIn, bodyFound, located};
-ghost use Rattle.steps.specs.Selected.{Knows};
+ghost use Rattle.steps.specs.Selected.{nothingKnown, Knows};
 
 // The question of a function event, or of one that asks nothing.
 fn naming(address: u8) -> Setup
@@ -179,11 +180,32 @@ pub struct Selected {
     pub survey: Survey,
 }
 
-// The selected configuration, looked up, and one walk through it.
-pub fn look_up(set: &[u8], serial: &[u8], device: Device, event: Event) -> Selected
-    requires { ⌜ Openable (now set) (now serial) ⌝ }
-    ensures { λ r. ⌜ Knows (now (set .entry)) (device .configuration) (device .alternates) (askedBy (questionOf event)) r ⌝ }
+// Before anything is known.
+pub fn nothing_known() -> Selected
+    ensures { λ r. ⌜ r ≡ nothingKnown ⌝ }
 {
+    Selected {
+        configured: false,
+        waking: false,
+        survey: Survey {
+            existing: 0,
+            current: 0,
+            halting: 0,
+            endpoint: EndpointFound::Nothing,
+            there: false,
+            bits: 0,
+        },
+    }
+}
+
+// The selected configuration, looked up, and one walk through it, if the set opens: `number` is what opening gives.
+pub fn look_up(number: u8, set: &[u8], serial: &[u8], device: Device, event: Event) -> Selected
+    requires { ⌜ (number ≡ 0 → Openable (now set) (now serial)) ⌝ }
+    ensures { λ r. ⌜ (number ≡ 0 → Knows (now (set .entry)) (device .configuration) (device .alternates) (askedBy (questionOf event)) r) ⌝ }
+{
+    if number != 0 {
+        return nothing_known();
+    }
     let selected = configuration::by_value(set, ConfigurationValue(device.configuration));
     let body = body_found(set, selected);
     let alternates = device.alternates;

@@ -40,9 +40,10 @@ pub fn in_use<'a>(full: &'a [u8], high: &'a [u8], speed: u8) -> &'a [u8]
     high
 }
 
-// The reaction to an event on a board that was checked and opens, from what is known of the selected configuration: `set` is the set in use, one of two
-// if `paired`.
-pub fn react_knowing(
+// The reaction to an event on a board that was checked: `number` is what opening gives, `set` is the set in use, one of two if `paired`, and `known` what is known of it if it
+// opens. Both are asked before this frame stands, to spare the stack.
+pub fn react(
+    number: u8,
     paired: bool,
     set: &[u8],
     serial: &[u8],
@@ -50,9 +51,12 @@ pub fn react_knowing(
     event: Event,
     known: Selected,
 ) -> Reaction
-    requires { ⌜ Openable (now set) (now serial) × Knows (now set) (device .configuration) (device .alternates) (askedBy (questionOf event)) known ⌝ }
-    ensures { λ r. ⌜ outcomeOf r device ≡ stepIn 0 (viewIn paired (now (set .entry)) (now (serial .entry))) device event ⌝ }
+    requires { ⌜ (number ≡ 0 → Openable (now set) (now serial) × Knows (now set) (device .configuration) (device .alternates) (askedBy (questionOf event)) known) ⌝ }
+    ensures { λ r. ⌜ outcomeOf r device ≡ stepIn number (viewIn paired (now (set .entry)) (now (serial .entry))) device event ⌝ }
 {
+    if number != 0 {
+        return reaction::refused(7);
+    }
     let facts = facts::gather(paired, set, serial, event, known);
     let survey = facts.survey;
     if !records::fits(survey, facts.configured, facts.waking, paired, device) {
@@ -61,31 +65,13 @@ pub fn react_knowing(
     events::respond::respond(facts, device, event)
 }
 
-// The reaction to an event on a board that was checked: `number` is what opening gives. Opening is asked before this frame stands, to spare the stack.
-pub fn react(
-    number: u8,
-    paired: bool,
-    set: &[u8],
-    serial: &[u8],
-    device: Device,
-    event: Event,
-) -> Reaction
-    requires { ⌜ (number ≡ 0 → Openable (now set) (now serial)) ⌝ }
-    ensures { λ r. ⌜ outcomeOf r device ≡ stepIn number (viewIn paired (now (set .entry)) (now (serial .entry))) device event ⌝ }
-{
-    if number != 0 {
-        return reaction::refused(7);
-    }
-    let known = facts::look_up(set, serial, device, event);
-    react_knowing(paired, set, serial, device, event, known)
-}
-
 // The step on a board that lends one set and was checked.
 pub fn step_opened(number: u8, set: &[u8], serial: &[u8], device: Device, event: Event) -> Outcome
     requires { ⌜ number ≡ openingOf (lent (now set) (now serial)) ⌝ }
     ensures { λ r. ⌜ r ≡ step (lent (now (set .entry)) (now (serial .entry))) device event ⌝ }
 {
-    let reaction = react(number, false, set, serial, device, event);
+    let known = facts::look_up(number, set, serial, device, event);
+    let reaction = react(number, false, set, serial, device, event, known);
     let answer = reaction.answer;
     let next = reaction.next;
     Outcome {
@@ -113,7 +99,8 @@ fn step_left(number: u8, set: &[u8], serial: &[u8], device: Device, event: Event
     requires { ⌜ number ≡ openingOf (lent (now set) (now serial)) ⌝ }
     ensures { λ r. ⌜ (gives (r .answer) (r .device) ≡ step (lent (now (set .entry)) (now (serial .entry))) device event) × (r .stays ≡ true → r .device ≡ device) ⌝ }
 {
-    let reaction = react(number, false, set, serial, device, event);
+    let known = facts::look_up(number, set, serial, device, event);
+    let reaction = react(number, false, set, serial, device, event, known);
     let answer = reaction.answer;
     let next = reaction.next;
     Left {

@@ -105,6 +105,7 @@ impl Response {
             2 => "; the part lies in no block that was lent, or was not written",
             3 => "; memory outside the blocks was touched",
             4 => "; the call stopped the program",
+            6 => "; the second way gave or left something else",
             _ => "; the command was not understood",
         };
         let block = ["set", "serial", "reply", "high"].get(usize::from(self.block)).unwrap_or(&"nowhere");

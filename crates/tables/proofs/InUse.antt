@@ -1,0 +1,15 @@
+-- Of two sets that open, the one in use opens. No axiom.
+use Prim.Native.Nat.{ℕ}
+use mathlib.Core.Path.{_≡_}
+use mathlib.Core.List.{List}
+use mathlib.Core.Option.{some}
+use lib.Dec.{eqb}
+use Rattle.octets.specs.Sentences.{pick}
+use Rattle.sets.specs.Opening.{lentTwo, opening}
+use Rattle.sets.specs.Pair.{openingTwo}
+use Rattle.records.proofs.InUse.{rowFor, opensFor}
+use Rattle.steps.specs.Gathering.{Openable}
+
+pub openable : (full high serial : List ℕ) (speed : ℕ) → openingTwo full high serial ≡ 0 → Openable (pick (eqb speed 0) full high) serial
+unfolding opening
+openable full high serial speed z = (rowFor (some high) speed, opensFor (lentTwo full high serial) speed z)

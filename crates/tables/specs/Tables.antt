@@ -1,0 +1,38 @@
+-- Working definitions for the contracts of opening with what an event asks; no promise cites them.
+use Prim.Native.Nat.{ℕ}
+use mathlib.Core.Path.{_≡_}
+use mathlib.Core.Bool.{Bool, true, _&&_, _||_, not}
+use mathlib.Core.List.{List}
+use lib.Dec.{eqb, leb}
+use Rattle.octets.specs.Sentences.{pick, every}
+use Rattle.descriptors.specs.declared.Limits.{Limits}
+use Rattle.descriptors.specs.declared.survey.Asked.{Asked}
+use Rattle.descriptors.specs.declared.survey.Survey.{Survey}
+use Rattle.descriptors.specs.Check.{verdict, configurationRefers}
+use Rattle.sets.specs.declared.Entry.{Entry}
+use Rattle.sets.specs.Contents.{bodies}
+use Rattle.sets.specs.Opening.{goodConfigurations}
+use Rattle.steps.specs.declared.facts.Selected.{Selected}
+use Rattle.steps.specs.Selected.{Knows}
+use Rattle.tables.specs.declared.Opened.{Opened}
+use Rattle.tables.specs.declared.pass.Passed.{Passed}
+
+-- a configuration entry with index n and this value, beside its body
+abbrev pub numbered : Entry → ℕ → ℕ → Bool → Bool
+numbered e n value seen = eqb (e .index) n && eqb (e .language) 0 && leb 1 value && not seen
+
+-- what is known after a configuration: the first that is selected counts
+abbrev pub learned : Selected → Bool → Bool → Survey → Selected
+learned k wakes here survey =
+    pick (here && not (k .configured)) (record { configured = true; waking = k .waking || wakes; survey = survey })
+    (record { configured = k .configured; waking = k .waking || wakes; survey = k .survey })
+
+-- the pass over the configurations: the verdict of the check, and if it is good what is known
+pub record Passes (limits : Limits) (set names : List ℕ) (value : ℕ) (alternates : List ℕ) (asked : Asked) (r : Passed) : Type 0 where
+  pub verdict : r .verdict ≡ verdict (goodConfigurations limits set) (every (configurationRefers names) (bodies 2 set))
+  pub known : r .verdict .good ≡ true → Knows set value alternates asked (r .known)
+
+-- opening: its number, and if that is 0 what is known of the set in use
+pub record Tells (gives : ℕ) (set : List ℕ) (value : ℕ) (alternates : List ℕ) (asked : Asked) (r : Opened) : Type 0 where
+  pub number : r .number ≡ gives
+  pub known : r .number ≡ 0 → Knows set value alternates asked (r .known)

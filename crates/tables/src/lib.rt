@@ -1,0 +1,169 @@
+// A second way to answer an event, for large sets: while opening's one walk checks a configuration it collects what the event asks of the selected one, so that no body is walked
+// through twice.
+pub mod pass;
+
+use descriptors::ConfigurationValue;
+use descriptors::Limits;
+use descriptors::survey::Asked;
+use events::Event;
+use events::reaction::Reaction;
+use records::Device;
+use steps::facts;
+use steps::facts::Selected;
+ghost use mathlib.Core.Path.{_≡_};
+ghost use mathlib.Core.Bool.{false, true};
+ghost use mathlib.Core.List.{List};
+ghost use Prim.Native.Nat.{ℕ};
+ghost use lib.Dec.{eqb};
+ghost use Rattle.octets.specs.Sentences.{pick};
+ghost use Rattle.descriptors.specs.Limits.{pairedFull, highSpeed};
+ghost use Rattle.sets.specs.Opening.{lent, opening};
+ghost use Rattle.sets.specs.Pair.{openingTwo};
+ghost use Rattle.sets.specs.View.{openingOf};
+ghost use Rattle.events.specs.Facts.{outcomeOf, questionOf, askedBy};
+ghost use Rattle.steps.specs.Gathering.{Openable, viewIn, stepIn};
+ghost use Rattle.steps.specs.Selected.{Knows};
+ghost use Rattle.tables.specs.Tables.{Tells};
+
+// What opening gives, and if that is 0 what it collected.
+pub struct Opened {
+    pub number: u8,
+    pub known: Selected,
+}
+
+fn refuses(number: u8) -> Opened
+    ensures { λ r. ⌜ r .number ≡ number ⌝ }
+{
+    Opened {
+        number,
+        known: facts::nothing_known(),
+    }
+}
+
+// Opening, with what is asked of the configuration that has this value, at these alternate settings.
+pub fn open_set(
+    set: &[u8],
+    serial: &[u8],
+    limits: Limits,
+    value: ConfigurationValue,
+    alternates: &[u8; 16],
+    asked: Asked,
+) -> Opened
+    requires { ⌜ limits .companions ≡ false ⌝ }
+    ensures { λ r. ⌜ Tells (opening limits (lent (now (set .entry)) (now (serial .entry)))) (now (set .entry)) (value .0) (now (alternates .entry)) asked r ⌝ }
+{
+    let first = sets::checks::first_groups(set, limits);
+    if first != 0 {
+        return refuses(first);
+    }
+    let languages = sets::string::string_zero(set);
+    let mut names = [0u32; 8];
+    let strings = sets::string::read(set, languages, &mut names);
+    let passed = pass::configurations(set, limits, &names, value, alternates, asked);
+    let verdict = passed.verdict;
+    let known = passed.known;
+    Opened {
+        number: sets::checks::last_groups(set, serial, verdict, strings, &names),
+        known,
+    }
+}
+
+// The number of two sets, from those of each.
+fn together(first: u8, second: u8, full: &[u8], high: &[u8]) -> u8
+    ensures { λ r. ⌜ ((serial : List ℕ) → first ≡ opening pairedFull (lent (now (full .entry)) serial) → second ≡ opening highSpeed (lent (now (high .entry)) serial)
+        → r ≡ openingTwo (now (full .entry)) (now (high .entry)) serial) ⌝ }
+{
+    if first != 0 {
+        return first;
+    }
+    if second != 0 {
+        return second;
+    }
+    if pairs::agreement::agree(full, high) {
+        return 0;
+    }
+    24
+}
+
+// Opening two sets: the one in use, which this speed chooses, with what is asked of it, the other as ever.
+pub fn open_pair(
+    full: &[u8],
+    high: &[u8],
+    serial: &[u8],
+    speed: u8,
+    value: ConfigurationValue,
+    alternates: &[u8; 16],
+    asked: Asked,
+) -> Opened
+    ensures { λ r. ⌜ Tells (openingTwo (now (full .entry)) (now (high .entry)) (now (serial .entry))) (pick (eqb speed 0) (now (full .entry)) (now (high .entry))) (value .0) (now (alternates .entry)) asked r ⌝ }
+{
+    if speed == 0 {
+        let opened = open_set(
+            full,
+            serial,
+            descriptors::paired_full(),
+            value,
+            alternates,
+            asked,
+        );
+        let second = sets::opening(high, serial, descriptors::high_speed());
+        let known = opened.known;
+        return Opened {
+            number: together(opened.number, second, full, high),
+            known,
+        };
+    }
+    let first = sets::opening(full, serial, descriptors::paired_full());
+    let opened = open_set(
+        high,
+        serial,
+        descriptors::high_speed(),
+        value,
+        alternates,
+        asked,
+    );
+    let known = opened.known;
+    Opened {
+        number: together(first, opened.number, full, high),
+        known,
+    }
+}
+
+// The reaction to an event on a board that lends one set.
+pub fn react(set: &[u8], serial: &[u8], device: Device, event: Event) -> Reaction
+    ensures { λ r. ⌜ outcomeOf r device ≡ stepIn (openingOf (lent (now (set .entry)) (now (serial .entry)))) (viewIn false (now (set .entry)) (now (serial .entry))) device event ⌝ }
+{
+    let alternates = device.alternates;
+    let value = ConfigurationValue(device.configuration);
+    let asked = facts::asked_of(event);
+    let opened = open_set(
+        set,
+        serial,
+        descriptors::full_speed(),
+        value,
+        &alternates,
+        asked,
+    );
+    let known = opened.known;
+    steps::react(opened.number, false, set, serial, device, event, known)
+}
+
+// The same on a board that lends two, of which this speed chooses the one in use.
+pub fn react_two<'a>(
+    full: &'a [u8],
+    high: &'a [u8],
+    serial: &[u8],
+    speed: u8,
+    device: Device,
+    event: Event,
+) -> Reaction
+    ensures { λ r. ⌜ outcomeOf r device ≡ stepIn (openingTwo (now (full .entry)) (now (high .entry)) (now (serial .entry))) (viewIn true (pick (eqb speed 0) (now (full .entry)) (now (high .entry))) (now (serial .entry))) device event ⌝ }
+{
+    let alternates = device.alternates;
+    let value = ConfigurationValue(device.configuration);
+    let asked = facts::asked_of(event);
+    let opened = open_pair(full, high, serial, speed, value, &alternates, asked);
+    let set = steps::in_use(full, high, speed);
+    let known = opened.known;
+    steps::react(opened.number, true, set, serial, device, event, known)
+}

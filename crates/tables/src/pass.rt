@@ -1,0 +1,110 @@
+// Group 4, with what is asked of the selected configuration: one pass over the entries, and one walk through each body.
+use descriptors::ConfigurationValue;
+use descriptors::Limits;
+use descriptors::check::Verdict;
+use descriptors::survey::Asked;
+use descriptors::survey::Survey;
+use octets::table::holds;
+use octets::table::join;
+use sets::Entry;
+use sets::contents::body_of;
+use sets::contents::entry_at;
+use steps::facts::Selected;
+use steps::facts::nothing_known;
+ghost use mathlib.Core.Path.{_≡_};
+ghost use mathlib.Core.Bool.{false, _&&_, not};
+ghost use lib.Dec.{eqb, leb};
+ghost use Rattle.sets.specs.Found.{canWake};
+ghost use Rattle.tables.specs.Tables.{numbered, learned, Passes};
+
+// Whether the configurations are good and refer to strings that are there, and what is known of them if they are good.
+pub struct Passed {
+    pub verdict: Verdict,
+    pub known: Selected,
+}
+
+// What is asked of a configuration entry beside its body: the index that it has to have, and whether its value was there before.
+fn is_numbered(e: Entry, index: u8, value: u8, seen: bool) -> bool
+    ensures { λ r. ⌜ r ≡ numbered e index value seen ⌝ }
+{
+    (e.index == index) & (e.language == 0) & (1 <= value) & !seen
+}
+
+// Whether a configuration supports remote wakeup: bit 5 of its attributes.
+fn can_wake(body: &[u8]) -> bool
+    ensures { λ r. ⌜ r ≡ canWake (now (body .entry)) ⌝ }
+{
+    octets::peek(body, 7) / 32 % 2 == 1
+}
+
+// What is known after a configuration, which is `selected` or not and has this survey: the first that is selected counts.
+fn learn(known: Selected, wakes: bool, selected: bool, survey: Survey) -> Selected
+    ensures { λ r. ⌜ r ≡ learned known wakes selected survey ⌝ }
+{
+    let waking = known.waking | wakes;
+    if selected & !known.configured {
+        return Selected {
+            configured: true,
+            waking,
+            survey,
+        };
+    }
+    let before = known.survey;
+    Selected {
+        configured: known.configured,
+        waking,
+        survey: before,
+    }
+}
+
+fn refuse() -> Passed
+    ensures { λ r. ⌜ r .verdict ≡ record { good = false; refers = false } ⌝ }
+{
+    Passed {
+        verdict: descriptors::check::refuse(),
+        known: nothing_known(),
+    }
+}
+
+// The pass, with the index that is next and the values that were there; `value` selects.
+pub fn configurations(
+    set: &[u8],
+    limits: Limits,
+    names: &[u32; 8],
+    value: ConfigurationValue,
+    alternates: &[u8; 16],
+    asked: Asked,
+) -> Passed
+    requires { ⌜ limits .companions ≡ false ⌝ }
+    ensures { λ r. ⌜ Passes limits (now (set .entry)) (now (names .entry)) (value .0) (now (alternates .entry)) asked r ⌝ }
+{
+    let count = octets::peek(set, 2);
+    let mut index: u8 = 0;
+    let mut seen = [0u32; 8];
+    let mut refers = true;
+    let mut known = nothing_known();
+    let mut i: u8 = 0;
+    while i < count {
+        let e = entry_at(set, i);
+        i += 1;
+        if e.kind == 2 {
+            let body = body_of(set, e);
+            let here = octets::peek(body, 5);
+            let again = holds(&seen, here);
+            let collected = collecting::collect(body, limits, names, alternates, asked);
+            let verdict = collected.verdict;
+            if !(is_numbered(e, index, here, again) & verdict.good) {
+                return refuse();
+            }
+            let survey = collected.survey;
+            known = learn(known, can_wake(body), here == value.0, survey);
+            refers = refers & verdict.refers;
+            join(&mut seen, here);
+            index += 1;
+        }
+    }
+    Passed {
+        verdict: Verdict { good: true, refers },
+        known,
+    }
+}
