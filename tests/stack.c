@@ -13,14 +13,15 @@
 
 #include "heideklonk.h"
 
-/* Of a board that lends one set: on x86-64 what is reached, and a little room; on a board's processor what every call of a board must keep. */
+/* Of a board that lends one set, and of one that lends two: on x86-64 what is reached, and a little room; on a board's processor what every call of a board must keep. */
 #ifdef __x86_64__
-#define MOST 880
+#define MOST 832
+#define MOST_OF_TWO 880
 #else
 #define MOST 1024
-#endif
-/* Of a board that lends two; of the second way to answer, whatever it lends. */
 #define MOST_OF_TWO 1024
+#endif
+/* Of the second way to answer, whatever is lent. */
 #define MOST_OF_TABLE 1024
 /* hk_trim keeps the first bytes of the set aside, as many as 64 entries have: it may take these besides. */
 #define ASIDE 516

@@ -1,7 +1,8 @@
 /* unwritten [EVENTS]: only bytes that differ are written. Each random event is done on an ordinary image and record first; then again on an image that lies
  * across the border of two pages, cut anywhere, of which each is read-only if none of its bytes is to become another: a write there ends the test. Where the event
- * changes nothing, both pages are read-only. A record is written whole, or, at an event that names no field of it, not at all: it is read-only at refusals, at
- * requests that only tell something, where nothing waits and the device is awake, and at what is done already, a wake among it.
+ * changes nothing, both pages are read-only. The same again at a port, whose record lies across the border. The record of hk_record_event is written whole, or, at
+ * an event that names no field of it, not at all: it is read-only at refusals, at requests that only tell something, where nothing waits and the device is awake,
+ * and at what is done already, a wake among it.
  *
  * The calls that change nothing must come up: GET_STATUS, refusals with 7, 8, 9, 16 and 19, a status end with nothing waiting, opening what is fresh already. */
 #define _DEFAULT_SOURCE
@@ -50,6 +51,14 @@ static void agree(const char *what, const struct answer *expected, const struct 
     exit(1);
 }
 
+/* A row of one record. */
+static struct answer at_port(hk_record *row, const struct event *event) {
+    struct answer answer = {255, {0xA5, 0xA5}, 0xA5, {event->setup, 3}};
+    answer.number = hk_port_event(set, set_length, serial, serial_length, row, 1, 0, event->kind, event->value,
+                                  event->setup_length == 0 ? NULL : event->setup, event->setup_length, answer.bytes, &answer.count, &answer.part);
+    return answer;
+}
+
 /* Whether an event that changes nothing names no field of the record: it is refused, it only tells something, or it is done without a change. */
 static int names_no_field(const struct event *event, const struct answer *answer) {
     static const uint8_t telling[] = {0, 6, 8, 10}; /* GET_STATUS, GET_DESCRIPTOR, GET_CONFIGURATION, GET_INTERFACE */
@@ -76,6 +85,10 @@ static void at_event(const struct event *event) {
     copy = lay(before, image, below(HK_IMAGE_LENGTH + 1));
     answer = on_image(copy, event);
     agree("an image", &expected, &answer, copy, image);
+    call = "hk_port_event";
+    copy = lay(before, image, 4 * below(HK_IMAGE_LENGTH / 4 + 1));
+    answer = at_port((hk_record *)copy, event);
+    agree("a port's record", &expected, &answer, copy, image);
     if (memcmp(before, image, sizeof before) != 0)
         return;
     count(event, &expected);

@@ -10,14 +10,7 @@ ghost use Rattle.sets.specs.Opening.{lent};
 ghost use Rattle.steps.specs.Gathering.{Openable, viewIn, eventIn};
 ghost use Rattle.board.specs.Exports.{spotOf, spots, numbered, AnswersPortEvent};
 
-// A record by value: of a parameter it is known that it is 32 bytes long, of an element of the row it is not.
-fn taken(image: [u8; 32]) -> [u8; 32]
-    ensures { λ r. ⌜ (r ≡ image) × (length r ≡ 32) ⌝ }
-{
-    image
-}
-
-// An event at a port that is there: its record is picked, lent on and put back; every other record is left.
+// An event at a port that is there: its record is lent on where it stands; every other record is left.
 pub fn happen_at(
     number: u8,
     paired: bool,
@@ -31,10 +24,7 @@ pub fn happen_at(
     ensures answer { λ r. ⌜ r ≡ eventIn number (viewIn paired (now (used .entry)) (now (serial .entry))) (getD (now (row .entry)) port []) what .answer ⌝ }
     ensures row { λ _. ⌜ now (row .exit) ≡ set (now (row .entry)) port (eventIn number (viewIn paired (now (used .entry)) (now (serial .entry))) (getD (now (row .entry)) port []) what .image) ⌝ }
 {
-    let mut image = taken(row[port]);
-    let answer = crate::happen(number, paired, used, serial, &mut image[..], what);
-    row[port] = image;
-    answer
+    crate::happen(number, paired, used, serial, &mut row[port][..], what)
 }
 
 // Any event, by its number, at a port of the row; 18 for a port that is not there, before everything else.

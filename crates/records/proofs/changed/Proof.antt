@@ -21,14 +21,17 @@ enum-known-change-4 c = search needs
 enum-known-change-5 : tie.Need-enum-known-change-5
 enum-known-change-5 c = search needs
 
+with-address-requires : tie.Need-with-address-requires
+with-address-requires c κs = search needs
+
 enum-known-change-6 : tie.Need-enum-known-change-6
 enum-known-change-6 c = search needs
 
 enum-known-change-7 : tie.Need-enum-known-change-7
 enum-known-change-7 c = search needs
 
-with-setting-requires : tie.Need-with-setting-requires
-with-setting-requires c κs = search needs
+with-interface-requires : tie.Need-with-interface-requires
+with-interface-requires c κs = search needs
 
 enum-known-change-8 : tie.Need-enum-known-change-8
 enum-known-change-8 c = search needs
@@ -36,11 +39,14 @@ enum-known-change-8 c = search needs
 enum-known-change-9 : tie.Need-enum-known-change-9
 enum-known-change-9 c = search needs
 
+with-packet-requires : tie.Need-with-packet-requires
+with-packet-requires c κs = search needs
+
 enum-known-change-10 : tie.Need-enum-known-change-10
 enum-known-change-10 c = search needs
 
-fresh-requires : tie.Need-fresh-requires
-fresh-requires c κs = search needs
+fresh-with-requires : tie.Need-fresh-with-requires
+fresh-with-requires c κs = search needs
 
 enum-known-change-11 : tie.Need-enum-known-change-11
 enum-known-change-11 c = search needs
@@ -61,22 +67,22 @@ returns-5 : tie.Need-returns-5
 returns-5 c = rw (c .before .change4 .given .1)
 
 returns-6 : tie.Need-returns-6
-returns-6 c = rw (c .before .change5 .given .1)
+returns-6 c = rw (c .before .before .change5 .given .1, c .with-address .ensures)
 
 returns-7 : tie.Need-returns-7
 returns-7 c = rw (c .before .before .change6 .given .1)
 
 returns-8 : tie.Need-returns-8
-returns-8 c = rw (c .before .before .before .change7 .given .1, c .with-setting .ensures)
+returns-8 c = rw (c .before .before .change7 .given .1, c .with-interface .ensures)
 
 returns-9 : tie.Need-returns-9
 returns-9 c = rw (c .before .change8 .given .1)
 
 returns-10 : tie.Need-returns-10
-returns-10 c = rw (c .before .change9 .given .1)
+returns-10 c = rw (c .before .before .change9 .given .1, c .with-packet .ensures)
 
 returns-11 : tie.Need-returns-11
-returns-11 c = rw (c .before .before .change10 .given .1, c .fresh .ensures)
+returns-11 c = rw (c .before .before .change10 .given .1, c .fresh-with .ensures)
 
 returns-12 : tie.Need-returns-12
 returns-12 c = rw (c .before .change11 .given .1)
@@ -91,13 +97,15 @@ changed-spec =
     enum-known-change-3
     enum-known-change-4
     enum-known-change-5
+    with-address-requires
     enum-known-change-6
     enum-known-change-7
-    with-setting-requires
+    with-interface-requires
     enum-known-change-8
     enum-known-change-9
+    with-packet-requires
     enum-known-change-10
-    fresh-requires
+    fresh-with-requires
     enum-known-change-11
     returns
     returns-2
