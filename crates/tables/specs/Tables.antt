@@ -11,6 +11,7 @@ use Rattle.descriptors.specs.declared.survey.Survey.{Survey}
 use Rattle.descriptors.specs.Check.{verdict, configurationRefers}
 use Rattle.sets.specs.declared.Entry.{Entry}
 use Rattle.sets.specs.Contents.{bodies}
+use Rattle.sets.specs.Pieces.{piecesIn}
 use Rattle.sets.specs.Opening.{goodConfigurations}
 use Rattle.steps.specs.declared.facts.Selected.{Selected}
 use Rattle.steps.specs.Selected.{Knows}
@@ -29,7 +30,7 @@ learned k wakes here survey =
 
 -- the pass over the configurations: the verdict of the check, and if it is good what is known
 pub record Passes (limits : Limits) (set names : List ℕ) (value : ℕ) (alternates : List ℕ) (asked : Asked) (r : Passed) : Type 0 where
-  pub verdict : r .verdict ≡ verdict (goodConfigurations limits set) (every (configurationRefers names) (bodies 2 set))
+  pub verdict : r .verdict ≡ verdict (goodConfigurations limits (piecesIn set)) (every (configurationRefers names) (bodies 2 set))
   pub known : r .verdict .good ≡ true → Knows set value alternates asked (r .known)
 
 -- opening: its number, and if that is 0 what is known of the set in use

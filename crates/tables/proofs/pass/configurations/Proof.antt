@@ -16,6 +16,7 @@ use Rattle.descriptors.specs.Configuration.{bConfigurationValue, goodConfigurat
 use Rattle.descriptors.proofs.CheckReferences.{refused, told}
 use Rattle.sets.specs.Contents.{bodyOf, bodies, isKind}
 use Rattle.sets.specs.Checks.{goodNumbered}
+use Rattle.sets.specs.Pieces.{pieceFor, piecesIn}
 use Rattle.sets.specs.Opening.{goodConfigurations}
 use Rattle.sets.proofs.Configurations.{goodFrom, good-start, good-end, good-more}
 use Rattle.sets.proofs.Entries.{rest-start, restOf, kind-next, kind-other, kind-end, asked-here, asked-other, asked-none, every-cons, every-empty}
@@ -25,7 +26,7 @@ use Rattle.tables.proofs.pass.configurations.Tie as tie
 
 abbrev Inv-loop : tie.InvT-loop
 Inv-loop set limits names value alternates asked count index₀ seen₀ refers₀ known₀ i₀ index seen refers known i =
-    (index ≤ i) × (length seen ≡ 8) × (goodConfigurations limits set ≡ goodFrom limits set index seen (restOf 2 set i))
+    (index ≤ i) × (length seen ≡ 8) × (goodConfigurations limits (piecesIn set) ≡ goodFrom limits index seen (map (pieceFor set) (restOf 2 set i)))
     × (every (configurationRefers names) (bodies 2 set) ≡ (refers && every (configurationRefers names) (map (bodyOf set) (restOf 2 set i))))
     × Learnt set (value .0) alternates asked known (restOf 2 set i)
 
@@ -61,7 +62,7 @@ loop-holds c =
     let a = c .before .before .before .args in (
       omega arith,
       refl,
-      good-start (a .limits) (a .set .now) ∙ ap (λ es. goodFrom (a .limits) (a .set .now) 0 (allOf 0) (only (isKind 2) es)) (rest-start (a .set .now)),
+      good-start (a .limits) (a .set .now) ∙ ap (λ es. goodFrom (a .limits) 0 (allOf 0) (map (pieceFor (a .set .now)) (only (isKind 2) es))) (rest-start (a .set .now)),
       ap (λ es. every (configurationRefers (a .names .now)) (map (bodyOf (a .set .now)) (only (isKind 2) es))) (rest-start (a .set .now)),
       rw (c .nothing-known .ensures, sym (rest-start (a .set .now))) (learnt-start (a .set .now) (a .value .0) (a .alternates .now) (a .asked)),
     )
@@ -100,8 +101,8 @@ returns c =
       verdict = c .refuse .ensures
           ∙ refused _
           (sym
-          (asked-here 2 (goodFrom (a .limits) (a .set .now) (l .index) (l .seen)) (a .set .now) _ (c .before .before .before .before .before .before .before .before .before .before .before .before .before .before .before .before .peek .ensures) (l .i) (l .inv .2) (c .before .before .before .before .before .before .before .before .before .before .before .before .before .loop-test .taken) _ (s .entry-at .ensures) (c .before .before .before .before .before .before .before .before .before .before .if1 .taken)
-          ∙ good-more (a .limits) (a .set .now) (l .index) (l .seen) (s .entry-at .result) _ (small (c .before .before .before .before .before .before .before .before)) (l .inv .1)
+          (asked-here 2 (λ es. goodFrom (a .limits) (l .index) (l .seen) (map (pieceFor (a .set .now)) es)) (a .set .now) _ (c .before .before .before .before .before .before .before .before .before .before .before .before .before .before .before .before .peek .ensures) (l .i) (l .inv .2) (c .before .before .before .before .before .before .before .before .before .before .before .before .before .loop-test .taken) _ (s .entry-at .ensures) (c .before .before .before .before .before .before .before .before .before .before .if1 .taken)
+          ∙ good-more (a .limits) (l .index) (l .seen) (s .entry-at .result) (bodyOf (a .set .now) (s .entry-at .result)) _ (small (c .before .before .before .before .before .before .before .before)) (l .inv .1)
           ∙ rw (sym (judged v), not-true (v .is-numbered .result && v .before .before .collect .result .verdict .good) (c .before .if2 .taken))));
       known = λ g. absurd (false≢true (sym (ap (λ v. v .good) (c .refuse .ensures)) ∙ g));
     }
@@ -139,8 +140,8 @@ loop-again c =
     let f = configurationRefers (a .names .now) in (
       omega arith,
       rw (c .join .ensures) (with-long (l .seen) _ (l .inv .1)),
-      asked-here 2 (goodFrom (a .limits) (a .set .now) (l .index) (l .seen)) (a .set .now) _ count (l .i) (l .inv .2) test _ (s .entry-at .ensures) kind
-          ∙ good-more (a .limits) (a .set .now) (l .index) (l .seen) e _ (small (c .before .before .before .before .before .before .before .before .before .before .before .before .before .before)) (l .inv .1)
+      asked-here 2 (λ es. goodFrom (a .limits) (l .index) (l .seen) (map (pieceFor (a .set .now)) es)) (a .set .now) _ count (l .i) (l .inv .2) test _ (s .entry-at .ensures) kind
+          ∙ good-more (a .limits) (l .index) (l .seen) e (bodyOf (a .set .now) e) _ (small (c .before .before .before .before .before .before .before .before .before .before .before .before .before .before)) (l .inv .1)
           ∙ rw (sym (judged v), passed (c .before .before .before .before .before .before .before), c .join .ensures, c .before .before .before .before .before .before .before .before .before .before .before .before .before .before .peek2 .ensures, c .before .before .before .before .before .before .before .before .before .before .before .before .before .before .before .body-of .ensures),
       rw (told (v .before .before .collect .result .verdict) _ _ (v .before .before .collect .ensures .verdict) good, c .before .before .before .before .before .before .before .before .before .before .before .before .before .before .before .body-of .ensures)
           (asked-here 2 (λ es. l .refers && every f (map (bodyOf (a .set .now)) es)) (a .set .now) _ count (l .i) (l .inv .3) test _ (s .entry-at .ensures) kind ∙ rw every-cons (sym (and-assoc (l .refers) _ _))),
@@ -161,7 +162,7 @@ loop-again-2 c =
     let f = configurationRefers (a .names .now) in (
       omega arith,
       l .inv .1,
-      asked-other 2 (goodFrom (a .limits) (a .set .now) (l .index) (l .seen)) (a .set .now) _ (c .before .before .before .before .before .before .peek .ensures) (l .i) (l .inv .2) (c .before .before .before .loop-test .taken) _ (s .entry-at .ensures) (c .if1 .left),
+      asked-other 2 (λ es. goodFrom (a .limits) (l .index) (l .seen) (map (pieceFor (a .set .now)) es)) (a .set .now) _ (c .before .before .before .before .before .before .peek .ensures) (l .i) (l .inv .2) (c .before .before .before .loop-test .taken) _ (s .entry-at .ensures) (c .if1 .left),
       asked-other 2 (λ es. l .refers && every f (map (bodyOf (a .set .now)) es)) (a .set .now) _ (c .before .before .before .before .before .before .peek .ensures) (l .i) (l .inv .3) (c .before .before .before .loop-test .taken) _ (s .entry-at .ensures) (c .if1 .left),
       rw (kind-other 2 (a .set .now) _ (c .before .before .before .before .before .before .peek .ensures) (l .i) (c .before .before .before .loop-test .taken) (s .entry-at .result) (s .entry-at .ensures) (c .if1 .left)) at (l .inv .4),
     )
@@ -171,7 +172,7 @@ returns-2 c =
     let a = c .before .before .before .before .before .args in
     let l = c .before .loop in
     let f = configurationRefers (a .names .now) in
-    let good = asked-none 2 (goodFrom (a .limits) (a .set .now) (l .index) (l .seen)) (a .set .now) _ (c .before .before .before .peek .ensures) (l .i) (l .inv .2) (c .loop-test .left) ∙ good-end (a .limits) (a .set .now) (l .index) (l .seen) in
+    let good = asked-none 2 (λ es. goodFrom (a .limits) (l .index) (l .seen) (map (pieceFor (a .set .now)) es)) (a .set .now) _ (c .before .before .before .peek .ensures) (l .i) (l .inv .2) (c .loop-test .left) ∙ good-end (a .limits) (l .index) (l .seen) in
     let refer = asked-none 2 (λ es. l .refers && every f (map (bodyOf (a .set .now)) es)) (a .set .now) _ (c .before .before .before .peek .ensures) (l .i) (l .inv .3) (c .loop-test .left) ∙ ap (λ b. l .refers && b) (every-empty f) ∙ and-true (l .refers) in
     record {
       verdict = rw (good, refer);
