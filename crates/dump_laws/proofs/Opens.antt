@@ -7,16 +7,16 @@ use mathlib.Core.List.{List, [], _∷_, _++_, List·Memᴰ, List·Memᴰ·head, 
 use lib.ListN.{length}
 use lib.Dec.{eqb, leb}
 use borrow.Author.Tests.{eqb-true, eq-eqb, le-leb}
-use Rattle.octets.specs.Sentences.{every, any, first, pairs}
-use Rattle.octets.proofs.Sentences.{joined, or-left, every-member, member-every, none-any}
+use Rattle.octets.specs.Sentences.{every, any, pairs}
+use Rattle.octets.proofs.Sentences.{joined, every-member, none-any}
 use Rattle.descriptors.specs.Limits.{fullSpeed, named}
 use Rattle.descriptors.specs.Configuration.{goodConfiguration}
 use Rattle.sets.specs.Contents.{goodContents}
 use Rattle.sets.specs.Pieces.{Piece}
 use Rattle.sets.specs.Device.{deviceBodyOf, iSerialNumber, goodDevice}
-use Rattle.sets.specs.Strings.{referencesOf, isNonzero, goodReference, goodTexts, goodStrings}
+use Rattle.sets.specs.Strings.{referencesOf, isNonzero, goodStrings}
 use Rattle.sets.specs.Opening.{lent, numberedFrom, valueNonzero, distinctValues, goodDevices, goodConfigurations, goodBlock, opening}
-use Rattle.sets.proofs.Groups.{all-six}
+use Rattle.sets.proofs.Groups.{all-six, texts-out, no-texts}
 use Rattle.pieces.specs.Laid as pieces
 use Rattle.pieces.specs.Laid.{bodies, laid}
 use Rattle.pieces.proofs.LaidOut.{laid-frame, laid-contents}
@@ -51,16 +51,6 @@ ev : {A : Type 0} (f : A → Bool) (x : A) (xs : List A) → f x ≡ true → ev
 unfolding every
 ev f x xs p q = joined p q
 
--- no string, and no reference
-no-texts : (refs : List ℕ) (serial : ℕ) → every (λ r. eqb r 0) refs ≡ true → goodTexts refs serial [] ≡ true
-unfolding every first
-no-texts refs serial z =
-    let a : any isNonzero refs ≡ false = none-any isNonzero refs (λ r m. nought r (eqb-true r 0 (every-member (λ r. eqb r 0) z m))) in
-    rw a (member-every (goodReference [] [] serial) refs (λ r m. or-left _ (or-left _ (every-member (λ r. eqb r 0) z m))))
-  where
-    nought : (r : ℕ) → r ≡ 0 → leb 1 r ≡ false
-    nought r e = rw e
-
 -- ---- a device and numbered configurations
 module _ (d : List ℕ) (bs : List (List ℕ)) where
   abbrev pub ps : List Piece
@@ -89,7 +79,12 @@ module _ (d : List ℕ) (bs : List (List ℕ)) where
 
   strings-good : every (λ r. eqb r 0) (referencesOf ps) ≡ true → goodStrings ps ≡ true
   unfolding goodStrings
-  strings-good z = rw (only-3 d bs) (no-texts (referencesOf ps) (iSerialNumber (deviceBodyOf ps)) z)
+  strings-good z =
+      let a : any isNonzero (referencesOf ps) ≡ false = none-any isNonzero (referencesOf ps) (λ r m. nought r (eqb-true r 0 (every-member (λ r. eqb r 0) z m))) in
+      rw (only-3 d bs) (texts-out (referencesOf ps) (iSerialNumber (deviceBodyOf ps)) [] (no-texts (referencesOf ps) (iSerialNumber (deviceBodyOf ps)) a))
+    where
+      nought : (r : ℕ) → r ≡ 0 → leb 1 r ≡ false
+      nought r e = rw e
 
   block-good : iSerialNumber d ≡ 0 → goodBlock ps [] ≡ true
   unfolding goodBlock

@@ -7,12 +7,12 @@ use mathlib.Core.Bool.{Bool, true, false, _&&_, _||_, not}
 use mathlib.Core.List.{List, [], _∷_, List·Memᴰ, List·Memᴰ·head, List·Memᴰ·tail}
 use lib.ListN.{length}
 use lib.Dec.{eqb, leb, ltb}
-use borrow.Author.Tests.{eqb-true, eqb-false, eq-eqb, ne-eqb, leb-true, leb-false, le-leb}
-use Rattle.octets.specs.Sentences.{pick, every, any, only, first, neighbours, member, isSome, isEmpty}
-use Rattle.octets.proofs.Sentences.{cases, never, both, joined, either, or-left, or-right, if-then, then-if, conjunct, every-member, member-every, any-member, member-any, any-none, none-any}
+use borrow.Author.Tests.{eqb-true, eqb-false, eq-eqb, ne-eqb, leb-true, le-leb}
+use Rattle.octets.specs.Sentences.{pick, every, any, only, neighbours, member, isSome, isEmpty}
+use Rattle.octets.proofs.Sentences.{cases, never, both, joined, either, or-left, or-right, if-then, then-if, conjunct, every-member, member-every, any-member, member-any, none-any}
 use Rattle.sets.specs.Pieces.{Piece}
 use Rattle.sets.specs.Strings.{goodString, goodLanguages, isStringZero, zeroOf, languagesOf, languageZero, listed, isNonzero, notSerial, isString, inEvery, goodReference}
-use Rattle.sets.proofs.Groups.{GoodTexts}
+use Rattle.sets.proofs.Groups.{GoodTexts, no-texts}
 use Rattle.pieces.proofs.InPieces.{any-only, first-only}
 use Rattle.pieces.proofs.LaidOut.{every-some}
 
@@ -113,17 +113,5 @@ module _ (refs : List ℕ) (serial : ℕ) (serial-in : List·Memᴰ serial refs)
     all-zero : any isNonzero refs ≡ false
     all-zero = none-any isNonzero refs (λ r m. cases (leb 1 r) (λ h. never (reference-needs r m h) n) (λ h. h))
 
-    no-strings : GoodTexts refs serial []
-    unfolding every first
-    no-strings = record {
-      bodies = refl;
-      zeros = refl;
-      languages = refl;
-      list = refl;
-      there = rw all-zero;
-      serials = refl;
-      referred = member-every _ refs (λ r m. let l = leb-false 1 r (any-none isNonzero all-zero m) in or-left _ (or-left (eqb r serial) (eq-eqb r 0 (omega arith))));
-    }
-
   pub still-strings : GoodTexts refs serial (only stayingPiece ss)
-  still-strings = cases needed when-needed (λ n. rw (none-stay n) (no-strings n))
+  still-strings = cases needed when-needed (λ n. rw (none-stay n) (no-texts refs serial (all-zero n)))
