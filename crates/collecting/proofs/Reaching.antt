@@ -344,6 +344,11 @@ pub rests-refused : {limits : Limits} {names alternates : List ℕ} {asked : Ask
     → Rests limits names alternates asked body n from v
 rests-refused p t = record { good = p ∙ sym t; refers = λ g. never g p; tells = λ g. never g p; exists = λ g. never g p }
 
+-- the walk was broken off, and its place put one byte before the body's end
+pub rests-stopped : {limits : Limits} {names alternates : List ℕ} {asked : Asked} {body : List ℕ} {n from : ℕ} {v : Walked} (at : ℕ) (follows over : Bool) → 1 ≤ length body → at ≡ length body - 1
+    → v .good ≡ (eqb at (length body) && follows && over) → verdictOf limits n body from ≡ false → Rests limits names alternates asked body n from v
+rests-stopped {body = body} at follows over some-bytes e p t = rests-refused (p ∙ rw (ne-eqb at (length body) (λ q. omega arith))) t
+
 module _ {limits : Limits} {n : ℕ} {names alternates : List ℕ} {asked : Asked} {body : List ℕ} {from : ℕ} {c : Course} {at : ℕ}
     (alone : limits .companions ≡ false) (r : Reached limits n names alternates asked body from c at) where
   -- past the body, or one byte before its end

@@ -463,7 +463,8 @@ fn told(course: Course, ends: bool) -> Walked
     }
 }
 
-// The descriptors from `from` on, for so many interfaces; no type from `plain` on is refused.
+// The descriptors from `from` on, for so many interfaces; no type from `plain` on is refused. A refusal is told by the place alone, which then is
+// no body's end, so that the loop keeps no flag.
 pub fn rest(
     body: &[u8],
     from: usize,
@@ -485,7 +486,8 @@ pub fn rest(
         let size = body[at] as usize;
         let t = body[at + 1];
         if size < 2 {
-            return told(course, false);
+            at = last;
+            break;
         }
         let end = at + size;
         if plain <= t {
@@ -493,11 +495,13 @@ pub fn rest(
             continue;
         }
         if body.len() < end {
-            return told(course, false);
+            at = last;
+            break;
         }
         let turned = turn(&body[at..end], course, limits, names, alternates, wanted);
         if !turned.good {
-            return told(course, false);
+            at = last;
+            break;
         }
         course = turned.course;
         at = end;

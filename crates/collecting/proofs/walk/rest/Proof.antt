@@ -1,7 +1,9 @@
 -- `collecting::walk::rest` meets its contract: what the whole walk says, the walk from each place says, and what was found beside it. No axiom.
-use Prim.Native.Nat.{_+_, _-_, _<_, _≤_}
+use Prim.Native.Nat.{ℕ, _+_, _-_, _<_, _≤_}
+use mathlib.Core.List.{List}
 use native.Mathlib.Omega.{arith}
-use mathlib.Core.Path.{_≡_, refl, _∙_}
+use mathlib.Core.Path.{_≡_, refl, sym, _∙_}
+use mathlib.Core.Logic.{⊎-elim}
 use lib.ListN.{length}
 use borrow.Author.Tests.{not-true, not-false}
 use borrow.Author.Needs.{needs}
@@ -10,7 +12,7 @@ use Rattle.descriptors.specs.declared.survey.Asked.{Asked}
 use Rattle.collecting.specs.Course.{wantedOf}
 use Rattle.collecting.proofs.Rules.{part-bytes}
 use Rattle.collecting.proofs.Models.{models-low}
-use Rattle.collecting.proofs.Reaching.{Reached, reached-begin, reached-small, reached-long, reached-skip, reached-turn, reached-refused, rests-refused, rests-end}
+use Rattle.collecting.proofs.Reaching.{Reached, reached-begin, reached-small, reached-long, reached-skip, reached-turn, reached-refused, rests-stopped, rests-end}
 use Rattle.collecting.proofs.walk.rest.Statement.{statement}
 use Rattle.collecting.proofs.walk.rest.Tie as tie
 
@@ -24,6 +26,9 @@ abbrev μ-loop : tie.MeasureT-loop
 -- two bytes are left where a descriptor is looked at
 more : (c : tie.Else1 Inv-loop μ-loop) → c .before .before .before .before .loop .at + 1 < length (c .before .before .before .before .before .before .before .before .args .body .now)
 more c = omega (arith, c .before .before .before .loop-test .taken, c .before .before .before .before .before .before .before .before .pre .some-bytes)
+
+before-end : (body : List ℕ) {at : ℕ} → at < length body - 1 → at < length body
+before-end body l = omega arith
 
 wanted-of-requires : tie.Need-wanted-of-requires Inv-loop μ-loop
 wanted-of-requires c κs = search needs
@@ -49,14 +54,6 @@ add-t c = omega (arith, c .before .loop-test .taken, c .before .before .before .
 shared-slice-read-t : tie.Need-shared-slice-read-t Inv-loop μ-loop
 shared-slice-read-t c = omega (arith, c .before .before .loop-test .taken, c .before .before .before .before .before .before .before .pre .some-bytes)
 
-told-requires : tie.Need-told-requires Inv-loop μ-loop
-told-requires c κs = search needs
-
-returns : tie.Need-returns Inv-loop μ-loop
-returns c =
-    let h : c .before .before .before .before .before .loop .at < length (c .before .before .before .before .before .before .before .before .before .args .body .now) = omega (arith, c .before .before .before .before .loop-test .taken) in
-    rests-refused (c .told .ensures .0) (reached-small (c .before .before .before .before .before .before .before .before .before .pre .alone) (c .before .before .before .before .before .loop .inv (c .before .before .before .before .before .before .before .before .before .args .asked) (c .before .before .before .before .before .before .before .wanted-of .ensures)) h (c .before .if1 .taken))
-
 add-end : tie.Need-add-end Inv-loop μ-loop
 add-end c = let m = more c in omega (arith, c .before .before .shared-slice-known2 .given (c .before .before .before .before .loop .at), c .before .before .before .before .before .before .before .before .pre .short)
 
@@ -70,14 +67,6 @@ loop-again c =
     let high : 6 ≤ byte (c .before .before .before .before .before .before .before .before .before .args .body .now) (l .at + 1) = omega (arith, c .if2 .taken, c .before .before .before .before .before .before .before .before .before .pre .plainly) in
     λ asked e. reached-skip (c .before .before .before .before .before .before .before .before .before .pre .alone) (l .inv asked e) _ refl m (c .before .if1 .left) (omega (arith, c .before .before .before .shared-slice-known2 .given (l .at))) (c .before .before .before .before .before .before .before .before .before .pre .allows _ (c .if2 .taken)) high
 
-told-requires-2 : tie.Need-told-requires-2 Inv-loop μ-loop
-told-requires-2 c κs = search needs
-
-returns-2 : tie.Need-returns-2 Inv-loop μ-loop
-returns-2 c =
-    let h : c .before .before .before .before .before .before .before .loop .at < length (c .before .before .before .before .before .before .before .before .before .before .before .args .body .now) = omega (arith, c .before .before .before .before .before .before .loop-test .taken) in
-    rests-refused (c .told2 .ensures .0) (reached-long (c .before .before .before .before .before .before .before .before .before .before .before .pre .alone) (c .before .before .before .before .before .before .before .loop .inv (c .before .before .before .before .before .before .before .before .before .before .before .args .asked) (c .before .before .before .before .before .before .before .before .before .wanted-of .ensures)) h (c .before .if3 .taken))
-
 sub-turn : tie.Need-sub-turn Inv-loop μ-loop
 sub-turn c = omega (arith, c .before .before .if1 .left)
 
@@ -89,18 +78,6 @@ part-turn-end c = omega (arith, c .if3 .left)
 
 turn-requires : tie.Need-turn-requires Inv-loop μ-loop
 turn-requires c κs = (models-low (c .before .before .before .before .before .before .before .loop .inv (c .before .before .before .before .before .before .before .before .before .before .before .args .asked) (c .before .before .before .before .before .before .before .before .before .wanted-of .ensures) .models), c .before .before .before .before .before .before .before .before .before .before .before .pre .zero)
-
-told-requires-3 : tie.Need-told-requires-3 Inv-loop μ-loop
-told-requires-3 c κs = search needs
-
-returns-3 : tie.Need-returns-3 Inv-loop μ-loop
-returns-3 c =
-    let a = c .before .before .before .before .before .before .before .before .before .before .before .before .before .before .before .args in
-    let l = c .before .before .before .before .before .before .before .before .before .before .before .loop in
-    let h : l .at < length (a .body .now) = omega (arith, c .before .before .before .before .before .before .before .before .before .before .loop-test .taken) in
-    let bytes = part-bytes (a .body .now) (λ k. omega (arith, c .before .before .before .before .before .before .before .before .before .shared-slice-known2 .given k)) (l .at) (l .at + byte (a .body .now) (l .at) - l .at) in
-    rests-refused (c .told3 .ensures .0)
-    (reached-refused (c .before .before .before .before .before .before .before .before .before .before .before .before .before .before .before .pre .alone) (l .inv (a .asked) (c .before .before .before .before .before .before .before .before .before .before .before .before .before .wanted-of .ensures)) h (c .before .before .before .before .before .before .before .if1 .left) _ refl (c .before .before .before .before .before .if3 .left) (bytes 2) (bytes 3) (rw (c .before .before .before .before .before .before .before .before .before .before .before .before .before .wanted-of .ensures) at (c .before .before .before .turn .ensures)) (c .before .before .before .before .before .before .before .before .before .before .before .before .before .before .before .pre .few) (not-true _ (c .before .if4 .taken)))
 
 loop-less-2 : tie.Need-loop-less-2 Inv-loop μ-loop
 loop-less-2 c = let m = more (c .before .before .before .before .before .before .before) in omega (arith, c .before .before .before .before .before .before .before .if1 .left)
@@ -116,12 +93,28 @@ loop-again-2 c =
 next-of-requires : tie.Need-next-of-requires Inv-loop μ-loop
 next-of-requires c κs = search needs
 
-told-requires-4 : tie.Need-told-requires-4 Inv-loop μ-loop
-told-requires-4 c κs = search needs
+told-requires : tie.Need-told-requires Inv-loop μ-loop
+told-requires c κs = search needs
 
-returns-4 : tie.Need-returns-4 Inv-loop μ-loop
-returns-4 c =
-    rests-end (c .before .before .before .before .before .before .before .before .before .pre .alone) (c .before .before .before .before .before .loop .inv (c .before .before .before .before .before .before .before .before .before .args .asked) (c .before .before .before .before .before .before .before .wanted-of .ensures)) _ (c .before .before .before .before .before .before .before .before .before .pre .one) (omega (arith, c .before .before .before .before .loop-test .left)) (c .told4 .ensures .0 ∙ rw (c .before .before .next-of .ensures)) (c .told4 .ensures .1) (c .told4 .ensures .2)
+returns : tie.Need-returns Inv-loop μ-loop
+returns c =
+    let a = c .before .before .before .before .before .before .before .before .before .args in
+    let pre = c .before .before .before .before .before .before .before .before .before .pre in
+    let l = c .before .before .before .before .before .loop in
+    let body = a .body .now in
+    let r = l .inv (a .asked) (c .before .before .before .before .before .before .before .wanted-of .ensures) in
+    let good = rw (c .before .before .next-of .ensures) at (c .told .ensures .0) in
+    ⊎-elim
+    (λ p. rests-end (pre .alone) r _ (pre .one) (omega (arith, p .0 .left)) (rw (p .1) at good) (c .told .ensures .1) (c .told .ensures .2))
+    (⊎-elim
+    (λ p. rests-stopped _ _ _ (pre .some-bytes) (p .4) good (reached-small (pre .alone) r (before-end body (p .0 .taken)) (p .3 .taken)))
+    (⊎-elim
+    (λ p. rests-stopped _ _ _ (pre .some-bytes) (p .6) good (reached-long (pre .alone) r (before-end body (p .0 .taken)) (p .5 .taken)))
+    (λ p.
+    let bytes = part-bytes body (λ k. omega (arith, p .1 .given k)) (l .at) (l .at + byte body (l .at) - l .at) in
+    rests-stopped _ _ _ (pre .some-bytes) (p .10) good
+    (reached-refused (pre .alone) r (before-end body (p .0 .taken)) (p .3 .left) _ refl (p .5 .left) (bytes 2) (bytes 3) (rw (c .before .before .before .before .before .before .before .wanted-of .ensures) at (p .7 .ensures)) (pre .few) (not-true _ (p .9 .taken))))))
+    (c .before .before .before .before .loop-test .came)
 
 pub rest-spec : {M : Type 1} → statement M
 rest-spec =
@@ -137,21 +130,15 @@ rest-spec =
     cast-size
     add-t
     shared-slice-read-t
-    told-requires
-    returns
     add-end
     loop-less
     loop-again
-    told-requires-2
-    returns-2
     sub-turn
     part-turn-start
     part-turn-end
     turn-requires
-    told-requires-3
-    returns-3
     loop-less-2
     loop-again-2
     next-of-requires
-    told-requires-4
-    returns-4)
+    told-requires
+    returns)
