@@ -147,12 +147,14 @@ module _ {o : Order} {w : Progress} {last : Stand} (m : Models o w last) (d : Li
   -- ---- an address
   module _ (small : bitOf (bEndpointAddress d) < 32) where
     pub models-fresh : not (bit (o .taken) (bitOf (bEndpointAddress d))) ≡ fresh w (bEndpointAddress d)
-    models-fresh = rw (m .takes (bitOf (bEndpointAddress d)) small) (go (bit (w .seen) (bitOf (bEndpointAddress d))) (bit (w .interface) (bitOf (bEndpointAddress d)) && not (bit (w .setting) (bitOf (bEndpointAddress d)))))
+    models-fresh = rw (m .takes (bitOf (bEndpointAddress d)) small) (go (bit (w .seen) (bitOf (bEndpointAddress d))) (bit (w .interface) (bitOf (bEndpointAddress d))) (bit (w .setting) (bitOf (bEndpointAddress d))))
       where
-        go : (a b : Bool) → not (a && not b) ≡ (a ⇒ b)
-        go true true = refl
-        go true false = refl
-        go false b = refl
+        go : (seen interface setting : Bool) → not (seen && not (interface && not setting)) ≡ ((seen ⇒ not setting) && (seen ⇒ interface))
+        go false interface setting = refl
+        go true true true = refl
+        go true true false = refl
+        go true false true = refl
+        go true false false = refl
 
     -- after an endpoint descriptor
     pub models-endpoint : last .inside ≡ true → Models (listedIn o d) (atEndpoint w d) last
