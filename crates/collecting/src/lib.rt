@@ -213,8 +213,10 @@ pub fn collect(
     requires { ⌜ limits .companions ≡ false ⌝ }
     ensures { λ r. ⌜ Collects limits (now (names .entry)) (now (alternates .entry)) asked (now (body .entry)) r ⌝ }
 {
-    if holds(names, 0) & is_full_speed(limits) {
-        return walk_once(body, full_speed_but(limits), names, alternates, asked);
+    if is_full_speed(limits) {
+        if holds(names, 0) {
+            return walk_once(body, full_speed_but(limits), names, alternates, asked);
+        }
     }
     walk_twice(body, limits, names, alternates, asked)
 }

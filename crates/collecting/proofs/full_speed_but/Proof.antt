@@ -1,3 +1,4 @@
+-- `collecting::full_speed_but` meets its contract. No axiom.
 use borrow.Author.Needs.{needs}
 use Rattle.collecting.proofs.full_speed_but.Statement.{statement}
 use Rattle.collecting.proofs.full_speed_but.Tie as tie

@@ -1,3 +1,4 @@
+-- `collecting::is_full_speed` meets its contract: number by number. No axiom.
 use Rattle.collecting.proofs.Whole.{as-full-speed}
 use borrow.Author.Needs.{needs}
 use Rattle.collecting.proofs.is_full_speed.Statement.{statement}
