@@ -1,8 +1,7 @@
 /* unwritten [EVENTS]: only bytes that differ are written. Each random event is done on an ordinary image and record first; then again on an image that lies
  * across the border of two pages, cut anywhere, of which each is read-only if none of its bytes is to become another: a write there ends the test. Where the event
- * changes nothing, both pages are read-only. The same again at a port, whose record lies across the border. The record of hk_record_event is written whole, or, at
- * an event that names no field of it, not at all: it is read-only at refusals, at requests that only tell something, where nothing waits and the device is awake,
- * and at what is done already, a wake among it.
+ * changes nothing, both pages are read-only. The same again at a port, whose record lies across the border, and by hk_record_event, which stores its record field by
+ * field: there the cut lies between two fields, of which the sixteen settings are one.
  *
  * The calls that change nothing must come up: GET_STATUS, refusals with 7, 8, 9, 16 and 19, a status end with nothing waiting, opening what is fresh already. */
 #define _DEFAULT_SOURCE
@@ -13,7 +12,7 @@
 
 #include "random_events.h"
 
-static unsigned long done, unchanged, numbers[256], readings, ends, openings, records;
+static unsigned long done, unchanged, numbers[256], readings, ends, openings;
 static const char *call;
 static uint8_t *pages;
 static size_t page;
@@ -59,14 +58,6 @@ static struct answer at_port(hk_record *row, const struct event *event) {
     return answer;
 }
 
-/* Whether an event that changes nothing names no field of the record: it is refused, it only tells something, or it is done without a change. */
-static int names_no_field(const struct event *event, const struct answer *answer) {
-    static const uint8_t telling[] = {0, 6, 8, 10}; /* GET_STATUS, GET_DESCRIPTOR, GET_CONFIGURATION, GET_INTERFACE */
-    if (answer->number != HK_DONE || event->kind == HK_EVENT_STATUS_END || event->kind == HK_EVENT_WAKE)
-        return 1;
-    return event->kind == HK_EVENT_SETUP && memchr(telling, event->setup[1], sizeof telling) != NULL;
-}
-
 static void count(const struct event *event, const struct answer *answer) {
     unchanged++;
     numbers[answer->number]++;
@@ -75,6 +66,7 @@ static void count(const struct event *event, const struct answer *answer) {
 }
 
 static void at_event(const struct event *event) {
+    static const uint8_t borders[] = {0, 4, 8, 24, 28, 32}; /* the record's alignment is 4 */
     uint8_t before[HK_IMAGE_LENGTH], *copy;
     struct answer expected, answer;
     memcpy(before, image, sizeof before);
@@ -89,16 +81,12 @@ static void at_event(const struct event *event) {
     copy = lay(before, image, 4 * below(HK_IMAGE_LENGTH / 4 + 1));
     answer = at_port((hk_record *)copy, event);
     agree("a port's record", &expected, &answer, copy, image);
-    if (memcmp(before, image, sizeof before) != 0)
-        return;
-    count(event, &expected);
-    if (!names_no_field(event, &expected))
-        return;
     call = "hk_record_event";
-    copy = lay(before, image, HK_IMAGE_LENGTH);
+    copy = lay(before, image, borders[below(sizeof borders)]);
     answer = on_record((hk_record *)copy, event);
-    records++;
     agree("a record", &expected, &answer, copy, image);
+    if (memcmp(before, image, sizeof before) == 0)
+        count(event, &expected);
 }
 
 /* Opening makes a fresh record of any image: where one is fresh already, nothing is written. */
@@ -129,7 +117,7 @@ int main(int argument_count, char **arguments) {
         printf("  number %2d: %lu events that change nothing\n", expected[at], numbers[expected[at]]);
         missing |= numbers[expected[at]] == 0;
     }
-    printf("  GET_STATUS: %lu; status ends: %lu; openings: %lu; records read-only: %lu\n", readings, ends, openings, records);
+    printf("  GET_STATUS: %lu; status ends: %lu; openings: %lu\n", readings, ends, openings);
     if (missing || readings == 0 || ends == 0)
         printf("unwritten: a call that changes nothing is NOT reached\n");
     printf("unwritten: %lu events, %lu of them change nothing; no byte that does not differ is written\n", done, unchanged);

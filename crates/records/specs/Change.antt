@@ -1,6 +1,6 @@
 -- Working definitions: a record after an event, by what the event changes of it; no promise cites them.
 use Prim.Native.Nat.{ℕ}
-use mathlib.Core.Bool.{Bool, true, false, not, _&&_, _||_}
+use mathlib.Core.Bool.{Bool, true, false}
 use mathlib.Core.List.{List}
 use lib.ListN.{length, set}
 use lib.Dec.{eqb, ltb}
@@ -55,24 +55,6 @@ waitsAfter (TestMode speed) = nothing
 abbrev pub settledWith : Bool → ℕ → Device → Device
 settledWith true waits d = awake (withWaiting waits d)
 settledWith false waits d = d
-
--- whether a record stays as it is: nothing is to be settled, and no field is named
-abbrev pub isKept : Change → Bool
-isKept Kept = true
-isKept (Waiting address) = false
-isKept (Wakeup on) = false
-isKept (Power source) = false
-isKept (Suspended on) = false
-isKept (Address state address) = false
-isKept (Configuration state value) = false
-isKept (Setting j alternate halts toggles) = false
-isKept (Endpoints halts toggles) = false
-isKept (Passed toggles) = false
-isKept (Fresh power speed) = false
-isKept (TestMode speed) = false
-
-abbrev pub stays : Bool → Change → Device → Bool
-stays settles c d = (not settles || (eqb (d .waiting) nothing && eqb (d .suspended) 0)) && isKept c
 
 -- ---- on images of any length
 -- a record that fits no set stands for an image of another length

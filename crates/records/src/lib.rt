@@ -1,6 +1,7 @@
 // The device record: what a board keeps between events.
 use descriptors::survey::Survey;
 ghost use mathlib.Core.Path.{_≡_};
+ghost use mathlib.Core.Bool.{true};
 ghost use Prim.Native.Nat.{_<_};
 ghost use lib.ListN.{length};
 ghost use Rattle.descriptors.specs.declared.survey.Asked.{Asked};
@@ -8,7 +9,7 @@ ghost use Rattle.descriptors.specs.Survey.{Surveys};
 ghost use Rattle.sets.specs.View.{View, hasValue, wakes};
 ghost use Rattle.records.specs.Device.{fresh, settled, testWaits, awake, withPower, withSpeed, withAddress, withEndpoints};
 ghost use Rattle.records.specs.Image.{fourBytes, bytesOfFour, deviceOf, imageOf};
-ghost use Rattle.records.specs.Change.{withSetting, changed, after, isKept, stays, misfit, recordIn};
+ghost use Rattle.records.specs.Change.{withSetting, changed, after, misfit, recordIn};
 ghost use Rattle.records.specs.Current.{selected};
 ghost use Rattle.records.specs.Fits.{inRange, goodWaiting, goodState, fits};
 
@@ -203,43 +204,21 @@ pub fn after(settles: bool, change: Change, device: Device) -> Device
     changed(change, device)
 }
 
-// Whether no field is named.
-fn is_kept(change: Change) -> bool
-    ensures { λ r. ⌜ r ≡ isKept change ⌝ }
+// Whether two slices are the same.
+pub fn same(was: &[u8], next: &[u8]) -> bool
+    ensures { λ r. ⌜ (r ≡ true → now (was .entry) ≡ now (next .entry)) ⌝ }
 {
-    match change {
-        Change::Kept => true,
-        Change::Waiting(_) => false,
-        Change::Wakeup(_) => false,
-        Change::Power(_) => false,
-        Change::Suspended(_) => false,
-        Change::Address {
-            state: _,
-            address: _,
-        } => false,
-        Change::Configuration { state: _, value: _ } => false,
-        Change::Setting {
-            interface: _,
-            alternate: _,
-            halts: _,
-            toggles: _,
-        } => false,
-        Change::Endpoints {
-            halts: _,
-            toggles: _,
-        } => false,
-        Change::Passed { toggles: _ } => false,
-        Change::Fresh { power: _, speed: _ } => false,
-        Change::TestMode(_) => false,
+    if was.len() != next.len() {
+        return false;
     }
-}
-
-// Whether the record stays as it is: nothing is to be settled, and no field is named.
-pub fn stays(settles: bool, change: Change, device: Device) -> bool
-    ensures { λ r. ⌜ r ≡ stays settles change device ⌝ }
-{
-    let settled = (device.waiting == 255) & (device.suspended == 0);
-    (!settles | settled) & is_kept(change)
+    let mut k = was.len();
+    while 0 < k {
+        k -= 1;
+        if was[k] != next[k] {
+            return false;
+        }
+    }
+    true
 }
 
 // The number of four bytes at k.

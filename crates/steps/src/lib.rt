@@ -7,7 +7,7 @@ use events::reaction;
 use events::reaction::Reaction;
 use records::Device;
 ghost use mathlib.Core.Path.{_≡_};
-ghost use mathlib.Core.Bool.{true};
+ghost use mathlib.Core.Bool.{false};
 ghost use lib.Dec.{eqb};
 ghost use Rattle.octets.specs.Sentences.{pick};
 ghost use Rattle.sets.specs.Opening.{lent};
@@ -88,37 +88,70 @@ pub fn step(set: &[u8], serial: &[u8], device: Device, event: Event) -> Outcome
     step_opened(number, set, serial, device, event)
 }
 
-// What an event leaves of a record that is lent: its answer, the record, and whether that stays as it is.
+// What an event leaves of a record that is lent: its answer, the record, and whether a setting of it is another.
 pub struct Left {
     pub answer: Answer,
     pub device: Device,
-    pub stays: bool,
+    pub moved: bool,
 }
 
 fn step_left(number: u8, set: &[u8], serial: &[u8], device: Device, event: Event) -> Left
     requires { ⌜ number ≡ openingOf (lent (now set) (now serial)) ⌝ }
-    ensures { λ r. ⌜ (gives (r .answer) (r .device) ≡ step (lent (now (set .entry)) (now (serial .entry))) device event) × (r .stays ≡ true → r .device ≡ device) ⌝ }
+    ensures { λ r. ⌜ (gives (r .answer) (r .device) ≡ step (lent (now (set .entry)) (now (serial .entry))) device event) × (r .moved ≡ false → device .alternates ≡ r .device .alternates) ⌝ }
 {
     let known = facts::look_up(number, set, serial, device, event);
     let reaction = react(number, false, set, serial, device, event, known);
     let answer = reaction.answer;
     let next = reaction.next;
+    let after = records::after(reaction.settles, next, device);
+    let were = device.alternates;
+    let are = after.alternates;
     Left {
         answer,
-        device: records::after(reaction.settles, next, device),
-        stays: records::stays(reaction.settles, next, device),
+        device: after,
+        moved: !records::same(&were[..], &are[..]),
     }
 }
 
-// The step on a record that is lent: the next record is stored where it stands, if the event may change it.
+// The step on a record that is lent: a field that becomes another is stored where it stands.
 pub fn step_lent(number: u8, device: &mut Device, set: &[u8], serial: &[u8], event: Event) -> Answer
     requires { ⌜ number ≡ openingOf (lent (now set) (now serial)) ⌝ }
     ensures { λ r. ⌜ gives r (now (device .exit)) ≡ step (lent (now (set .entry)) (now (serial .entry))) (now (device .entry)) event ⌝ }
 {
     let was = *device;
     let next = step_left(number, set, serial, was, event);
-    if !next.stays {
-        *device = next.device;
+    if was.state != next.device.state {
+        device.state = next.device.state;
+    }
+    if was.address != next.device.address {
+        device.address = next.device.address;
+    }
+    if was.waiting != next.device.waiting {
+        device.waiting = next.device.waiting;
+    }
+    if was.configuration != next.device.configuration {
+        device.configuration = next.device.configuration;
+    }
+    if was.wakeup != next.device.wakeup {
+        device.wakeup = next.device.wakeup;
+    }
+    if was.power != next.device.power {
+        device.power = next.device.power;
+    }
+    if was.suspended != next.device.suspended {
+        device.suspended = next.device.suspended;
+    }
+    if was.speed != next.device.speed {
+        device.speed = next.device.speed;
+    }
+    if was.halts != next.device.halts {
+        device.halts = next.device.halts;
+    }
+    if was.toggles != next.device.toggles {
+        device.toggles = next.device.toggles;
+    }
+    if next.moved {
+        device.alternates = next.device.alternates;
     }
     next.answer
 }

@@ -1,11 +1,11 @@
--- `steps::step_left` meets its contract: the reaction's change, and whether it is none. No axiom.
+-- `steps::step_left` meets its contract: the reaction's change, and its settings beside those before. No axiom.
 use Prim.Native.Nat.{ℕ}
 use mathlib.Core.Path.{sym, ap, _∙_}
 use mathlib.Core.Bool.{false}
+use borrow.Author.Tests.{not-false}
 use Rattle.descriptors.specs.Limits.{fullSpeed}
 use Rattle.sets.specs.Opening.{lent}
-use Rattle.records.proofs.Sameness.{nothing-changes}
-use borrow.Author.Needs.{needs}
+use borrow.Author.Needs.{needs, length-unmapped}
 use Rattle.steps.specs.Gathering.{viewIn, stepIn}
 use Rattle.steps.proofs.Steps.{step-in}
 use Rattle.steps.proofs.step_left.Statement.{statement}
@@ -20,17 +20,25 @@ react-requires c κs = λ z. ((fullSpeed, sym (c .before .before .before .pre) �
 after-requires : tie.Need-after-requires
 after-requires c κs = search needs
 
-stays-requires : tie.Need-stays-requires
-stays-requires c κs = search needs
+slice-aggregate-same : tie.Need-slice-aggregate-same
+slice-aggregate-same c =
+    let start = c .before .before .before .before .before .before .before .before in
+    sym (length-unmapped ℕ (start .args .device .alternates) 16 (start .good .1 .1 .1 .0 .1 .1 .1 .1 .1 .1 .1 .1 .1 .1 .0 .1 .0 .1))
+
+slice-aggregate-same-2 : tie.Need-slice-aggregate-same-2
+slice-aggregate-same-2 c = search needs
+
+same-requires : tie.Need-same-requires
+same-requires c κs = search needs
 
 returns : tie.Need-returns
 returns c =
-    let r = c .before .before .react .result in
-    let start = c .before .before .before .before .before .before in
+    let w = c .before .before .before .before .before in
+    let start = w .before .before .before .before .before in
     let a = start .args in
     let b = lent (a .set .now) (a .serial .now) in
     let d = a .device in
-    (rw (c .before .after .ensures) (c .before .before .react .ensures ∙ ap (λ (n : ℕ). stepIn n (viewIn false (a .set .now) (a .serial .now)) d (a .event)) (start .pre) ∙ sym (step-in b d (a .event))), λ p. c .before .after .ensures ∙ nothing-changes (r .settles) (r .next) d (sym (c .stays .ensures) ∙ p))
+    (rw (w .after .ensures) (w .before .react .ensures ∙ ap (λ (n : ℕ). stepIn n (viewIn false (a .set .now) (a .serial .now)) d (a .event)) (start .pre) ∙ sym (step-in b d (a .event))), λ p. c .same .ensures (not-false (c .same .result) p))
 
 pub step-left-spec : {M : Type 1} → statement M
-step-left-spec = tie.close (tie.spec look-up-requires react-requires after-requires stays-requires returns)
+step-left-spec = tie.close (tie.spec look-up-requires react-requires after-requires slice-aggregate-same slice-aggregate-same-2 same-requires returns)

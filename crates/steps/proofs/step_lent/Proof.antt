@@ -1,8 +1,9 @@
--- `steps::step_lent` meets its contract: a walk of its MIR, by hand. The borrow is opened, the record is read whole and passed to `step_left`, of which the proof knows only its contract. The borrow is closed at the record that `step_left` returned: it is stored, unless it is the one that stands there.
+-- `steps::step_lent` meets its contract: a walk of its MIR, by hand. The borrow is opened, the record is read whole and passed to `step_left`, of which the proof knows only its contract. Each field is stored, unless it is the one that stands there; the borrow is closed at the record that `step_left` returned.
 -- Positions: with 9 locals, local i stands at 2 · (8 − i), after what the comments list in front of it. No axiom.
-use mathlib.Core.Path.{_≡_, refl, sym, ap, _∙_}
+use mathlib.Core.Path.{_≡_, refl, ap}
 use mathlib.Core.Bool.{Bool, true, false, not}
-use lib.Dec.{T}
+use lib.Dec.{T, eqb}
+use borrow.Author.Tests.{eqb-true}
 use Prim.Native.Nat.{ℕ, zero, _<_, _^_}
 use mathlib.Core.List.{[], _∷_, List, map}
 use lib.ListN.{length, getD}
@@ -20,8 +21,8 @@ use contract.Monad.{Fun, fact}
 use contract.Lifetimes.{Lfts, Shares}
 use contract.Running.{givenOf, tables, tablesOf}
 use types.Kit.{Given, Item, Sq, runs, atRet, ‵, raw, _⊛_, ⋆, some, later, _$_, _∵_, !, qed, by, move, drop, use1, use2, split, join, pick, rewrite, fsplit, fsplit3, fjoin, fjoin3, feqI, suffices, frame, await, done}
-use types.Run.{look, look-raw, store-raw, init, forget, stop, hop, fld, from, load, of-opd, un, first, branches, skips, assigns-last, exec, and-then, no-more, assigns, land, returns, enter, alloc1, alloc0, params1, pass1, pass0, free1, free0}
-use types.Part.{whole, sub, look-in}
+use types.Run.{look, look-raw, store, init, forget, stop, hop, fld, from, load, of-opd, bin, first, branches, skips, assigns-last, exec, and-then, no-more, assigns, land, returns, enter, alloc1, alloc0, params1, pass1, pass0, free1, free0}
+use types.Part.{whole, sub, look-in, store-in}
 use types.SemTy.{Body}
 use sound.WpLaws.{FmC, fmOf, WpFn-mono}
 use denote.RattleType.{owns}
@@ -81,6 +82,13 @@ ty k = getD (map tyOf bodies.locals) k tyBool
 twice-not : (b : Bool) → T (not (not b)) → b ≡ true
 twice-not true y = refl
 twice-not false y = absurd y
+
+alike : (a b : ℕ) → T (not (not (eqb a b))) → a ≡ b
+alike a b y = eqb-true a b (twice-not (eqb a b) y)
+
+still : (b : Bool) → T (not b) → b ≡ false
+still true y = absurd y
+still false y = refl
 
 abbrev Bytes : Type 0
 Bytes = RefT (List ℕ)
@@ -181,14 +189,44 @@ module _ {M : Type 1} (𝓤 : URA M) (H : Heap 𝓤) (At : Atoms 𝓤) (W : Give
 
   -- of the step's `ensured`, the clause alone
   abbrev Told : Left → Type 0
-  Told r = (gives (r .answer) (r .device) ≡ made) × (r .stays ≡ true → r .device ≡ h)
+  Told r = (gives (r .answer) (r .device) ≡ made) × (r .moved ≡ false → h .alternates ≡ r .device .alternates)
 
   step-of : (r : Left) → ent 𝓤 (ensured 𝓤 H At left.ended (left.clauses 𝓤 H At at-mem run) (κ₁, (κ₂, tt)) (n, (x₁, (x₂, (h, (x₃, tt))))) tt r) (fact 𝓤 (Told r))
   step-of r = exE 𝓤 _ (λ ws. snd∗ 𝓤 (sem 𝓤 H At (lasts left.ended (κ₁, (κ₂, tt)) (n, (x₁, (x₂, (h, (x₃, tt))))) ws)) (fact 𝓤 (Told r)))
 
-  -- a record that is the same is the one that the event leaves
-  stays : (r : Left) → Told r → T (not (not (r .stays))) → gives (r .answer) h ≡ made
-  stays r e y = ap (gives (r .answer)) (sym (e .1 (twice-not (r .stays) y))) ∙ e .0
+  -- the record on the way, where one field is x: those before it are stored, those after it are not yet
+  abbrev at-state : Left → ℕ → Device
+  at-state r x = record { state = x; address = h .address; waiting = h .waiting; configuration = h .configuration; wakeup = h .wakeup; power = h .power; suspended = h .suspended; speed = h .speed; alternates = h .alternates; halts = h .halts; toggles = h .toggles }
+
+  abbrev at-address : Left → ℕ → Device
+  at-address r x = record { state = r .device .state; address = x; waiting = h .waiting; configuration = h .configuration; wakeup = h .wakeup; power = h .power; suspended = h .suspended; speed = h .speed; alternates = h .alternates; halts = h .halts; toggles = h .toggles }
+
+  abbrev at-waiting : Left → ℕ → Device
+  at-waiting r x = record { state = r .device .state; address = r .device .address; waiting = x; configuration = h .configuration; wakeup = h .wakeup; power = h .power; suspended = h .suspended; speed = h .speed; alternates = h .alternates; halts = h .halts; toggles = h .toggles }
+
+  abbrev at-configuration : Left → ℕ → Device
+  at-configuration r x = record { state = r .device .state; address = r .device .address; waiting = r .device .waiting; configuration = x; wakeup = h .wakeup; power = h .power; suspended = h .suspended; speed = h .speed; alternates = h .alternates; halts = h .halts; toggles = h .toggles }
+
+  abbrev at-wakeup : Left → ℕ → Device
+  at-wakeup r x = record { state = r .device .state; address = r .device .address; waiting = r .device .waiting; configuration = r .device .configuration; wakeup = x; power = h .power; suspended = h .suspended; speed = h .speed; alternates = h .alternates; halts = h .halts; toggles = h .toggles }
+
+  abbrev at-power : Left → ℕ → Device
+  at-power r x = record { state = r .device .state; address = r .device .address; waiting = r .device .waiting; configuration = r .device .configuration; wakeup = r .device .wakeup; power = x; suspended = h .suspended; speed = h .speed; alternates = h .alternates; halts = h .halts; toggles = h .toggles }
+
+  abbrev at-suspended : Left → ℕ → Device
+  at-suspended r x = record { state = r .device .state; address = r .device .address; waiting = r .device .waiting; configuration = r .device .configuration; wakeup = r .device .wakeup; power = r .device .power; suspended = x; speed = h .speed; alternates = h .alternates; halts = h .halts; toggles = h .toggles }
+
+  abbrev at-speed : Left → ℕ → Device
+  at-speed r x = record { state = r .device .state; address = r .device .address; waiting = r .device .waiting; configuration = r .device .configuration; wakeup = r .device .wakeup; power = r .device .power; suspended = r .device .suspended; speed = x; alternates = h .alternates; halts = h .halts; toggles = h .toggles }
+
+  abbrev at-halts : Left → ℕ → Device
+  at-halts r x = record { state = r .device .state; address = r .device .address; waiting = r .device .waiting; configuration = r .device .configuration; wakeup = r .device .wakeup; power = r .device .power; suspended = r .device .suspended; speed = r .device .speed; alternates = h .alternates; halts = x; toggles = h .toggles }
+
+  abbrev at-toggles : Left → ℕ → Device
+  at-toggles r x = record { state = r .device .state; address = r .device .address; waiting = r .device .waiting; configuration = r .device .configuration; wakeup = r .device .wakeup; power = r .device .power; suspended = r .device .suspended; speed = r .device .speed; alternates = h .alternates; halts = r .device .halts; toggles = x }
+
+  abbrev at-alternates : Left → List ℕ → Device
+  at-alternates r x = record { state = r .device .state; address = r .device .address; waiting = r .device .waiting; configuration = r .device .configuration; wakeup = r .device .wakeup; power = r .device .power; suspended = r .device .suspended; speed = r .device .speed; alternates = x; halts = r .device .halts; toggles = r .device .toggles }
 
   exits : n < 2 ^ 8 → (x : Answer) (d : Device) → gives x d ≡ made → Is A.the-row x (answer-mach x ∷ [])
       → ent 𝓤 (⋆ 𝓤 H At (‵ (fobs γ (D.the-row .coded .code d)) ∷ ‵ (fbor κ (Body (mem D.the-row) b o γ)) ∷ ‵ (flft κ q) ∷ (‵ (flft κ₁ q₁) ⊛ ‵ (flft κ₂ q₂) ⊛ ‵ ftrue) ∷ ‵ Own ∷ [])) (Post (answer-mach x))
@@ -215,7 +253,7 @@ module _ {M : Type 1} (𝓤 : URA M) (H : Heap 𝓤) (At : Atoms 𝓤) (W : Give
 
     -- the answer is copied into the result, the borrow is closed at d, and the locals are freed
     leaves : n < 2 ^ 8 → (r : Left) (d : Device) (y : Bool) → gives (r .answer) d ≡ made → Is D.the-row d (device-mach d ∷ []) → Is A.the-row (r .answer) (answer-mach (r .answer) ∷ [])
-        → Sq W (After r d y) (runs C Λ Env₀ bodies.t-5 (atRet Env₀ Post))
+        → Sq W (After r d y) (runs C Λ Env₀ bodies.t-25 (atRet Env₀ Post))
     leaves fits r d y e isD isA =
         assigns ! (of-opd ! (load ! (from ! (fld ! refl (stop !))) (look-in ! 7 (sub ! 0 refl (whole !))))) (from ! (stop !)) (init ! 21 refl (EL.lawful A.the-type A′.the-laws 𝓤 H At W tt .typed (r .answer) _ isA .0)) $
         owned ! D.the-row (Is D.the-row) (LL.makes D.the-type D′.the-plain 𝓤 H At) d _ isD $ move ! (2 ∷ 0 ∷ 3 ∷ 4 ∷ 5 ∷ []) $ closes ! tt D.the-row d (device-mach d ∷ []) b o $
@@ -223,6 +261,76 @@ module _ {M : Type 1} (𝓤 : URA M) (H : Heap 𝓤) (At : Atoms 𝓤) (W : Give
         returns ! (look ! 20 refl) $ forget ! 4 refl $ forget ! 6 refl $ forget ! 8 refl $ forget ! 10 refl $ forget ! 12 refl $ forget ! 14 refl $ forget ! 16 refl $ forget ! 18 refl $ forget ! 20 refl $
         move ! (20 ∷ 21 ∷ []) $ free1 ! $ move ! (18 ∷ 19 ∷ []) $ free1 ! $ move ! (16 ∷ 17 ∷ []) $ free1 ! $ move ! (14 ∷ 15 ∷ []) $ free1 ! $ move ! (12 ∷ 13 ∷ []) $ free1 ! $ move ! (10 ∷ 11 ∷ []) $ free1 ! $ move ! (8 ∷ 9 ∷ []) $ free1 ! $ move ! (6 ∷ 7 ∷ []) $ free1 ! $ move ! (4 ∷ 5 ∷ []) $ free1 ! $ free0 ! $
         by ! (exits fits (r .answer) d e isA)
+
+    put-alternates : n < 2 ^ 8 → (r : Left) → Told r → Is D.the-row (r .device) (device-mach (r .device) ∷ []) → Is A.the-row (r .answer) (answer-mach (r .answer) ∷ []) → (z : Bool) → Sq W (After r (at-alternates r (h .alternates)) z) (runs C Λ Env₀ bodies.t-23 (atRet Env₀ Post))
+    put-alternates fits r e isD isA z =
+        assigns ! (of-opd ! (load ! (from ! (fld ! refl (stop !))) (look-in ! 7 (sub ! 2 refl (whole !))))) (from ! (stop !)) (store ! 5 refl (tt, tt)) $
+        first ! $ branches ! (load ! (from ! (stop !)) (look ! 5 refl))
+        (λ y. assigns-last ! (of-opd ! (load ! (from ! (fld ! refl (fld ! refl (stop !)))) (look-in ! 7 (sub ! 8 refl (sub ! 1 refl (whole !)))))) (from ! (hop ! (look ! 17 refl) (fld ! refl (stop !)))) (store-in ! 1 (sub ! 8 refl (whole !)) (D′.the-laws .1 .1 .1 .1 .1 .1 .1 .1 .0 .lawful 𝓤 H At W .typed (D.the-type .to (r .device) .1 .1 .1 .1 .1 .1 .1 .1 .0) _ (LL.owed D.the-type D′.the-laws (r .device) _ isD .1 .1 .1 .1 .1 .1 .1 .1 .0) .0)) $ exec ! C Λ Env₀ bodies.t-25 (atRet Env₀ Post) $ leaves fits r (r .device) _ (e .0) isD isA)
+        (λ y. rewrite ! 1 (λ x. ‵ (cellAt fullShare (D.the-row .mir) (device-mach (at-alternates r x) ∷ []) b o)) (e .1 (still (r .moved) y)) refl $ skips ! $ exec ! C Λ Env₀ bodies.t-25 (atRet Env₀ Post) $ leaves fits r (r .device) _ (e .0) isD isA)
+
+    put-toggles : n < 2 ^ 8 → (r : Left) → Told r → Is D.the-row (r .device) (device-mach (r .device) ∷ []) → Is A.the-row (r .answer) (answer-mach (r .answer) ∷ []) → (z : Bool) → Sq W (After r (at-toggles r (h .toggles)) z) (runs C Λ Env₀ bodies.t-21 (atRet Env₀ Post))
+    put-toggles fits r e isD isA z =
+        assigns ! (bin ! (load ! (from ! (fld ! refl (stop !))) (look-in ! 9 (sub ! 10 refl (whole !)))) (load ! (from ! (fld ! refl (fld ! refl (stop !)))) (look-in ! 7 (sub ! 10 refl (sub ! 1 refl (whole !))))) tt) (from ! (stop !)) (store ! 5 refl (tt, tt)) $
+        first ! $ branches ! (load ! (from ! (stop !)) (look ! 5 refl))
+        (λ y. assigns-last ! (of-opd ! (load ! (from ! (fld ! refl (fld ! refl (stop !)))) (look-in ! 7 (sub ! 10 refl (sub ! 1 refl (whole !)))))) (from ! (hop ! (look ! 17 refl) (fld ! refl (stop !)))) (store-in ! 1 (sub ! 10 refl (whole !)) (D′.the-laws .1 .1 .1 .1 .1 .1 .1 .1 .1 .1 .0 .lawful 𝓤 H At W .typed (r .device .toggles) _ (LL.owed D.the-type D′.the-laws (r .device) _ isD .1 .1 .1 .1 .1 .1 .1 .1 .1 .1 .0) .0)) $ exec ! C Λ Env₀ bodies.t-23 (atRet Env₀ Post) $ put-alternates fits r e isD isA _)
+        (λ y. rewrite ! 1 (λ x. ‵ (cellAt fullShare (D.the-row .mir) (device-mach (at-toggles r x) ∷ []) b o)) (alike (h .toggles) (r .device .toggles) y) refl $ skips ! $ exec ! C Λ Env₀ bodies.t-23 (atRet Env₀ Post) $ put-alternates fits r e isD isA _)
+
+    put-halts : n < 2 ^ 8 → (r : Left) → Told r → Is D.the-row (r .device) (device-mach (r .device) ∷ []) → Is A.the-row (r .answer) (answer-mach (r .answer) ∷ []) → (z : Bool) → Sq W (After r (at-halts r (h .halts)) z) (runs C Λ Env₀ bodies.t-19 (atRet Env₀ Post))
+    put-halts fits r e isD isA z =
+        assigns ! (bin ! (load ! (from ! (fld ! refl (stop !))) (look-in ! 9 (sub ! 9 refl (whole !)))) (load ! (from ! (fld ! refl (fld ! refl (stop !)))) (look-in ! 7 (sub ! 9 refl (sub ! 1 refl (whole !))))) tt) (from ! (stop !)) (store ! 5 refl (tt, tt)) $
+        first ! $ branches ! (load ! (from ! (stop !)) (look ! 5 refl))
+        (λ y. assigns-last ! (of-opd ! (load ! (from ! (fld ! refl (fld ! refl (stop !)))) (look-in ! 7 (sub ! 9 refl (sub ! 1 refl (whole !)))))) (from ! (hop ! (look ! 17 refl) (fld ! refl (stop !)))) (store-in ! 1 (sub ! 9 refl (whole !)) (D′.the-laws .1 .1 .1 .1 .1 .1 .1 .1 .1 .0 .lawful 𝓤 H At W .typed (r .device .halts) _ (LL.owed D.the-type D′.the-laws (r .device) _ isD .1 .1 .1 .1 .1 .1 .1 .1 .1 .0) .0)) $ exec ! C Λ Env₀ bodies.t-21 (atRet Env₀ Post) $ put-toggles fits r e isD isA _)
+        (λ y. rewrite ! 1 (λ x. ‵ (cellAt fullShare (D.the-row .mir) (device-mach (at-halts r x) ∷ []) b o)) (alike (h .halts) (r .device .halts) y) refl $ skips ! $ exec ! C Λ Env₀ bodies.t-21 (atRet Env₀ Post) $ put-toggles fits r e isD isA _)
+
+    put-speed : n < 2 ^ 8 → (r : Left) → Told r → Is D.the-row (r .device) (device-mach (r .device) ∷ []) → Is A.the-row (r .answer) (answer-mach (r .answer) ∷ []) → (z : Bool) → Sq W (After r (at-speed r (h .speed)) z) (runs C Λ Env₀ bodies.t-17 (atRet Env₀ Post))
+    put-speed fits r e isD isA z =
+        assigns ! (bin ! (load ! (from ! (fld ! refl (stop !))) (look-in ! 9 (sub ! 7 refl (whole !)))) (load ! (from ! (fld ! refl (fld ! refl (stop !)))) (look-in ! 7 (sub ! 7 refl (sub ! 1 refl (whole !))))) tt) (from ! (stop !)) (store ! 5 refl (tt, tt)) $
+        first ! $ branches ! (load ! (from ! (stop !)) (look ! 5 refl))
+        (λ y. assigns-last ! (of-opd ! (load ! (from ! (fld ! refl (fld ! refl (stop !)))) (look-in ! 7 (sub ! 7 refl (sub ! 1 refl (whole !)))))) (from ! (hop ! (look ! 17 refl) (fld ! refl (stop !)))) (store-in ! 1 (sub ! 7 refl (whole !)) (D′.the-laws .1 .1 .1 .1 .1 .1 .1 .0 .lawful 𝓤 H At W .typed (r .device .speed) _ (LL.owed D.the-type D′.the-laws (r .device) _ isD .1 .1 .1 .1 .1 .1 .1 .0) .0)) $ exec ! C Λ Env₀ bodies.t-19 (atRet Env₀ Post) $ put-halts fits r e isD isA _)
+        (λ y. rewrite ! 1 (λ x. ‵ (cellAt fullShare (D.the-row .mir) (device-mach (at-speed r x) ∷ []) b o)) (alike (h .speed) (r .device .speed) y) refl $ skips ! $ exec ! C Λ Env₀ bodies.t-19 (atRet Env₀ Post) $ put-halts fits r e isD isA _)
+
+    put-suspended : n < 2 ^ 8 → (r : Left) → Told r → Is D.the-row (r .device) (device-mach (r .device) ∷ []) → Is A.the-row (r .answer) (answer-mach (r .answer) ∷ []) → (z : Bool) → Sq W (After r (at-suspended r (h .suspended)) z) (runs C Λ Env₀ bodies.t-15 (atRet Env₀ Post))
+    put-suspended fits r e isD isA z =
+        assigns ! (bin ! (load ! (from ! (fld ! refl (stop !))) (look-in ! 9 (sub ! 6 refl (whole !)))) (load ! (from ! (fld ! refl (fld ! refl (stop !)))) (look-in ! 7 (sub ! 6 refl (sub ! 1 refl (whole !))))) tt) (from ! (stop !)) (store ! 5 refl (tt, tt)) $
+        first ! $ branches ! (load ! (from ! (stop !)) (look ! 5 refl))
+        (λ y. assigns-last ! (of-opd ! (load ! (from ! (fld ! refl (fld ! refl (stop !)))) (look-in ! 7 (sub ! 6 refl (sub ! 1 refl (whole !)))))) (from ! (hop ! (look ! 17 refl) (fld ! refl (stop !)))) (store-in ! 1 (sub ! 6 refl (whole !)) (D′.the-laws .1 .1 .1 .1 .1 .1 .0 .lawful 𝓤 H At W .typed (r .device .suspended) _ (LL.owed D.the-type D′.the-laws (r .device) _ isD .1 .1 .1 .1 .1 .1 .0) .0)) $ exec ! C Λ Env₀ bodies.t-17 (atRet Env₀ Post) $ put-speed fits r e isD isA _)
+        (λ y. rewrite ! 1 (λ x. ‵ (cellAt fullShare (D.the-row .mir) (device-mach (at-suspended r x) ∷ []) b o)) (alike (h .suspended) (r .device .suspended) y) refl $ skips ! $ exec ! C Λ Env₀ bodies.t-17 (atRet Env₀ Post) $ put-speed fits r e isD isA _)
+
+    put-power : n < 2 ^ 8 → (r : Left) → Told r → Is D.the-row (r .device) (device-mach (r .device) ∷ []) → Is A.the-row (r .answer) (answer-mach (r .answer) ∷ []) → (z : Bool) → Sq W (After r (at-power r (h .power)) z) (runs C Λ Env₀ bodies.t-13 (atRet Env₀ Post))
+    put-power fits r e isD isA z =
+        assigns ! (bin ! (load ! (from ! (fld ! refl (stop !))) (look-in ! 9 (sub ! 5 refl (whole !)))) (load ! (from ! (fld ! refl (fld ! refl (stop !)))) (look-in ! 7 (sub ! 5 refl (sub ! 1 refl (whole !))))) tt) (from ! (stop !)) (store ! 5 refl (tt, tt)) $
+        first ! $ branches ! (load ! (from ! (stop !)) (look ! 5 refl))
+        (λ y. assigns-last ! (of-opd ! (load ! (from ! (fld ! refl (fld ! refl (stop !)))) (look-in ! 7 (sub ! 5 refl (sub ! 1 refl (whole !)))))) (from ! (hop ! (look ! 17 refl) (fld ! refl (stop !)))) (store-in ! 1 (sub ! 5 refl (whole !)) (D′.the-laws .1 .1 .1 .1 .1 .0 .lawful 𝓤 H At W .typed (r .device .power) _ (LL.owed D.the-type D′.the-laws (r .device) _ isD .1 .1 .1 .1 .1 .0) .0)) $ exec ! C Λ Env₀ bodies.t-15 (atRet Env₀ Post) $ put-suspended fits r e isD isA _)
+        (λ y. rewrite ! 1 (λ x. ‵ (cellAt fullShare (D.the-row .mir) (device-mach (at-power r x) ∷ []) b o)) (alike (h .power) (r .device .power) y) refl $ skips ! $ exec ! C Λ Env₀ bodies.t-15 (atRet Env₀ Post) $ put-suspended fits r e isD isA _)
+
+    put-wakeup : n < 2 ^ 8 → (r : Left) → Told r → Is D.the-row (r .device) (device-mach (r .device) ∷ []) → Is A.the-row (r .answer) (answer-mach (r .answer) ∷ []) → (z : Bool) → Sq W (After r (at-wakeup r (h .wakeup)) z) (runs C Λ Env₀ bodies.t-11 (atRet Env₀ Post))
+    put-wakeup fits r e isD isA z =
+        assigns ! (bin ! (load ! (from ! (fld ! refl (stop !))) (look-in ! 9 (sub ! 4 refl (whole !)))) (load ! (from ! (fld ! refl (fld ! refl (stop !)))) (look-in ! 7 (sub ! 4 refl (sub ! 1 refl (whole !))))) tt) (from ! (stop !)) (store ! 5 refl (tt, tt)) $
+        first ! $ branches ! (load ! (from ! (stop !)) (look ! 5 refl))
+        (λ y. assigns-last ! (of-opd ! (load ! (from ! (fld ! refl (fld ! refl (stop !)))) (look-in ! 7 (sub ! 4 refl (sub ! 1 refl (whole !)))))) (from ! (hop ! (look ! 17 refl) (fld ! refl (stop !)))) (store-in ! 1 (sub ! 4 refl (whole !)) (D′.the-laws .1 .1 .1 .1 .0 .lawful 𝓤 H At W .typed (r .device .wakeup) _ (LL.owed D.the-type D′.the-laws (r .device) _ isD .1 .1 .1 .1 .0) .0)) $ exec ! C Λ Env₀ bodies.t-13 (atRet Env₀ Post) $ put-power fits r e isD isA _)
+        (λ y. rewrite ! 1 (λ x. ‵ (cellAt fullShare (D.the-row .mir) (device-mach (at-wakeup r x) ∷ []) b o)) (alike (h .wakeup) (r .device .wakeup) y) refl $ skips ! $ exec ! C Λ Env₀ bodies.t-13 (atRet Env₀ Post) $ put-power fits r e isD isA _)
+
+    put-configuration : n < 2 ^ 8 → (r : Left) → Told r → Is D.the-row (r .device) (device-mach (r .device) ∷ []) → Is A.the-row (r .answer) (answer-mach (r .answer) ∷ []) → (z : Bool) → Sq W (After r (at-configuration r (h .configuration)) z) (runs C Λ Env₀ bodies.t-9 (atRet Env₀ Post))
+    put-configuration fits r e isD isA z =
+        assigns ! (bin ! (load ! (from ! (fld ! refl (stop !))) (look-in ! 9 (sub ! 3 refl (whole !)))) (load ! (from ! (fld ! refl (fld ! refl (stop !)))) (look-in ! 7 (sub ! 3 refl (sub ! 1 refl (whole !))))) tt) (from ! (stop !)) (store ! 5 refl (tt, tt)) $
+        first ! $ branches ! (load ! (from ! (stop !)) (look ! 5 refl))
+        (λ y. assigns-last ! (of-opd ! (load ! (from ! (fld ! refl (fld ! refl (stop !)))) (look-in ! 7 (sub ! 3 refl (sub ! 1 refl (whole !)))))) (from ! (hop ! (look ! 17 refl) (fld ! refl (stop !)))) (store-in ! 1 (sub ! 3 refl (whole !)) (D′.the-laws .1 .1 .1 .0 .lawful 𝓤 H At W .typed (r .device .configuration) _ (LL.owed D.the-type D′.the-laws (r .device) _ isD .1 .1 .1 .0) .0)) $ exec ! C Λ Env₀ bodies.t-11 (atRet Env₀ Post) $ put-wakeup fits r e isD isA _)
+        (λ y. rewrite ! 1 (λ x. ‵ (cellAt fullShare (D.the-row .mir) (device-mach (at-configuration r x) ∷ []) b o)) (alike (h .configuration) (r .device .configuration) y) refl $ skips ! $ exec ! C Λ Env₀ bodies.t-11 (atRet Env₀ Post) $ put-wakeup fits r e isD isA _)
+
+    put-waiting : n < 2 ^ 8 → (r : Left) → Told r → Is D.the-row (r .device) (device-mach (r .device) ∷ []) → Is A.the-row (r .answer) (answer-mach (r .answer) ∷ []) → (z : Bool) → Sq W (After r (at-waiting r (h .waiting)) z) (runs C Λ Env₀ bodies.t-7 (atRet Env₀ Post))
+    put-waiting fits r e isD isA z =
+        assigns ! (bin ! (load ! (from ! (fld ! refl (stop !))) (look-in ! 9 (sub ! 2 refl (whole !)))) (load ! (from ! (fld ! refl (fld ! refl (stop !)))) (look-in ! 7 (sub ! 2 refl (sub ! 1 refl (whole !))))) tt) (from ! (stop !)) (store ! 5 refl (tt, tt)) $
+        first ! $ branches ! (load ! (from ! (stop !)) (look ! 5 refl))
+        (λ y. assigns-last ! (of-opd ! (load ! (from ! (fld ! refl (fld ! refl (stop !)))) (look-in ! 7 (sub ! 2 refl (sub ! 1 refl (whole !)))))) (from ! (hop ! (look ! 17 refl) (fld ! refl (stop !)))) (store-in ! 1 (sub ! 2 refl (whole !)) (D′.the-laws .1 .1 .0 .lawful 𝓤 H At W .typed (r .device .waiting) _ (LL.owed D.the-type D′.the-laws (r .device) _ isD .1 .1 .0) .0)) $ exec ! C Λ Env₀ bodies.t-9 (atRet Env₀ Post) $ put-configuration fits r e isD isA _)
+        (λ y. rewrite ! 1 (λ x. ‵ (cellAt fullShare (D.the-row .mir) (device-mach (at-waiting r x) ∷ []) b o)) (alike (h .waiting) (r .device .waiting) y) refl $ skips ! $ exec ! C Λ Env₀ bodies.t-9 (atRet Env₀ Post) $ put-configuration fits r e isD isA _)
+
+    put-address : n < 2 ^ 8 → (r : Left) → Told r → Is D.the-row (r .device) (device-mach (r .device) ∷ []) → Is A.the-row (r .answer) (answer-mach (r .answer) ∷ []) → (z : Bool) → Sq W (After r (at-address r (h .address)) z) (runs C Λ Env₀ bodies.t-5 (atRet Env₀ Post))
+    put-address fits r e isD isA z =
+        assigns ! (bin ! (load ! (from ! (fld ! refl (stop !))) (look-in ! 9 (sub ! 1 refl (whole !)))) (load ! (from ! (fld ! refl (fld ! refl (stop !)))) (look-in ! 7 (sub ! 1 refl (sub ! 1 refl (whole !))))) tt) (from ! (stop !)) (store ! 5 refl (tt, tt)) $
+        first ! $ branches ! (load ! (from ! (stop !)) (look ! 5 refl))
+        (λ y. assigns-last ! (of-opd ! (load ! (from ! (fld ! refl (fld ! refl (stop !)))) (look-in ! 7 (sub ! 1 refl (sub ! 1 refl (whole !)))))) (from ! (hop ! (look ! 17 refl) (fld ! refl (stop !)))) (store-in ! 1 (sub ! 1 refl (whole !)) (D′.the-laws .1 .0 .lawful 𝓤 H At W .typed (r .device .address) _ (LL.owed D.the-type D′.the-laws (r .device) _ isD .1 .0) .0)) $ exec ! C Λ Env₀ bodies.t-7 (atRet Env₀ Post) $ put-waiting fits r e isD isA _)
+        (λ y. rewrite ! 1 (λ x. ‵ (cellAt fullShare (D.the-row .mir) (device-mach (at-address r x) ∷ []) b o)) (alike (h .address) (r .device .address) y) refl $ skips ! $ exec ! C Λ Env₀ bodies.t-7 (atRet Env₀ Post) $ put-waiting fits r e isD isA _)
 
   module _ (C : Calls 𝓤 H) (Λ : Loops 𝓤 H) (fm : FmC 𝓤 H (W .laws) C) (known : Triple 𝓤 (C #left) (Step 𝓤 H At at-mem run)) where
     walk : n < 2 ^ 8 → Room u8 (length (x₁ .now)) → Room u8 (length (x₂ .now)) → Is E.the-row x₃ (event-mach x₃ ∷ []) → n ≡ openingOf (board (x₁ .now) (x₂ .now))
@@ -247,13 +355,12 @@ module _ {M : Type 1} (𝓤 : URA M) (H : Heap 𝓤) (At : Atoms 𝓤) (W : Give
         -- [the other tokens; the struct's cell; the open borrow; obs; auth; _8; …; _0; …; what the others own]
         land ! (from ! (stop !)) (init ! 7 refl (LL.lawful L.the-type L′.the-laws 𝓤 H At W .typed r _ is .0)) $
         rewrite ! 7 (λ (w : Val). ‵ (fat fullShare L′.mir l₇ zero w)) (ap only (LL.tells L.the-type L′.the-laws r (v ∷ []) is)) refl $
-        assigns ! (un ! (load ! (from ! (fld ! refl (stop !))) (look-in ! 7 (sub ! 2 refl (whole !)))) tt) (from ! (stop !)) (init ! 5 refl (tt, tt)) $
+        assigns ! (bin ! (load ! (from ! (fld ! refl (stop !))) (look-in ! 9 (sub ! 0 refl (whole !)))) (load ! (from ! (fld ! refl (fld ! refl (stop !)))) (look-in ! 7 (sub ! 0 refl (sub ! 1 refl (whole !))))) tt) (from ! (stop !)) (init ! 5 refl (tt, tt)) $
         first ! $ branches ! (load ! (from ! (stop !)) (look ! 5 refl))
-        -- it may be another record: it is stored
-        (λ y. assigns-last ! (of-opd ! (load ! (from ! (fld ! refl (stop !))) (look-in ! 7 (sub ! 1 refl (whole !))))) (from ! (hop ! (look ! 17 refl) (stop !))) (store-raw ! 1 refl (LL.lawful D.the-type D′.the-laws 𝓤 H At W .typed (r .device) _ (device-is r v is) .0)) $
-        exec ! C Λ (Env₀ C Λ l₀ l₁ l₂ l₃ l₄ l₅ l₆ l₇ l₈) bodies.t-5 (atRet (Env₀ C Λ l₀ l₁ l₂ l₃ l₄ l₅ l₆ l₇ l₈) Post) $ leaves C Λ l₀ l₁ l₂ l₃ l₄ l₅ l₆ l₇ l₈ fits r (r .device) (not (r .stays)) (e .0) (device-is r v is) (answer-is r v is))
-        -- it is the same one: it stays
-        (λ y. skips ! $ exec ! C Λ (Env₀ C Λ l₀ l₁ l₂ l₃ l₄ l₅ l₆ l₇ l₈) bodies.t-5 (atRet (Env₀ C Λ l₀ l₁ l₂ l₃ l₄ l₅ l₆ l₇ l₈) Post) $ leaves C Λ l₀ l₁ l₂ l₃ l₄ l₅ l₆ l₇ l₈ fits r h (not (r .stays)) (stays r e y) was (answer-is r v is)))))))))))))))))
+        (λ y. assigns-last ! (of-opd ! (load ! (from ! (fld ! refl (fld ! refl (stop !)))) (look-in ! 7 (sub ! 0 refl (sub ! 1 refl (whole !)))))) (from ! (hop ! (look ! 17 refl) (fld ! refl (stop !)))) (store-in ! 1 (sub ! 0 refl (whole !)) (D′.the-laws .0 .lawful 𝓤 H At W .typed (r .device .state) _ (LL.owed D.the-type D′.the-laws (r .device) _ (device-is r v is) .0) .0)) $
+        exec ! C Λ (Env₀ C Λ l₀ l₁ l₂ l₃ l₄ l₅ l₆ l₇ l₈) bodies.t-5 (atRet (Env₀ C Λ l₀ l₁ l₂ l₃ l₄ l₅ l₆ l₇ l₈) Post) $ put-address C Λ l₀ l₁ l₂ l₃ l₄ l₅ l₆ l₇ l₈ fits r e (device-is r v is) (answer-is r v is) _)
+        (λ y. rewrite ! 1 (λ x. ‵ (cellAt fullShare (D.the-row .mir) (device-mach (at-state r x) ∷ []) b o)) (alike (h .state) (r .device .state) y) refl $ skips ! $
+        exec ! C Λ (Env₀ C Λ l₀ l₁ l₂ l₃ l₄ l₅ l₆ l₇ l₈) bodies.t-5 (atRet (Env₀ C Λ l₀ l₁ l₂ l₃ l₄ l₅ l₆ l₇ l₈) Post) $ put-address C Λ l₀ l₁ l₂ l₃ l₄ l₅ l₆ l₇ l₈ fits r e (device-is r v is) (answer-is r v is) _))))))))))))))))
 
 module _ {M : Type 1} (𝓤 : URA M) (H : Heap 𝓤) (At : Atoms 𝓤) (W : Given 𝓤 H At) (at-mem : Memory → SProp 𝓤) (run : Routine → Fun 𝓤) where
   lent-walks : (C : Calls 𝓤 H) (Λ : Loops 𝓤 H) → FmC 𝓤 H (W .laws) C → Triple 𝓤 (C #left) (Step 𝓤 H At at-mem run) → Walks 𝓤 H At lent.ended stayed (WpFn 𝓤 H C Λ code.function) (lent.clauses 𝓤 H At at-mem run)
