@@ -172,14 +172,15 @@ pub fn collect(
     walk_twice(body, limits, names, alternates, asked)
 }
 
-// The same at full speed: the limits are known in the walk, wherever it is called from.
+// The same at full speed, where number 0 is among the names: the limits are known in the walk, wherever it is called from.
 pub fn collect_full_speed(
     body: &[u8],
     names: &[u32; 8],
     alternates: &[u8; 16],
     asked: Asked,
 ) -> Collected
+    requires { ⌜ has (now names) 0 ≡ true ⌝ }
     ensures { λ r. ⌜ Collects fullSpeed (now (names .entry)) (now (alternates .entry)) asked (now (body .entry)) r ⌝ }
 {
-    collect(body, descriptors::full_speed(), names, alternates, asked)
+    walk_once(body, descriptors::full_speed(), names, alternates, asked)
 }
