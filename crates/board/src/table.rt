@@ -19,7 +19,13 @@ fn happen(set: &[u8], serial: &[u8], image: &mut [u8], what: Event) -> Answer
 }
 
 // The same on a board that lends two.
-fn happen_two<'a>(full: &'a [u8], high: &'a [u8], serial: &[u8], image: &mut [u8], what: Event) -> Answer
+fn happen_two<'a>(
+    full: &'a [u8],
+    high: &'a [u8],
+    serial: &[u8],
+    image: &mut [u8],
+    what: Event,
+) -> Answer
     ensures answer { λ r. ⌜ r ≡ event (lentTwo (now (full .entry)) (now (high .entry)) (now (serial .entry))) (now (image .entry)) what .answer ⌝ }
     ensures image { λ _. ⌜ now (image .exit) ≡ event (lentTwo (now (full .entry)) (now (high .entry)) (now (serial .entry))) (now (image .entry)) what .image ⌝ }
 {

@@ -14,7 +14,7 @@ use Rattle.descriptors.specs.declared.lookup.EndpointFound.{EndpointFound}
 use Rattle.descriptors.specs.declared.lookup.EndpointFound.the-variants.{At, Nothing}
 use Rattle.descriptors.specs.declared.survey.Asked.{Asked}
 use Rattle.descriptors.specs.declared.survey.Survey.{Survey}
-use Rattle.descriptors.specs.Limits.{named, fullSpeed}
+use Rattle.descriptors.specs.Limits.{named}
 use Rattle.descriptors.specs.Descriptor.{bDescriptorType, isInterface, isEndpoint, bInterfaceNumber, bAlternateSetting, bNumEndpoints, iInterface, bEndpointAddress, bmAttributes, transferType, goodAttributes, goodSize, goodInterval, goodEndpoint}
 use Rattle.descriptors.specs.Configuration.{bitOf}
 use Rattle.descriptors.specs.Cut.{cut}
@@ -30,21 +30,6 @@ use Rattle.collecting.specs.declared.walk.Placing.{Placing}
 use Rattle.collecting.specs.declared.walk.Begun.{Begun}
 use Rattle.collecting.specs.declared.walk.Turned.{Turned}
 use Rattle.collecting.specs.declared.walk.Walked.{Walked}
-
--- ---- full speed's limits, but for what no configuration body is asked
-abbrev pub fullSpeedBut : Limits → Limits
-fullSpeedBut limits = record {
-  control = limits .control;
-  bulk = fullSpeed .bulk;
-  interrupt = fullSpeed .interrupt;
-  polling = fullSpeed .polling;
-  isochronous = fullSpeed .isochronous;
-  period = fullSpeed .period;
-  bursts = fullSpeed .bursts;
-  entries = limits .entries;
-  refused = fullSpeed .refused;
-  companions = fullSpeed .companions;
-}
 
 -- ---- what is asked: both numbers of a setting in one, which is a descriptor's two bytes if these are the numbers, and else none's
 abbrev pub wantedOf : Asked → Wanted

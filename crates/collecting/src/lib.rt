@@ -3,7 +3,6 @@ pub mod walk;
 
 use descriptors::Endpoint;
 use descriptors::Limits;
-use descriptors::Range;
 use descriptors::check::Verdict;
 use descriptors::check::good_head;
 use descriptors::lookup::EndpointFound;
@@ -12,14 +11,15 @@ use descriptors::survey::Survey;
 use octets::table::holds;
 use walk::Finds;
 ghost use mathlib.Core.Path.{_≡_};
-ghost use mathlib.Core.Bool.{true, false, _&&_};
+ghost use mathlib.Core.Bool.{true, false};
 ghost use Prim.Native.Nat.{ℕ, _≤_};
-ghost use lib.Dec.{eqb, ltb};
+ghost use lib.Dec.{ltb};
 ghost use Rattle.octets.specs.Bit.{bit};
 ghost use Rattle.octets.specs.Table.{has};
+ghost use Rattle.descriptors.specs.Limits.{fullSpeed};
 ghost use Rattle.descriptors.specs.Check.{verdict};
 ghost use Rattle.collecting.specs.Collected.{Collects};
-ghost use Rattle.collecting.specs.Course.{fullSpeedBut, endpointIn, SurveyOf};
+ghost use Rattle.collecting.specs.Course.{endpointIn, SurveyOf};
 
 // What is found of a body: whether it is good, and whether it is and every string reference in it is in a table; if it is good, what is asked
 // of it.
@@ -88,7 +88,7 @@ fn survey_of(finds: Finds, interfaces: u8, address: u16) -> Survey
     }
 }
 
-// The walk, where number 0 is among the names.
+// The walk, by limits without companions, where number 0 is among the names, so that it is not looked up for each interface.
 fn walk_once(
     body: &[u8],
     limits: Limits,
@@ -131,92 +131,16 @@ fn walk_once(
     refuse()
 }
 
-// The check and then the survey: the same in two walks, for any names.
-fn walk_twice(
+// At full speed, where number 0 is among the names: the limits are known in the walk, wherever it is called from. `names` are the numbers that a
+// string reference may be, `alternates` the alternate setting of each interface.
+pub fn collect_full_speed(
     body: &[u8],
-    limits: Limits,
     names: &[u32; 8],
     alternates: &[u8; 16],
     asked: Asked,
 ) -> Collected
-    ensures { λ r. ⌜ Collects limits (now (names .entry)) (now (alternates .entry)) asked (now (body .entry)) r ⌝ }
+    requires { ⌜ has (now names) 0 ≡ true ⌝ }
+    ensures { λ r. ⌜ Collects fullSpeed (now (names .entry)) (now (alternates .entry)) asked (now (body .entry)) r ⌝ }
 {
-    let verdict = descriptors::check::good_configuration(body, limits, names);
-    if verdict.good {
-        return Collected {
-            verdict,
-            survey: descriptors::survey::walk(body, *alternates, asked),
-        };
-    }
-    Collected {
-        verdict,
-        survey: nothing(),
-    }
-}
-
-// Whether two ranges are the same.
-fn is_same(a: Range, b: Range) -> bool
-    ensures { λ r. ⌜ r ≡ (eqb (a .least) (b .least) && eqb (a .most) (b .most)) ⌝ }
-{
-    (a.least == b.least) & (a.most == b.most)
-}
-
-// Full speed's limits, but for what no configuration body is asked.
-fn full_speed_but(limits: Limits) -> Limits
-    ensures { λ r. ⌜ r ≡ fullSpeedBut limits ⌝ }
-{
-    let full = descriptors::full_speed();
-    let control = limits.control;
-    let bulk = full.bulk;
-    let interrupt = full.interrupt;
-    let polling = full.polling;
-    let isochronous = full.isochronous;
-    let period = full.period;
-    Limits {
-        control,
-        bulk,
-        interrupt,
-        polling,
-        isochronous,
-        period,
-        bursts: full.bursts,
-        entries: limits.entries,
-        refused: full.refused,
-        companions: full.companions,
-    }
-}
-
-// Whether a body is asked what it is asked at full speed.
-fn is_full_speed(limits: Limits) -> bool
-    ensures { λ r. ⌜ (r ≡ true → limits ≡ fullSpeedBut limits) ⌝ }
-{
-    let full = descriptors::full_speed();
-    is_same(limits.bulk, full.bulk)
-        & is_same(limits.interrupt, full.interrupt)
-        & is_same(limits.polling, full.polling)
-        & is_same(limits.isochronous, full.isochronous)
-        & is_same(limits.period, full.period)
-        & (limits.bursts == full.bursts)
-        & (limits.refused == full.refused)
-        & !limits.companions
-}
-
-// `names` are the numbers that a string reference may be, `alternates` the alternate setting of each interface. The one call of the walk, with full
-// speed's limits written out, so that a compiler knows them in it. Every table of a set's strings has number 0.
-pub fn collect(
-    body: &[u8],
-    limits: Limits,
-    names: &[u32; 8],
-    alternates: &[u8; 16],
-    asked: Asked,
-) -> Collected
-    requires { ⌜ limits .companions ≡ false ⌝ }
-    ensures { λ r. ⌜ Collects limits (now (names .entry)) (now (alternates .entry)) asked (now (body .entry)) r ⌝ }
-{
-    if is_full_speed(limits) {
-        if holds(names, 0) {
-            return walk_once(body, full_speed_but(limits), names, alternates, asked);
-        }
-    }
-    walk_twice(body, limits, names, alternates, asked)
+    walk_once(body, descriptors::full_speed(), names, alternates, asked)
 }

@@ -8,10 +8,11 @@ use Rattle.octets.specs.Sentences.{pick, every}
 use Rattle.descriptors.specs.declared.Limits.{Limits}
 use Rattle.descriptors.specs.declared.survey.Asked.{Asked}
 use Rattle.descriptors.specs.declared.survey.Survey.{Survey}
+use Rattle.descriptors.specs.Limits.{fullSpeed}
 use Rattle.descriptors.specs.Check.{verdict, configurationRefers}
 use Rattle.sets.specs.declared.Entry.{Entry}
 use Rattle.sets.specs.Contents.{bodies}
-use Rattle.sets.specs.Pieces.{piecesIn}
+use Rattle.sets.specs.Pieces.{Piece, piecesIn}
 use Rattle.sets.specs.Opening.{goodConfigurations}
 use Rattle.steps.specs.declared.facts.Selected.{Selected}
 use Rattle.steps.specs.Selected.{Knows}
@@ -28,9 +29,13 @@ learned k wakes here survey =
     pick (here && not (k .configured)) (record { configured = true; waking = k .waking || wakes; survey = survey })
     (record { configured = k .configured; waking = k .waking || wakes; survey = k .survey })
 
+-- limits that ask of configurations what full speed asks
+abbrev pub AtFullSpeed : Limits → Type 0
+AtFullSpeed limits = (ps : List Piece) → goodConfigurations limits ps ≡ goodConfigurations fullSpeed ps
+
 -- the pass over the configurations: the verdict of the check, and if it is good what is known
-pub record Passes (limits : Limits) (set names : List ℕ) (value : ℕ) (alternates : List ℕ) (asked : Asked) (r : Passed) : Type 0 where
-  pub verdict : r .verdict ≡ verdict (goodConfigurations limits (piecesIn set)) (every (configurationRefers names) (bodies 2 set))
+pub record Passes (set names : List ℕ) (value : ℕ) (alternates : List ℕ) (asked : Asked) (r : Passed) : Type 0 where
+  pub verdict : r .verdict ≡ verdict (goodConfigurations fullSpeed (piecesIn set)) (every (configurationRefers names) (bodies 2 set))
   pub known : r .verdict .good ≡ true → Knows set value alternates asked (r .known)
 
 -- opening: its number, and if that is 0 what is known of the set in use

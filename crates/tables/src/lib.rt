@@ -11,10 +11,11 @@ use records::Device;
 use steps::facts;
 use steps::facts::Selected;
 ghost use mathlib.Core.Path.{_≡_};
-ghost use mathlib.Core.Bool.{false, true};
+ghost use mathlib.Core.Bool.{false, true, _||_};
 ghost use mathlib.Core.List.{List};
 ghost use Prim.Native.Nat.{ℕ};
 ghost use lib.Dec.{eqb};
+ghost use Rattle.octets.specs.Table.{has};
 ghost use Rattle.octets.specs.Sentences.{pick};
 ghost use Rattle.descriptors.specs.Limits.{pairedFull, highSpeed};
 ghost use Rattle.sets.specs.Opening.{lent, opening};
@@ -23,7 +24,7 @@ ghost use Rattle.sets.specs.View.{openingOf};
 ghost use Rattle.events.specs.Facts.{outcomeOf, questionOf, askedBy};
 ghost use Rattle.steps.specs.Gathering.{Openable, viewIn, stepIn};
 ghost use Rattle.steps.specs.Selected.{Knows};
-ghost use Rattle.tables.specs.Tables.{Tells};
+ghost use Rattle.tables.specs.Tables.{AtFullSpeed, Tells};
 
 // What opening gives, and if that is 0 what it collected.
 pub struct Opened {
@@ -40,7 +41,16 @@ fn refuses(number: u8) -> Opened
     }
 }
 
-// Opening, with what is asked of the configuration that has this value, at these alternate settings.
+// A table with 0: where the strings are not good it need not say that a reference may be 0, and the walk asks that it does.
+fn with_zero(names: [u32; 8]) -> [u32; 8]
+    ensures { λ r. ⌜ (has r 0 ≡ true) × ((j : ℕ) → has r j ≡ (eqb 0 j || has names j)) ⌝ }
+{
+    let mut table = names;
+    octets::table::join(&mut table, 0);
+    table
+}
+
+// Opening at full speed, with what is asked of the configuration that has this value, at these alternate settings.
 pub fn open_set(
     set: &[u8],
     serial: &[u8],
@@ -49,7 +59,7 @@ pub fn open_set(
     alternates: &[u8; 16],
     asked: Asked,
 ) -> Opened
-    requires { ⌜ limits .companions ≡ false ⌝ }
+    requires { ⌜ AtFullSpeed limits ⌝ }
     ensures { λ r. ⌜ Tells (opening limits (lent (now (set .entry)) (now (serial .entry)))) (now (set .entry)) (value .0) (now (alternates .entry)) asked r ⌝ }
 {
     let first = sets::checks::first_groups(set, limits);
@@ -57,9 +67,10 @@ pub fn open_set(
         return refuses(first);
     }
     let languages = sets::string::string_zero(set);
-    let mut names = [0u32; 8];
-    let strings = sets::string::read(set, languages, &mut names);
-    let passed = pass::configurations(set, limits, &names, value, alternates, asked);
+    let mut table = [0u32; 8];
+    let strings = sets::string::read(set, languages, &mut table);
+    let names = with_zero(table);
+    let passed = pass::configurations(set, &names, value, alternates, asked);
     let verdict = passed.verdict;
     let known = passed.known;
     Opened {
@@ -85,25 +96,28 @@ fn together(first: u8, second: u8, full: &[u8], high: &[u8]) -> u8
     24
 }
 
-// Opening two sets: the one in use, which this speed chooses, with what is asked of it, the other as ever.
+// Opening two sets, with what the event asks of the one in use, which this speed chooses. At high speed that is looked up, as in the first way: the walk that collects has the limits of full speed.
 pub fn open_pair(
     full: &[u8],
     high: &[u8],
     serial: &[u8],
     speed: u8,
-    value: ConfigurationValue,
-    alternates: &[u8; 16],
-    asked: Asked,
+    device: Device,
+    event: Event,
 ) -> Opened
-    ensures { λ r. ⌜ Tells (openingTwo (now (full .entry)) (now (high .entry)) (now (serial .entry))) (pick (eqb speed 0) (now (full .entry)) (now (high .entry))) (value .0) (now (alternates .entry)) asked r ⌝ }
+    ensures { λ r. ⌜ Tells (openingTwo (now (full .entry)) (now (high .entry)) (now (serial .entry))) (pick (eqb speed 0) (now (full .entry)) (now (high .entry)))
+        (device .configuration) (device .alternates) (askedBy (questionOf event)) r ⌝ }
 {
     if speed == 0 {
+        let alternates = device.alternates;
+        let value = ConfigurationValue(device.configuration);
+        let asked = facts::asked_of(event);
         let opened = open_set(
             full,
             serial,
             descriptors::paired_full(),
             value,
-            alternates,
+            &alternates,
             asked,
         );
         let second = sets::opening(high, serial, descriptors::high_speed());
@@ -113,19 +127,10 @@ pub fn open_pair(
             known,
         };
     }
-    let first = sets::opening(full, serial, descriptors::paired_full());
-    let opened = open_set(
-        high,
-        serial,
-        descriptors::high_speed(),
-        value,
-        alternates,
-        asked,
-    );
-    let known = opened.known;
+    let number = pairs::opening_two(full, high, serial);
     Opened {
-        number: together(first, opened.number, full, high),
-        known,
+        number,
+        known: facts::look_up(number, high, serial, device, event),
     }
 }
 
@@ -159,10 +164,7 @@ pub fn react_two<'a>(
 ) -> Reaction
     ensures { λ r. ⌜ outcomeOf r device ≡ stepIn (openingTwo (now (full .entry)) (now (high .entry)) (now (serial .entry))) (viewIn true (pick (eqb speed 0) (now (full .entry)) (now (high .entry))) (now (serial .entry))) device event ⌝ }
 {
-    let alternates = device.alternates;
-    let value = ConfigurationValue(device.configuration);
-    let asked = facts::asked_of(event);
-    let opened = open_pair(full, high, serial, speed, value, &alternates, asked);
+    let opened = open_pair(full, high, serial, speed, device, event);
     let set = steps::in_use(full, high, speed);
     let known = opened.known;
     steps::react(opened.number, true, set, serial, device, event, known)

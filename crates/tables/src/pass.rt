@@ -1,6 +1,5 @@
 // Group 4, with what is asked of the selected configuration: one pass over the entries, and one walk through each body.
 use descriptors::ConfigurationValue;
-use descriptors::Limits;
 use descriptors::check::Verdict;
 use descriptors::survey::Asked;
 use descriptors::survey::Survey;
@@ -12,8 +11,9 @@ use sets::contents::entry_at;
 use steps::facts::Selected;
 use steps::facts::nothing_known;
 ghost use mathlib.Core.Path.{_≡_};
-ghost use mathlib.Core.Bool.{false, _&&_, not};
+ghost use mathlib.Core.Bool.{true, false, _&&_, not};
 ghost use lib.Dec.{eqb, leb};
+ghost use Rattle.octets.specs.Table.{has};
 ghost use Rattle.sets.specs.Found.{canWake};
 ghost use Rattle.tables.specs.Tables.{numbered, learned, Passes};
 
@@ -66,17 +66,16 @@ fn refuse() -> Passed
     }
 }
 
-// The pass, with the index that is next and the values that were there; `value` selects.
+// The pass at full speed, with the index that is next and the values that were there; `value` selects.
 pub fn configurations(
     set: &[u8],
-    limits: Limits,
     names: &[u32; 8],
     value: ConfigurationValue,
     alternates: &[u8; 16],
     asked: Asked,
 ) -> Passed
-    requires { ⌜ limits .companions ≡ false ⌝ }
-    ensures { λ r. ⌜ Passes limits (now (set .entry)) (now (names .entry)) (value .0) (now (alternates .entry)) asked r ⌝ }
+    requires { ⌜ has (now names) 0 ≡ true ⌝ }
+    ensures { λ r. ⌜ Passes (now (set .entry)) (now (names .entry)) (value .0) (now (alternates .entry)) asked r ⌝ }
 {
     let count = octets::peek(set, 2);
     let mut index: u8 = 0;
@@ -91,7 +90,7 @@ pub fn configurations(
             let body = body_of(set, e);
             let here = octets::peek(body, 5);
             let again = holds(&seen, here);
-            let collected = collecting::collect(body, limits, names, alternates, asked);
+            let collected = collecting::collect_full_speed(body, names, alternates, asked);
             let verdict = collected.verdict;
             if !(is_numbered(e, index, here, again) & verdict.good) {
                 return refuse();

@@ -1,6 +1,6 @@
 -- `tables::react` meets its contract: the one set opens by the row of full speed. No axiom.
 use Prim.Native.Nat.{ℕ}
-use mathlib.Core.Path.{sym, ap, _∙_}
+use mathlib.Core.Path.{refl, sym, ap, _∙_}
 use mathlib.Core.Bool.{false}
 use borrow.Author.Needs.{needs}
 use Rattle.descriptors.specs.Limits.{fullSpeed}
@@ -15,7 +15,7 @@ full-speed-requires : tie.Need-full-speed-requires
 full-speed-requires c κs = search needs
 
 open-set-requires : tie.Need-open-set-requires
-open-set-requires c κs = ap (λ l. l .companions) (c .before .full-speed .ensures)
+open-set-requires c κs = rw (c .before .full-speed .ensures) (λ set. refl)
 
 react-requires : tie.Need-react-requires
 react-requires c κs = λ z.

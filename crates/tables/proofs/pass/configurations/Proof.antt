@@ -11,6 +11,7 @@ use Rattle.octets.specs.Sentences.{every, only}
 use Rattle.octets.specs.Table.{has}
 use Rattle.octets.proofs.Sentences.{both}
 use Rattle.octets.proofs.Tables.{allOf, with-long}
+use Rattle.descriptors.specs.Limits.{fullSpeed}
 use Rattle.descriptors.specs.Check.{verdict, configurationRefers}
 use Rattle.descriptors.specs.Configuration.{bConfigurationValue, goodConfiguration}
 use Rattle.descriptors.proofs.CheckReferences.{refused, told}
@@ -25,13 +26,13 @@ use Rattle.tables.proofs.pass.configurations.Statement.{statement}
 use Rattle.tables.proofs.pass.configurations.Tie as tie
 
 abbrev Inv-loop : tie.InvT-loop
-Inv-loop set limits names value alternates asked count index₀ seen₀ refers₀ known₀ i₀ index seen refers known i =
-    (index ≤ i) × (length seen ≡ 8) × (goodConfigurations limits (piecesIn set) ≡ goodFrom limits index seen (map (pieceFor set) (restOf 2 set i)))
+Inv-loop set names value alternates asked count index₀ seen₀ refers₀ known₀ i₀ index seen refers known i =
+    (index ≤ i) × (length seen ≡ 8) × (goodConfigurations fullSpeed (piecesIn set) ≡ goodFrom fullSpeed index seen (map (pieceFor set) (restOf 2 set i)))
     × (every (configurationRefers names) (bodies 2 set) ≡ (refers && every (configurationRefers names) (map (bodyOf set) (restOf 2 set i))))
     × Learnt set (value .0) alternates asked known (restOf 2 set i)
 
 abbrev μ-loop : tie.MeasureT-loop
-μ-loop set limits names value alternates asked count index₀ seen₀ refers₀ known₀ i₀ index seen refers known i = count - i
+μ-loop set names value alternates asked count index₀ seen₀ refers₀ known₀ i₀ index seen refers known i = count - i
 
 -- a value is a byte
 small : (c : tie.After-peek2 Inv-loop μ-loop) → bConfigurationValue (bodyOf (c .before .before .before .before .before .before .before .before .before .before .args .set .now) (c .before .before .before .before .entry-at .result)) < 256
@@ -43,13 +44,13 @@ judged : (c : tie.After-is-numbered Inv-loop μ-loop)
     let l = c .before .before .before .before .before .before .before .before .before .before .before .loop in
     let e = c .before .before .before .before .before .before .before .before .before .entry-at .result in
     let body = bodyOf (a .set .now) e in
-    (c .is-numbered .result && c .before .before .collect .result .verdict .good) ≡ goodNumbered (a .limits) e (l .index) body (has (l .seen) (bConfigurationValue body))
+    (c .is-numbered .result && c .before .before .collect-full-speed .result .verdict .good) ≡ goodNumbered fullSpeed e (l .index) body (has (l .seen) (bConfigurationValue body))
 judged c =
     let a = c .before .before .before .before .before .before .before .before .before .before .before .before .before .before .before .args in
     let e = c .before .before .before .before .before .before .before .before .before .entry-at .result in
     let n = rw (c .before .before .before .holds .ensures, c .before .before .before .before .before .peek2 .ensures, c .before .before .before .before .before .before .body-of .ensures) at (c .is-numbered .ensures) in
-    let g = ap (λ v. v .good) (c .before .before .collect .ensures .verdict) ∙ ap (goodConfiguration (a .limits)) (c .before .before .before .before .before .before .body-of .ensures) in
-    rw (n, g) (taken-apart (a .limits) e (c .before .before .before .before .before .before .before .before .before .before .before .loop .index) (bodyOf (a .set .now) e) (has (c .before .before .before .before .before .before .before .before .before .before .before .loop .seen) (bConfigurationValue (bodyOf (a .set .now) e))))
+    let g = ap (λ v. v .good) (c .before .before .collect-full-speed .ensures .verdict) ∙ ap (goodConfiguration fullSpeed) (c .before .before .before .before .before .before .body-of .ensures) in
+    rw (n, g) (taken-apart fullSpeed e (c .before .before .before .before .before .before .before .before .before .before .before .loop .index) (bodyOf (a .set .now) e) (has (c .before .before .before .before .before .before .before .before .before .before .before .loop .seen) (bConfigurationValue (bodyOf (a .set .now) e))))
 
 peek-requires : tie.Need-peek-requires Inv-loop μ-loop
 peek-requires c κs = search needs
@@ -62,7 +63,7 @@ loop-holds c =
     let a = c .before .before .before .args in (
       omega arith,
       refl,
-      good-start (a .limits) (a .set .now) ∙ ap (λ es. goodFrom (a .limits) 0 (allOf 0) (map (pieceFor (a .set .now)) (only (isKind 2) es))) (rest-start (a .set .now)),
+      good-start fullSpeed (a .set .now) ∙ ap (λ es. goodFrom fullSpeed 0 (allOf 0) (map (pieceFor (a .set .now)) (only (isKind 2) es))) (rest-start (a .set .now)),
       ap (λ es. every (configurationRefers (a .names .now)) (map (bodyOf (a .set .now)) (only (isKind 2) es))) (rest-start (a .set .now)),
       rw (c .nothing-known .ensures, sym (rest-start (a .set .now))) (learnt-start (a .set .now) (a .value .0) (a .alternates .now) (a .asked)),
     )
@@ -82,8 +83,8 @@ peek-requires-2 c κs = search needs
 holds-requires : tie.Need-holds-requires Inv-loop μ-loop
 holds-requires c κs = search needs
 
-collect-requires : tie.Need-collect-requires Inv-loop μ-loop
-collect-requires c κs = c .before .before .before .before .before .before .before .before .before .before .before .before .pre
+collect-full-speed-requires : tie.Need-collect-full-speed-requires Inv-loop μ-loop
+collect-full-speed-requires c κs = c .before .before .before .before .before .before .before .before .before .before .before .before .pre
 
 is-numbered-requires : tie.Need-is-numbered-requires Inv-loop μ-loop
 is-numbered-requires c κs = search needs
@@ -101,9 +102,9 @@ returns c =
       verdict = c .refuse .ensures
           ∙ refused _
           (sym
-          (asked-here 2 (λ es. goodFrom (a .limits) (l .index) (l .seen) (map (pieceFor (a .set .now)) es)) (a .set .now) _ (c .before .before .before .before .before .before .before .before .before .before .before .before .before .before .before .before .peek .ensures) (l .i) (l .inv .2) (c .before .before .before .before .before .before .before .before .before .before .before .before .before .loop-test .taken) _ (s .entry-at .ensures) (c .before .before .before .before .before .before .before .before .before .before .if1 .taken)
-          ∙ good-more (a .limits) (l .index) (l .seen) (s .entry-at .result) (bodyOf (a .set .now) (s .entry-at .result)) _ (small (c .before .before .before .before .before .before .before .before)) (l .inv .1)
-          ∙ rw (sym (judged v), not-true (v .is-numbered .result && v .before .before .collect .result .verdict .good) (c .before .if2 .taken))));
+          (asked-here 2 (λ es. goodFrom fullSpeed (l .index) (l .seen) (map (pieceFor (a .set .now)) es)) (a .set .now) _ (c .before .before .before .before .before .before .before .before .before .before .before .before .before .before .before .before .peek .ensures) (l .i) (l .inv .2) (c .before .before .before .before .before .before .before .before .before .before .before .before .before .loop-test .taken) _ (s .entry-at .ensures) (c .before .before .before .before .before .before .before .before .before .before .if1 .taken)
+          ∙ good-more fullSpeed (l .index) (l .seen) (s .entry-at .result) (bodyOf (a .set .now) (s .entry-at .result)) _ (small (c .before .before .before .before .before .before .before .before)) (l .inv .1)
+          ∙ rw (sym (judged v), not-true (v .is-numbered .result && v .before .before .collect-full-speed .result .verdict .good) (c .before .if2 .taken))));
       known = λ g. absurd (false≢true (sym (ap (λ v. v .good) (c .refuse .ensures)) ∙ g));
     }
 
@@ -123,8 +124,8 @@ loop-less : tie.Need-loop-less Inv-loop μ-loop
 loop-less c = let t = c .before .before .before .before .before .before .before .before .before .before .before .before .before .before .before .before .before .before .before .loop-test .taken in omega arith
 
 -- a good entry: both tests were true
-passed : (c : tie.Else2 Inv-loop μ-loop) → (c .before .before .is-numbered .result && c .before .before .before .before .collect .result .verdict .good) ≡ true
-passed c = not-false (c .before .before .is-numbered .result && c .before .before .before .before .collect .result .verdict .good) (c .if2 .left)
+passed : (c : tie.Else2 Inv-loop μ-loop) → (c .before .before .is-numbered .result && c .before .before .before .before .collect-full-speed .result .verdict .good) ≡ true
+passed c = not-false (c .before .before .is-numbered .result && c .before .before .before .before .collect-full-speed .result .verdict .good) (c .if2 .left)
 
 loop-again : tie.Need-loop-again Inv-loop μ-loop
 loop-again c =
@@ -136,18 +137,18 @@ loop-again c =
     let kind = c .before .before .before .before .before .before .before .before .before .before .before .before .before .before .before .before .if1 .taken in
     let test = c .before .before .before .before .before .before .before .before .before .before .before .before .before .before .before .before .before .before .before .loop-test .taken in
     let count = c .before .before .before .before .before .before .before .before .before .before .before .before .before .before .before .before .before .before .before .before .before .before .peek .ensures in
-    let good = both (v .is-numbered .result) (v .before .before .collect .result .verdict .good) (passed (c .before .before .before .before .before .before .before)) .1 in
+    let good = both (v .is-numbered .result) (v .before .before .collect-full-speed .result .verdict .good) (passed (c .before .before .before .before .before .before .before)) .1 in
     let f = configurationRefers (a .names .now) in (
       omega arith,
       rw (c .join .ensures) (with-long (l .seen) _ (l .inv .1)),
-      asked-here 2 (λ es. goodFrom (a .limits) (l .index) (l .seen) (map (pieceFor (a .set .now)) es)) (a .set .now) _ count (l .i) (l .inv .2) test _ (s .entry-at .ensures) kind
-          ∙ good-more (a .limits) (l .index) (l .seen) e (bodyOf (a .set .now) e) _ (small (c .before .before .before .before .before .before .before .before .before .before .before .before .before .before)) (l .inv .1)
+      asked-here 2 (λ es. goodFrom fullSpeed (l .index) (l .seen) (map (pieceFor (a .set .now)) es)) (a .set .now) _ count (l .i) (l .inv .2) test _ (s .entry-at .ensures) kind
+          ∙ good-more fullSpeed (l .index) (l .seen) e (bodyOf (a .set .now) e) _ (small (c .before .before .before .before .before .before .before .before .before .before .before .before .before .before)) (l .inv .1)
           ∙ rw (sym (judged v), passed (c .before .before .before .before .before .before .before), c .join .ensures, c .before .before .before .before .before .before .before .before .before .before .before .before .before .before .peek2 .ensures, c .before .before .before .before .before .before .before .before .before .before .before .before .before .before .before .body-of .ensures),
-      rw (told (v .before .before .collect .result .verdict) _ _ (v .before .before .collect .ensures .verdict) good, c .before .before .before .before .before .before .before .before .before .before .before .before .before .before .before .body-of .ensures)
+      rw (told (v .before .before .collect-full-speed .result .verdict) _ _ (v .before .before .collect-full-speed .ensures .verdict) good, c .before .before .before .before .before .before .before .before .before .before .before .before .before .before .before .body-of .ensures)
           (asked-here 2 (λ es. l .refers && every f (map (bodyOf (a .set .now)) es)) (a .set .now) _ count (l .i) (l .inv .3) test _ (s .entry-at .ensures) kind ∙ rw every-cons (sym (and-assoc (l .refers) _ _))),
       rw (c .before .before .before .learn .ensures, c .before .before .before .before .before .can-wake .ensures, c .before .before .before .before .before .before .before .before .before .before .before .before .before .before .peek2 .ensures, c .before .before .before .before .before .before .before .before .before .before .before .before .before .before .before .body-of .ensures)
-          (learnt-more (a .set .now) (a .value .0) (a .alternates .now) (a .asked) e (restOf 2 (a .set .now) (l .i + 1)) (v .before .before .collect .result .survey)
-          (rw (c .before .before .before .before .before .before .before .before .before .before .before .before .before .before .before .body-of .ensures) at (v .before .before .collect .ensures .surveyed good))
+          (learnt-more (a .set .now) (a .value .0) (a .alternates .now) (a .asked) e (restOf 2 (a .set .now) (l .i + 1)) (v .before .before .collect-full-speed .result .survey)
+          (rw (c .before .before .before .before .before .before .before .before .before .before .before .before .before .before .before .body-of .ensures) at (v .before .before .collect-full-speed .ensures .surveyed good))
           (rw (kind-next 2 (a .set .now) _ count (l .i) test e (s .entry-at .ensures) kind) at (l .inv .4))),
     )
 
@@ -162,7 +163,7 @@ loop-again-2 c =
     let f = configurationRefers (a .names .now) in (
       omega arith,
       l .inv .1,
-      asked-other 2 (λ es. goodFrom (a .limits) (l .index) (l .seen) (map (pieceFor (a .set .now)) es)) (a .set .now) _ (c .before .before .before .before .before .before .peek .ensures) (l .i) (l .inv .2) (c .before .before .before .loop-test .taken) _ (s .entry-at .ensures) (c .if1 .left),
+      asked-other 2 (λ es. goodFrom fullSpeed (l .index) (l .seen) (map (pieceFor (a .set .now)) es)) (a .set .now) _ (c .before .before .before .before .before .before .peek .ensures) (l .i) (l .inv .2) (c .before .before .before .loop-test .taken) _ (s .entry-at .ensures) (c .if1 .left),
       asked-other 2 (λ es. l .refers && every f (map (bodyOf (a .set .now)) es)) (a .set .now) _ (c .before .before .before .before .before .before .peek .ensures) (l .i) (l .inv .3) (c .before .before .before .loop-test .taken) _ (s .entry-at .ensures) (c .if1 .left),
       rw (kind-other 2 (a .set .now) _ (c .before .before .before .before .before .before .peek .ensures) (l .i) (c .before .before .before .loop-test .taken) (s .entry-at .result) (s .entry-at .ensures) (c .if1 .left)) at (l .inv .4),
     )
@@ -172,7 +173,7 @@ returns-2 c =
     let a = c .before .before .before .before .before .args in
     let l = c .before .loop in
     let f = configurationRefers (a .names .now) in
-    let good = asked-none 2 (λ es. goodFrom (a .limits) (l .index) (l .seen) (map (pieceFor (a .set .now)) es)) (a .set .now) _ (c .before .before .before .peek .ensures) (l .i) (l .inv .2) (c .loop-test .left) ∙ good-end (a .limits) (l .index) (l .seen) in
+    let good = asked-none 2 (λ es. goodFrom fullSpeed (l .index) (l .seen) (map (pieceFor (a .set .now)) es)) (a .set .now) _ (c .before .before .before .peek .ensures) (l .i) (l .inv .2) (c .loop-test .left) ∙ good-end fullSpeed (l .index) (l .seen) in
     let refer = asked-none 2 (λ es. l .refers && every f (map (bodyOf (a .set .now)) es)) (a .set .now) _ (c .before .before .before .peek .ensures) (l .i) (l .inv .3) (c .loop-test .left) ∙ ap (λ b. l .refers && b) (every-empty f) ∙ and-true (l .refers) in
     record {
       verdict = rw (good, refer);
@@ -193,7 +194,7 @@ configurations-spec =
     body-of-requires
     peek-requires-2
     holds-requires
-    collect-requires
+    collect-full-speed-requires
     is-numbered-requires
     refuse-requires
     returns
