@@ -11,7 +11,7 @@ use Rattle.octets.proofs.Sentences.{every-alike}
 use Rattle.descriptors.specs.Limits.{fullSpeed, pairedFull}
 use Rattle.descriptors.specs.Cut.{cut, descriptorsOf, wellCut}
 use Rattle.descriptors.specs.Configuration.{goodDescriptors, goodConfiguration}
-use Rattle.sets.specs.Contents.{bodies}
+use Rattle.sets.specs.Pieces.{bodiesOf}
 use Rattle.sets.specs.Opening.{lentTwo, opening, goodConfigurations}
 use Rattle.sets.specs.Pair.{openingTwo}
 use Rattle.records.proofs.InUse.{rowFor, opensFor}
@@ -34,4 +34,4 @@ body-alike body = ap (λ b. wellCut (cut body) && b) (descriptors-alike (length 
 
 pub paired-alike : AtFullSpeed pairedFull
 unfolding goodConfigurations
-paired-alike set = rw (every-alike (goodConfiguration pairedFull) (goodConfiguration fullSpeed) (bodies 2 set) (λ b m. body-alike b))
+paired-alike ps = rw (every-alike (goodConfiguration pairedFull) (goodConfiguration fullSpeed) (bodiesOf 2 ps) (λ b m. body-alike b))

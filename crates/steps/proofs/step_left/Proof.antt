@@ -26,7 +26,9 @@ slice-aggregate-same c =
     sym (length-unmapped ℕ (start .args .device .alternates) 16 (start .good .1 .1 .1 .0 .1 .1 .1 .1 .1 .1 .1 .1 .1 .1 .0 .1 .0 .1))
 
 slice-aggregate-same-2 : tie.Need-slice-aggregate-same-2
-slice-aggregate-same-2 c = search needs
+slice-aggregate-same-2 c =
+    let w = c .before .before .before .before in
+    sym (length-unmapped ℕ (w .after .result .alternates) 16 (w .after .ok .1 .1 .1 .1 .1 .1 .1 .1 .1 .1 .0 .1 .0 .1))
 
 same-requires : tie.Need-same-requires
 same-requires c κs = search needs
