@@ -108,6 +108,7 @@ pub fn open_pair(
     ensures { λ r. ⌜ Tells (openingTwo (now (full .entry)) (now (high .entry)) (now (serial .entry))) (pick (eqb speed 0) (now (full .entry)) (now (high .entry)))
         (device .configuration) (device .alternates) (askedBy (questionOf event)) r ⌝ }
 {
+    let second = sets::opening(high, serial, descriptors::high_speed());
     if speed == 0 {
         let alternates = device.alternates;
         let value = ConfigurationValue(device.configuration);
@@ -120,14 +121,14 @@ pub fn open_pair(
             &alternates,
             asked,
         );
-        let second = sets::opening(high, serial, descriptors::high_speed());
         let known = opened.known;
         return Opened {
             number: together(opened.number, second, full, high),
             known,
         };
     }
-    let number = pairs::opening_two(full, high, serial);
+    let first = sets::opening(full, serial, descriptors::paired_full());
+    let number = together(first, second, full, high);
     Opened {
         number,
         known: facts::look_up(number, high, serial, device, event),
