@@ -9,6 +9,7 @@ use borrow.Author.Tests.{eqb-true}
 use Rattle.octets.specs.Sentences.{pick}
 use Rattle.octets.proofs.Sentences.{cases}
 use Rattle.descriptors.proofs.CheckReferences.{told}
+use Rattle.sets.specs.Pieces.{piecesIn}
 use Rattle.sets.specs.Checks.{mayName}
 use Rattle.sets.specs.Opening.{lent}
 use Rattle.sets.specs.Strings.{goodLanguages, languages}
@@ -73,7 +74,7 @@ returns-2 c =
     let start = c .before .before .before .before .before .before .before .before .before .before .before .before .before .before in
     let a = start .args in
     let v = c .before .before .before .before .configurations in
-    let good = ap (λ v. v .good) (v .ensures .verdict) ∙ sym (start .pre (a .set .now)) in
+    let good = ap (λ v. v .good) (v .ensures .verdict) ∙ sym (start .pre (piecesIn (a .set .now))) in
     let number = c .last-groups .ensures (a .limits) (c .before .before .before .before .before .before .before .before .before .before .before .first-groups .ensures .0 (c .before .before .before .before .before .before .before .before .before .before .if1 .left)) good in
     record {
       number = number;
