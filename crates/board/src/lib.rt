@@ -3,6 +3,7 @@ use events::Answer;
 use events::Event;
 use records::Change;
 use records::Device;
+use steps::facts::Given;
 ghost use mathlib.Core.Path.{_≡_};
 ghost use Rattle.sets.specs.Opening.{lent};
 ghost use Rattle.sets.specs.View.{openingOf};
@@ -45,8 +46,7 @@ fn happen(
     ensures image { λ _. ⌜ now (image .exit) ≡ eventIn number (viewIn paired (now (set .entry)) (now (serial .entry))) (now (image .entry)) what .image ⌝ }
 {
     let device = records::read(image);
-    let known = steps::facts::look_up(number, set, serial, device, what);
-    let reaction = steps::react(number, paired, set, serial, device, what, known);
+    let reaction = steps::react(number, paired, set, serial, device, what, Given::Nothing);
     let change = reaction.next;
     records::renewal::renew(image, reaction.settles, change);
     reaction.answer

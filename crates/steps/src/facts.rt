@@ -26,7 +26,7 @@ ghost use Rattle.events.specs.Requests.{languageFor, locateString, locate};
 ghost use Rattle.records.specs.declared.Device.{Device};
 ghost use Rattle.events.specs.Facts.{naming, questionOf, askedBy, Tells};
 ghost use Rattle.steps.specs.Gathering.{configurationsIn, Openable, viewIn, bodyFound, located};
-ghost use Rattle.steps.specs.Selected.{nothingKnown, Knows};
+ghost use Rattle.steps.specs.Selected.{nothingKnown, Knows, KnowsIf};
 
 // The question of a function event, or of one that asks nothing.
 fn naming(address: u8) -> Setup
@@ -180,6 +180,12 @@ pub struct Selected {
     pub survey: Survey,
 }
 
+// What is given of it to a reaction: what was collected, or nothing.
+pub enum Given {
+    Nothing,
+    Collected(Selected),
+}
+
 // Before anything is known.
 pub fn nothing_known() -> Selected
     ensures { λ r. ⌜ r ≡ nothingKnown ⌝ }
@@ -198,14 +204,11 @@ pub fn nothing_known() -> Selected
     }
 }
 
-// The selected configuration, looked up, and one walk through it, if the set opens: `number` is what opening gives.
-pub fn look_up(number: u8, set: &[u8], serial: &[u8], device: Device, event: Event) -> Selected
-    requires { ⌜ (number ≡ 0 → Openable (now set) (now serial)) ⌝ }
-    ensures { λ r. ⌜ (number ≡ 0 → Knows (now (set .entry)) (device .configuration) (device .alternates) (askedBy (questionOf event)) r) ⌝ }
+// What is known of the configuration that the record selects, looked up: one lookup and one walk through it.
+fn look_up(set: &[u8], serial: &[u8], device: Device, event: Event) -> Selected
+    requires { ⌜ Openable (now set) (now serial) ⌝ }
+    ensures { λ r. ⌜ Knows (now (set .entry)) (device .configuration) (device .alternates) (askedBy (questionOf event)) r ⌝ }
 {
-    if number != 0 {
-        return nothing_known();
-    }
     let selected = configuration::by_value(set, ConfigurationValue(device.configuration));
     let body = body_found(set, selected);
     let alternates = device.alternates;
@@ -214,6 +217,17 @@ pub fn look_up(number: u8, set: &[u8], serial: &[u8], device: Device, event: Eve
         configured: is_found(selected),
         waking: configuration::wakes(set),
         survey,
+    }
+}
+
+// What was collected while the set was checked, or else what is looked up.
+pub fn learn(set: &[u8], serial: &[u8], device: Device, event: Event, given: Given) -> Selected
+    requires { ⌜ Openable (now set) (now serial) × KnowsIf (now set) (device .configuration) (device .alternates) (askedBy (questionOf event)) given ⌝ }
+    ensures { λ r. ⌜ Knows (now (set .entry)) (device .configuration) (device .alternates) (askedBy (questionOf event)) r ⌝ }
+{
+    match given {
+        Given::Collected(known) => known,
+        Given::Nothing => look_up(set, serial, device, event),
     }
 }
 

@@ -1,5 +1,5 @@
 // The step of a device: the set or the two sets and the serial block that are lent are checked, then the record, and then the event is answered.
-use crate::facts::Selected;
+use crate::facts::Given;
 use events::Answer;
 use events::Event;
 use events::Outcome;
@@ -16,7 +16,7 @@ ghost use Rattle.events.specs.Answer.{gives};
 ghost use Rattle.events.specs.Facts.{outcomeOf, questionOf, askedBy};
 ghost use Rattle.events.specs.Step.{step};
 ghost use Rattle.steps.specs.Gathering.{Openable, viewIn, stepIn};
-ghost use Rattle.steps.specs.Selected.{Knows};
+ghost use Rattle.steps.specs.Selected.{KnowsIf};
 
 pub mod endpoint;
 pub mod facts;
@@ -40,8 +40,8 @@ pub fn in_use<'a>(full: &'a [u8], high: &'a [u8], speed: u8) -> &'a [u8]
     high
 }
 
-// The reaction to an event on a board that was checked: `number` is what opening gives, `set` is the set in use, one of two if `paired`, and `known` what is known of it if it
-// opens. Both are asked before this frame stands, to spare the stack.
+// The reaction to an event on a board that was checked: `number` is what opening gives, `set` is the set in use, one of two if `paired`, and `given` what opening collected of it,
+// if it did. Opening is asked before this frame stands, to spare the stack.
 pub fn react(
     number: u8,
     paired: bool,
@@ -49,14 +49,15 @@ pub fn react(
     serial: &[u8],
     device: Device,
     event: Event,
-    known: Selected,
+    given: Given,
 ) -> Reaction
-    requires { ⌜ (number ≡ 0 → Openable (now set) (now serial) × Knows (now set) (device .configuration) (device .alternates) (askedBy (questionOf event)) known) ⌝ }
+    requires { ⌜ (number ≡ 0 → Openable (now set) (now serial) × KnowsIf (now set) (device .configuration) (device .alternates) (askedBy (questionOf event)) given) ⌝ }
     ensures { λ r. ⌜ outcomeOf r device ≡ stepIn number (viewIn paired (now (set .entry)) (now (serial .entry))) device event ⌝ }
 {
     if number != 0 {
         return reaction::refused(7);
     }
+    let known = facts::learn(set, serial, device, event, given);
     let facts = facts::gather(paired, set, serial, event, known);
     let survey = facts.survey;
     if !records::fits(survey, facts.configured, facts.waking, paired, device) {
@@ -70,8 +71,7 @@ pub fn step_opened(number: u8, set: &[u8], serial: &[u8], device: Device, event:
     requires { ⌜ number ≡ openingOf (lent (now set) (now serial)) ⌝ }
     ensures { λ r. ⌜ r ≡ step (lent (now (set .entry)) (now (serial .entry))) device event ⌝ }
 {
-    let known = facts::look_up(number, set, serial, device, event);
-    let reaction = react(number, false, set, serial, device, event, known);
+    let reaction = react(number, false, set, serial, device, event, Given::Nothing);
     let answer = reaction.answer;
     let next = reaction.next;
     Outcome {
@@ -99,8 +99,7 @@ fn step_left(number: u8, set: &[u8], serial: &[u8], device: Device, event: Event
     requires { ⌜ number ≡ openingOf (lent (now set) (now serial)) ⌝ }
     ensures { λ r. ⌜ (gives (r .answer) (r .device) ≡ step (lent (now (set .entry)) (now (serial .entry))) device event) × (r .moved ≡ false → device .alternates ≡ r .device .alternates) ⌝ }
 {
-    let known = facts::look_up(number, set, serial, device, event);
-    let reaction = react(number, false, set, serial, device, event, known);
+    let reaction = react(number, false, set, serial, device, event, Given::Nothing);
     let answer = reaction.answer;
     let next = reaction.next;
     let after = records::after(reaction.settles, next, device);

@@ -15,8 +15,9 @@ use Rattle.sets.specs.Contents.{bodies}
 use Rattle.sets.specs.Pieces.{Piece, piecesIn}
 use Rattle.sets.specs.Opening.{goodConfigurations}
 use Rattle.steps.specs.declared.facts.Selected.{Selected}
-use Rattle.steps.specs.Selected.{Knows}
+use Rattle.steps.specs.Selected.{Knows, KnowsIf}
 use Rattle.tables.specs.declared.Opened.{Opened}
+use Rattle.tables.specs.declared.OpenedTwo.{OpenedTwo}
 use Rattle.tables.specs.declared.pass.Passed.{Passed}
 
 -- a configuration entry with index n and this value, beside its body
@@ -42,3 +43,8 @@ pub record Passes (set names : List ℕ) (value : ℕ) (alternates : List ℕ) (
 pub record Tells (gives : ℕ) (set : List ℕ) (value : ℕ) (alternates : List ℕ) (asked : Asked) (r : Opened) : Type 0 where
   pub number : r .number ≡ gives
   pub known : r .number ≡ 0 → Knows set value alternates asked (r .known)
+
+-- opening two sets: its number, and if that is 0 what is given of the one in use
+pub record TellsTwo (gives : ℕ) (set : List ℕ) (value : ℕ) (alternates : List ℕ) (asked : Asked) (r : OpenedTwo) : Type 0 where
+  pub number : r .number ≡ gives
+  pub given : r .number ≡ 0 → KnowsIf set value alternates asked (r .given)

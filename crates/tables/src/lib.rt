@@ -9,22 +9,20 @@ use events::Event;
 use events::reaction::Reaction;
 use records::Device;
 use steps::facts;
+use steps::facts::Given;
 use steps::facts::Selected;
 ghost use mathlib.Core.Path.{_≡_};
 ghost use mathlib.Core.Bool.{false, true, _||_};
-ghost use mathlib.Core.List.{List};
 ghost use Prim.Native.Nat.{ℕ};
 ghost use lib.Dec.{eqb};
-ghost use Rattle.octets.specs.Table.{has};
 ghost use Rattle.octets.specs.Sentences.{pick};
-ghost use Rattle.descriptors.specs.Limits.{pairedFull, highSpeed};
+ghost use Rattle.octets.specs.Table.{has};
 ghost use Rattle.sets.specs.Opening.{lent, opening};
 ghost use Rattle.sets.specs.Pair.{openingTwo};
 ghost use Rattle.sets.specs.View.{openingOf};
 ghost use Rattle.events.specs.Facts.{outcomeOf, questionOf, askedBy};
-ghost use Rattle.steps.specs.Gathering.{Openable, viewIn, stepIn};
-ghost use Rattle.steps.specs.Selected.{Knows};
-ghost use Rattle.tables.specs.Tables.{AtFullSpeed, Tells};
+ghost use Rattle.steps.specs.Gathering.{viewIn, stepIn};
+ghost use Rattle.tables.specs.Tables.{AtFullSpeed, Tells, TellsTwo};
 
 // What opening gives, and if that is 0 what it collected.
 pub struct Opened {
@@ -79,62 +77,6 @@ pub fn open_set(
     }
 }
 
-// The number of two sets, from those of each.
-fn together(first: u8, second: u8, full: &[u8], high: &[u8]) -> u8
-    ensures { λ r. ⌜ ((serial : List ℕ) → first ≡ opening pairedFull (lent (now (full .entry)) serial) → second ≡ opening highSpeed (lent (now (high .entry)) serial)
-        → r ≡ openingTwo (now (full .entry)) (now (high .entry)) serial) ⌝ }
-{
-    if first != 0 {
-        return first;
-    }
-    if second != 0 {
-        return second;
-    }
-    if pairs::agreement::agree(full, high) {
-        return 0;
-    }
-    24
-}
-
-// Opening two sets, with what the event asks of the one in use, which this speed chooses. At high speed that is looked up, as in the first way: the walk that collects has the limits of full speed.
-pub fn open_pair(
-    full: &[u8],
-    high: &[u8],
-    serial: &[u8],
-    speed: u8,
-    device: Device,
-    event: Event,
-) -> Opened
-    ensures { λ r. ⌜ Tells (openingTwo (now (full .entry)) (now (high .entry)) (now (serial .entry))) (pick (eqb speed 0) (now (full .entry)) (now (high .entry)))
-        (device .configuration) (device .alternates) (askedBy (questionOf event)) r ⌝ }
-{
-    let second = sets::opening(high, serial, descriptors::high_speed());
-    if speed == 0 {
-        let alternates = device.alternates;
-        let value = ConfigurationValue(device.configuration);
-        let asked = facts::asked_of(event);
-        let opened = open_set(
-            full,
-            serial,
-            descriptors::paired_full(),
-            value,
-            &alternates,
-            asked,
-        );
-        let known = opened.known;
-        return Opened {
-            number: together(opened.number, second, full, high),
-            known,
-        };
-    }
-    let first = sets::opening(full, serial, descriptors::paired_full());
-    let number = together(first, second, full, high);
-    Opened {
-        number,
-        known: facts::look_up(number, high, serial, device, event),
-    }
-}
-
 // The reaction to an event on a board that lends one set.
 pub fn react(set: &[u8], serial: &[u8], device: Device, event: Event) -> Reaction
     ensures { λ r. ⌜ outcomeOf r device ≡ stepIn (openingOf (lent (now (set .entry)) (now (serial .entry)))) (viewIn false (now (set .entry)) (now (serial .entry))) device event ⌝ }
@@ -151,10 +93,61 @@ pub fn react(set: &[u8], serial: &[u8], device: Device, event: Event) -> Reactio
         asked,
     );
     let known = opened.known;
-    steps::react(opened.number, false, set, serial, device, event, known)
+    steps::react(
+        opened.number,
+        false,
+        set,
+        serial,
+        device,
+        event,
+        Given::Collected(known),
+    )
 }
 
-// The same on a board that lends two, of which this speed chooses the one in use.
+// What opening two sets gives, and what it collected of the one in use.
+pub struct OpenedTwo {
+    pub number: u8,
+    pub given: Given,
+}
+
+// Opening two sets, of which this speed chooses the one in use: at full speed what is asked of it is collected, and at high speed nothing is, since the walk that collects has the
+// limits of full speed.
+pub fn open_pair(
+    full: &[u8],
+    high: &[u8],
+    serial: &[u8],
+    speed: u8,
+    device: Device,
+    event: Event,
+) -> OpenedTwo
+    ensures { λ r. ⌜ TellsTwo (openingTwo (now (full .entry)) (now (high .entry)) (now (serial .entry))) (pick (eqb speed 0) (now (full .entry)) (now (high .entry)))
+        (device .configuration) (device .alternates) (askedBy (questionOf event)) r ⌝ }
+{
+    if speed == 0 {
+        let alternates = device.alternates;
+        let value = ConfigurationValue(device.configuration);
+        let asked = facts::asked_of(event);
+        let opened = open_set(
+            full,
+            serial,
+            descriptors::paired_full(),
+            value,
+            &alternates,
+            asked,
+        );
+        let known = opened.known;
+        return OpenedTwo {
+            number: pairs::opening_after(opened.number, full, high, serial),
+            given: Given::Collected(known),
+        };
+    }
+    OpenedTwo {
+        number: pairs::opening_two(full, high, serial),
+        given: Given::Nothing,
+    }
+}
+
+// The reaction to an event on a board that lends two, of which this speed chooses the one in use.
 pub fn react_two<'a>(
     full: &'a [u8],
     high: &'a [u8],
@@ -167,6 +160,6 @@ pub fn react_two<'a>(
 {
     let opened = open_pair(full, high, serial, speed, device, event);
     let set = steps::in_use(full, high, speed);
-    let known = opened.known;
-    steps::react(opened.number, true, set, serial, device, event, known)
+    let given = opened.given;
+    steps::react(opened.number, true, set, serial, device, event, given)
 }

@@ -9,11 +9,8 @@ use Rattle.board.proofs.happen.Tie as tie
 read-requires : tie.Need-read-requires
 read-requires c κs = search needs
 
-look-up-requires : tie.Need-look-up-requires
-look-up-requires c κs = search needs
-
 react-requires : tie.Need-react-requires
-react-requires c κs = λ z. (c .before .before .before .before .before .before .pre z, c .look-up .ensures z)
+react-requires c κs = λ z. (c .before .before .before .before .before .pre z, tt)
 
 renew-requires : tie.Need-renew-requires
 renew-requires c κs = search needs
@@ -23,11 +20,11 @@ same-length c = search needs
 
 returns : tie.Need-returns
 returns c =
-    let a = c .before .before .before .before .before .before .before .before .before .before .before .args in
+    let a = c .before .before .before .before .before .before .before .before .before .before .args in
     let v = viewIn (a .paired) (a .set .now) (a .serial .now) in
     let r = c .before .before .before .before .react .result in
-    let s = rw (c .before .before .before .before .before .before .read .ensures) at (c .before .before .before .before .react .ensures) in
+    let s = rw (c .before .before .before .before .before .read .ensures) at (c .before .before .before .before .react .ensures) in
     (answered (a .number) v (a .image .now) (a .what) r s, c .before .before .renew .ensures ∙ left-behind (a .number) v (a .image .now) (a .what) r s)
 
 pub happen-spec : {M : Type 1} → statement M
-happen-spec = tie.close (tie.spec read-requires look-up-requires react-requires renew-requires same-length returns)
+happen-spec = tie.close (tie.spec read-requires react-requires renew-requires same-length returns)

@@ -11,18 +11,15 @@ use Rattle.steps.proofs.Steps.{step-in}
 use Rattle.steps.proofs.step_left.Statement.{statement}
 use Rattle.steps.proofs.step_left.Tie as tie
 
-look-up-requires : tie.Need-look-up-requires
-look-up-requires c κs = λ z. (fullSpeed, sym (c .before .before .pre) ∙ z)
-
 react-requires : tie.Need-react-requires
-react-requires c κs = λ z. ((fullSpeed, sym (c .before .before .before .pre) ∙ z), c .look-up .ensures z)
+react-requires c κs = λ z. ((fullSpeed, sym (c .before .before .pre) ∙ z), tt)
 
 after-requires : tie.Need-after-requires
 after-requires c κs = search needs
 
 slice-aggregate-same : tie.Need-slice-aggregate-same
 slice-aggregate-same c =
-    let start = c .before .before .before .before .before .before .before .before in
+    let start = c .before .before .before .before .before .before .before in
     sym (length-unmapped ℕ (start .args .device .alternates) 16 (start .good .1 .1 .1 .0 .1 .1 .1 .1 .1 .1 .1 .1 .1 .1 .0 .1 .0 .1))
 
 slice-aggregate-same-2 : tie.Need-slice-aggregate-same-2
@@ -36,11 +33,11 @@ same-requires c κs = search needs
 returns : tie.Need-returns
 returns c =
     let w = c .before .before .before .before .before in
-    let start = w .before .before .before .before .before in
+    let start = w .before .before .before .before in
     let a = start .args in
     let b = lent (a .set .now) (a .serial .now) in
     let d = a .device in
     (rw (w .after .ensures) (w .before .react .ensures ∙ ap (λ (n : ℕ). stepIn n (viewIn false (a .set .now) (a .serial .now)) d (a .event)) (start .pre) ∙ sym (step-in b d (a .event))), λ p. c .same .ensures (not-false (c .same .result) p))
 
 pub step-left-spec : {M : Type 1} → statement M
-step-left-spec = tie.close (tie.spec look-up-requires react-requires after-requires slice-aggregate-same slice-aggregate-same-2 same-requires returns)
+step-left-spec = tie.close (tie.spec react-requires after-requires slice-aggregate-same slice-aggregate-same-2 same-requires returns)

@@ -10,21 +10,18 @@ use Rattle.steps.proofs.Steps.{step-in}
 use Rattle.steps.proofs.step_opened.Tie as tie
 use Rattle.steps.proofs.step_opened.Statement.{statement}
 
-look-up-requires : tie.Need-look-up-requires
-look-up-requires c κs = λ z. (fullSpeed, sym (c .before .before .pre) ∙ z)
-
 react-requires : tie.Need-react-requires
-react-requires c κs = λ z. ((fullSpeed, sym (c .before .before .before .pre) ∙ z), c .look-up .ensures z)
+react-requires c κs = λ z. ((fullSpeed, sym (c .before .before .pre) ∙ z), tt)
 
 after-requires : tie.Need-after-requires
 after-requires c κs = search needs
 
 returns : tie.Need-returns
 returns c =
-    let start = c .before .before .before .before .before in
+    let start = c .before .before .before .before in
     let a = start .args in
     let b = lent (a .set .now) (a .serial .now) in
     rw (c .after .ensures) (c .before .react .ensures ∙ ap (λ (n : ℕ). stepIn n (viewIn false (a .set .now) (a .serial .now)) (a .device) (a .event)) (start .pre) ∙ sym (step-in b (a .device) (a .event)))
 
 pub step-opened-spec : {M : Type 1} → statement M
-step-opened-spec = tie.close (tie.spec look-up-requires react-requires after-requires returns)
+step-opened-spec = tie.close (tie.spec react-requires after-requires returns)

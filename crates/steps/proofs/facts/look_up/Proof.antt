@@ -9,12 +9,6 @@ use Rattle.steps.proofs.Configurations.{usable}
 use Rattle.steps.proofs.facts.look_up.Tie as tie
 use Rattle.steps.proofs.facts.look_up.Statement.{statement}
 
-nothing-known-requires : tie.Need-nothing-known-requires
-nothing-known-requires c κs = search needs
-
-returns : tie.Need-returns
-returns c = λ z. absurd (c .before .if1 .taken z)
-
 by-value-requires : tie.Need-by-value-requires
 by-value-requires c κs = search needs
 
@@ -25,10 +19,10 @@ asked-of-requires : tie.Need-asked-of-requires
 asked-of-requires c κs = search needs
 
 walk-requires : tie.Need-walk-requires
-walk-requires c κs = let start = c .before .before .before .before .before .before .before in
+walk-requires c κs = let start = c .before .before .before .before .before .before in
     let a = start .args in
-    let o = start .pre (c .before .before .before .before .if1 .left) in
-    rw (c .before .before .body-found .ensures, c .before .before .before .by-value .ensures) (usable (o .0) (lent (a .set .now) (a .serial .now)) (λ i. omega (arith, c .before .before .before .before .before .before .shared-slice-known .given i)) (o .1) (a .device .configuration) .whole)
+    let o = start .pre in
+    rw (c .before .before .body-found .ensures, c .before .before .before .by-value .ensures) (usable (o .0) (lent (a .set .now) (a .serial .now)) (λ i. omega (arith, c .before .before .before .before .before .shared-slice-known .given i)) (o .1) (a .device .configuration) .whole)
 
 is-found-requires : tie.Need-is-found-requires
 is-found-requires c κs = search needs
@@ -36,8 +30,8 @@ is-found-requires c κs = search needs
 wakes-requires : tie.Need-wakes-requires
 wakes-requires c κs = search needs
 
-returns-2 : tie.Need-returns-2
-returns-2 c = λ z. let a = c .before .before .before .before .before .before .before .before .before .before .args in
+returns : tie.Need-returns
+returns c = let a = c .before .before .before .before .before .before .before .before .before .args in
     let there = c .before .before .before .before .before .before .by-value .ensures in
     record {
       configured = c .before .is-found .ensures ∙ ap isFound there;
@@ -49,12 +43,10 @@ pub look-up-spec : {M : Type 1} → statement M
 look-up-spec =
     tie.close
     (tie.spec
-    nothing-known-requires
-    returns
     by-value-requires
     body-found-requires
     asked-of-requires
     walk-requires
     is-found-requires
     wakes-requires
-    returns-2)
+    returns)
