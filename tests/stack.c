@@ -2,7 +2,7 @@
  * files: first a pair, then sets that are lent alone.
  *
  * Each call runs on a stack of its own that was painted before; the deepest byte that lost its paint tells, less what an
- * empty call takes. More than MOST or MOST_OF_TWO bytes fail: the smallest board has 2 KiB in all. */
+ * empty call takes. More than most_of allows fail: the smallest board has 2 KiB in all. */
 #define _XOPEN_SOURCE 700
 
 #include <stdint.h>
@@ -16,13 +16,14 @@
 /* Of a board that lends one set, and of one that lends two: on x86-64 what is reached, and a little room; on a board's processor what every call of a board must keep. */
 #ifdef __x86_64__
 #define MOST 816
-#define MOST_OF_TWO 880
+#define MOST_OF_TWO 960
 #else
 #define MOST 1024
 #define MOST_OF_TWO 1024
 #endif
-/* Of the second way to answer, whatever is lent. */
+/* Of the second way to answer, with one set lent and with two. */
 #define MOST_OF_TABLE 1024
+#define MOST_OF_TWO_TABLE 1152
 /* hk_trim keeps the first bytes of the set aside, as many as 64 entries have: it may take these besides. */
 #define ASIDE 516
 #define STACK_LENGTH 65536
@@ -294,12 +295,17 @@ static size_t read_file(const char *path, uint8_t *to, size_t room) {
     return length;
 }
 
-static int is_of_table(int function) {
-    return function == TABLE_EVENT || function == TWO_TABLE_EVENT;
-}
-
 static int is_of_two(int function) {
     return function == TWO_OPEN || function == TWO_EVENT || function == TWO_ENDPOINT || function == TWO_PORT_EVENT;
+}
+
+static size_t most_of(int function) {
+    switch (function) {
+    case TRIM: return MOST + ASIDE;
+    case TABLE_EVENT: return MOST_OF_TABLE;
+    case TWO_TABLE_EVENT: return MOST_OF_TWO_TABLE;
+    default: return is_of_two(function) ? MOST_OF_TWO : MOST;
+    }
 }
 
 int main(int argument_count, char **arguments) {
@@ -320,11 +326,11 @@ int main(int argument_count, char **arguments) {
     }
     for (int at = OPEN; at < FUNCTIONS; at++) {
         size_t taken = deepest[at] > deepest[EMPTY] ? deepest[at] - deepest[EMPTY] : 0;
-        size_t most = at == TRIM ? MOST + ASIDE : is_of_table(at) ? MOST_OF_TABLE : is_of_two(at) ? MOST_OF_TWO : MOST;
+        size_t most = most_of(at);
         printf("  %5zu bytes of stack  %s%s\n", taken, names[at], taken > most ? "  TOO DEEP" : "");
         too_deep |= taken > most;
     }
-    printf("stack: %s %d bytes at the most (with two sets lent %d, hk_trim %d more) on a pair and %d sets\n",
-           too_deep ? "OVER" : "within", MOST, MOST_OF_TWO, ASIDE, argument_count / 2 - 2);
+    printf("stack: %s %d bytes at the most (with two sets lent %d, the second way %d and %d, hk_trim %d more) on a pair and %d sets\n",
+           too_deep ? "OVER" : "within", MOST, MOST_OF_TWO, MOST_OF_TABLE, MOST_OF_TWO_TABLE, ASIDE, argument_count / 2 - 2);
     return too_deep;
 }
