@@ -17,13 +17,14 @@
 #ifdef __x86_64__
 #define MOST 816
 #define MOST_OF_TWO 960
+#define MOST_OF_TWO_TABLE 1104
 #else
 #define MOST 1024
 #define MOST_OF_TWO 1024
-#endif
-/* Of the second way to answer, with one set lent and with two. */
-#define MOST_OF_TABLE 1024
 #define MOST_OF_TWO_TABLE 1152
+#endif
+/* Of the second way to answer, with one set lent. */
+#define MOST_OF_TABLE 1024
 /* hk_trim keeps the first bytes of the set aside, as many as 64 entries have: it may take these besides. */
 #define ASIDE 516
 #define STACK_LENGTH 65536
