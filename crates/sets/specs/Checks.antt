@@ -64,6 +64,12 @@ pub record Ascend (set languages : List ℕ) : Type 0 where
   pub order : Ordered set
   pub good : goodLanguages languages ≡ true
 
+-- the strings are read: whether they are good, and then what a reference may be; 0 in any case
+pub record Reads (set languages : List ℕ) (good : Bool) (names : List ℕ) : Type 0 where
+  pub entries : good ≡ goodListed set languages
+  pub named : good ≡ true → (j : ℕ) → j < 256 → has names j ≡ mayName set languages j
+  pub zero : has names 0 ≡ true
+
 -- what opening has read for group 5: whether the string entries are good, and then the table of what a reference may be, and whether those of the configurations are in it
 pub record Read (set names : List ℕ) (refer good : Bool) : Type 0 where
   pub entries : good ≡ goodListed set (languages set)

@@ -19,7 +19,7 @@ ghost use Rattle.octets.specs.Sentences.{pick, any, every, member};
 ghost use Rattle.sets.specs.Pieces.{pieceWith, piecesIn, piecesOf};
 ghost use Rattle.sets.specs.Strings.{words, isString, isStringZero, goodString, languageZero, notSerial, goodLanguages, languages, inEvery, goodReference, goodStrings};
 ghost use Rattle.octets.specs.Table.{has, with};
-ghost use Rattle.sets.specs.Checks.{goodStringPiece, goodListed, mayName, noNames, Ordered, Ascend, Read};
+ghost use Rattle.sets.specs.Checks.{goodStringPiece, goodListed, mayName, noNames, Ordered, Ascend, Reads, Read};
 
 // String 0 lists one to four languages, nonzero and ascending.
 fn good_languages(body: &[u8]) -> bool
@@ -225,8 +225,8 @@ fn read_listed(set: &[u8], languages: &[u8], serial: u8, names: &mut [u32; 8]) -
     true
 }
 
-// The strings of a set: whether they are good, and then what a reference may be, in the table that is lent; `languages` is string 0, without which there is no string.
-pub fn read(set: &[u8], languages: &[u8], names: &mut [u32; 8]) -> bool
+// The string entries: whether they are good, and then what a reference may be; `languages` is string 0, without which there is no string.
+fn read_entries(set: &[u8], languages: &[u8], names: &mut [u32; 8]) -> bool
     requires { ⌜ Ordered (now set) ⌝ }
     ensures { λ r. ⌜ (r ≡ goodListed (now (set .entry)) (words (drop 2 (now (languages .entry))))) × (r ≡ true → (j : ℕ) → j < 256 → has (now (names .exit)) j ≡ mayName (now (set .entry)) (words (drop 2 (now (languages .entry)))) j) ⌝ }
 {
@@ -236,6 +236,19 @@ pub fn read(set: &[u8], languages: &[u8], names: &mut [u32; 8]) -> bool
     *names = [0u32; 8];
     join(names, 0);
     count_of(set, 3) == 0
+}
+
+// The strings of a set: whether they are good, and then what a reference may be, in the table that is lent. It has 0 in any case: a walk may rely on that.
+pub fn read(set: &[u8], languages: &[u8], names: &mut [u32; 8]) -> bool
+    requires { ⌜ Ordered (now set) ⌝ }
+    ensures { λ r. ⌜ Reads (now (set .entry)) (words (drop 2 (now (languages .entry)))) r (now (names .exit)) ⌝ }
+{
+    if read_entries(set, languages, names) {
+        return true;
+    }
+    *names = [0u32; 8];
+    join(names, 0);
+    false
 }
 
 // Group 5, once the strings are read and it is known whether the references of the configurations are in `names`.

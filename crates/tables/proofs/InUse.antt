@@ -7,12 +7,10 @@ use mathlib.Core.Option.{some}
 use lib.ListN.{length}
 use lib.Dec.{eqb}
 use Rattle.octets.specs.Sentences.{pick}
-use Rattle.octets.proofs.Sentences.{every-alike}
 use Rattle.descriptors.specs.Limits.{fullSpeed, pairedFull}
 use Rattle.descriptors.specs.Cut.{cut, descriptorsOf, wellCut}
 use Rattle.descriptors.specs.Configuration.{goodDescriptors, goodConfiguration}
-use Rattle.sets.specs.Pieces.{bodiesOf}
-use Rattle.sets.specs.Opening.{lentTwo, opening, goodConfigurations}
+use Rattle.sets.specs.Opening.{lentTwo, opening}
 use Rattle.sets.specs.Pair.{openingTwo}
 use Rattle.records.proofs.InUse.{rowFor, opensFor}
 use Rattle.steps.specs.Gathering.{Openable}
@@ -28,10 +26,6 @@ unfolding goodDescriptors
 descriptors-alike size [] = refl
 descriptors-alike size (d ∷ ds) = refl
 
-body-alike : (body : List ℕ) → goodConfiguration pairedFull body ≡ goodConfiguration fullSpeed body
-unfolding goodConfiguration
-body-alike body = ap (λ b. wellCut (cut body) && b) (descriptors-alike (length body) (descriptorsOf (cut body)))
-
 pub paired-alike : AtFullSpeed pairedFull
-unfolding goodConfigurations
-paired-alike ps = rw (every-alike (goodConfiguration pairedFull) (goodConfiguration fullSpeed) (bodiesOf 2 ps) (λ b m. body-alike b))
+unfolding goodConfiguration
+paired-alike body = ap (λ b. wellCut (cut body) && b) (descriptors-alike (length body) (descriptorsOf (cut body)))

@@ -5,7 +5,7 @@ use mathlib.Core.List.{List, [], _∷_, map}
 use mathlib.Core.Bool.{Bool, true, false, _&&_, _||_, not, and-false, or-assoc, or-false}
 use mathlib.Core.Option.{Option, some, none}
 use lib.Dec.{eqb, leb}
-use Rattle.octets.specs.Sentences.{any, first, isSome}
+use Rattle.octets.specs.Sentences.{pick, any, first, isSome}
 use Rattle.descriptors.specs.declared.Limits.{Limits}
 use Rattle.descriptors.specs.declared.survey.Asked.{Asked}
 use Rattle.descriptors.specs.declared.survey.Survey.{Survey}
@@ -23,7 +23,7 @@ use Rattle.sets.proofs.Entries.{first-here, first-later, first-empty, any-cons,
 use Rattle.steps.specs.declared.facts.Selected.{Selected}
 use Rattle.steps.specs.Gathering.{bodyFound}
 use Rattle.steps.specs.Selected.{nothingKnown, Knows}
-use Rattle.tables.specs.Tables.{numbered, learned}
+use Rattle.tables.specs.Tables.{numbered}
 
 -- an entry is asked for its body and for the rest
 pub taken-apart : (limits : Limits) (e : Entry) (n : ℕ) (body : List ℕ) (seen : Bool)
@@ -45,6 +45,12 @@ taken-apart limits e n body seen = go (eqb (e .index) n) (eqb (e .language) 0) (
 none-surveyed : (alternates : List ℕ) (asked : Asked) → Surveys (configurationOf []) alternates asked nothingSeen
 unfolding walked wellCut cutAfter
 none-surveyed alternates asked = surveys alternates asked (at-first [] 0 refl refl) refl
+
+-- what is known after a configuration: the first that is selected counts
+abbrev pub learned : Selected → Bool → Bool → Survey → Selected
+learned k wakes here survey =
+    pick (here && not (k .configured)) (record { configured = true; waking = k .waking || wakes; survey = survey })
+    (record { configured = k .configured; waking = k .waking || wakes; survey = k .survey })
 
 -- ---- the selected entry: one that was passed, or else the first that is left
 abbrev orLater : Option Entry → Option Entry → Option Entry

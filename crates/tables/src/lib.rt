@@ -4,6 +4,7 @@ pub mod pass;
 
 use descriptors::ConfigurationValue;
 use descriptors::Limits;
+use descriptors::check::Verdict;
 use descriptors::survey::Asked;
 use events::Event;
 use events::reaction::Reaction;
@@ -12,17 +13,22 @@ use steps::facts;
 use steps::facts::Given;
 use steps::facts::Selected;
 ghost use mathlib.Core.Path.{_≡_};
-ghost use mathlib.Core.Bool.{false, true, _||_};
+ghost use mathlib.Core.List.{List};
+ghost use mathlib.Core.Bool.{false, true};
 ghost use Prim.Native.Nat.{ℕ};
 ghost use lib.Dec.{eqb};
 ghost use Rattle.octets.specs.Sentences.{pick};
-ghost use Rattle.octets.specs.Table.{has};
-ghost use Rattle.sets.specs.Opening.{lent, opening};
+ghost use Rattle.descriptors.specs.declared.Limits.{Limits};
+ghost use Rattle.descriptors.specs.Limits.{pairedFull, highSpeed};
+ghost use Rattle.sets.specs.Checks.{Ordered, Reads, Begins, Ready};
+ghost use Rattle.sets.specs.Pieces.{piecesIn};
+ghost use Rattle.sets.specs.Strings.{languages};
+ghost use Rattle.sets.specs.Opening.{lent, goodConfigurations, opening};
 ghost use Rattle.sets.specs.Pair.{openingTwo};
 ghost use Rattle.sets.specs.View.{openingOf};
-ghost use Rattle.events.specs.Facts.{outcomeOf, questionOf, askedBy};
+ghost use Rattle.events.specs.Facts.{outcomeOf};
 ghost use Rattle.steps.specs.Gathering.{viewIn, stepIn};
-ghost use Rattle.tables.specs.Tables.{AtFullSpeed, Tells, TellsTwo};
+ghost use Rattle.tables.specs.Tables.{AtFullSpeed, Tells};
 
 // What opening gives, and if that is 0 what it collected.
 pub struct Opened {
@@ -39,40 +45,52 @@ fn refuses(number: u8) -> Opened
     }
 }
 
-// A table with 0: where the strings are not good it need not say that a reference may be 0, and the walk asks that it does.
-fn with_zero(names: [u32; 8]) -> [u32; 8]
-    ensures { λ r. ⌜ (has r 0 ≡ true) × ((j : ℕ) → has r j ≡ (eqb 0 j || has names j)) ⌝ }
+// The parts of opening around the configurations, each a function of its own, as in sets::opening, so that what they are lent shares its place on the stack.
+fn begin(set: &[u8], limits: Limits) -> u8
+    ensures { λ r. ⌜ (r ≡ 0 → Begins limits (now (set .entry))) × ((r ≡ 0 → ⊥) → (serial : List ℕ) → r ≡ opening limits (lent (now (set .entry)) serial)) ⌝ }
 {
-    let mut table = names;
-    octets::table::join(&mut table, 0);
-    table
+    sets::checks::first_groups(set, limits)
 }
 
-// Opening at full speed, with what is asked of the configuration that has this value, at these alternate settings.
+fn read_strings(set: &[u8], names: &mut [u32; 8]) -> bool
+    requires { ⌜ Ordered (now set) ⌝ }
+    ensures { λ r. ⌜ Reads (now (set .entry)) (languages (now (set .entry))) r (now (names .exit)) ⌝ }
+{
+    sets::string::read(set, sets::string::string_zero(set), names)
+}
+
+fn finish(set: &[u8], serial: &[u8], configurations: Verdict, strings: bool, names: &[u32; 8]) -> u8
+    requires { ⌜ Ready (now set) (now names) strings configurations ⌝ }
+    ensures { λ r. ⌜ ((limits : Limits) → Begins limits (now (set .entry)) → configurations .good ≡ goodConfigurations limits (piecesIn (now (set .entry)))
+        → r ≡ opening limits (lent (now (set .entry)) (now (serial .entry)))) ⌝ }
+{
+    sets::checks::last_groups(set, serial, configurations, strings, names)
+}
+
+// Opening by these limits; where it `collects`, with what is asked of the configuration that has this value, at these alternate settings.
 pub fn open_set(
     set: &[u8],
     serial: &[u8],
     limits: Limits,
+    collects: bool,
     value: ConfigurationValue,
     alternates: &[u8; 16],
     asked: Asked,
 ) -> Opened
-    requires { ⌜ AtFullSpeed limits ⌝ }
-    ensures { λ r. ⌜ Tells (opening limits (lent (now (set .entry)) (now (serial .entry)))) (now (set .entry)) (value .0) (now (alternates .entry)) asked r ⌝ }
+    requires { ⌜ (collects ≡ true → AtFullSpeed limits) ⌝ }
+    ensures { λ r. ⌜ Tells (opening limits (lent (now (set .entry)) (now (serial .entry)))) collects (now (set .entry)) (value .0) (now (alternates .entry)) asked r ⌝ }
 {
-    let first = sets::checks::first_groups(set, limits);
+    let first = begin(set, limits);
     if first != 0 {
         return refuses(first);
     }
-    let languages = sets::string::string_zero(set);
-    let mut table = [0u32; 8];
-    let strings = sets::string::read(set, languages, &mut table);
-    let names = with_zero(table);
-    let passed = pass::configurations(set, &names, value, alternates, asked);
+    let mut names = [0u32; 8];
+    let strings = read_strings(set, &mut names);
+    let passed = pass::configurations(set, limits, collects, &names, value, alternates, asked);
     let verdict = passed.verdict;
     let known = passed.known;
     Opened {
-        number: sets::checks::last_groups(set, serial, verdict, strings, &names),
+        number: finish(set, serial, verdict, strings, &names),
         known,
     }
 }
@@ -88,6 +106,7 @@ pub fn react(set: &[u8], serial: &[u8], device: Device, event: Event) -> Reactio
         set,
         serial,
         descriptors::full_speed(),
+        true,
         value,
         &alternates,
         asked,
@@ -104,50 +123,73 @@ pub fn react(set: &[u8], serial: &[u8], device: Device, event: Event) -> Reactio
     )
 }
 
-// What opening two sets gives, and what it collected of the one in use.
-pub struct OpenedTwo {
-    pub number: u8,
-    pub given: Given,
+// The full-speed set of two.
+fn open_full(
+    full: &[u8],
+    serial: &[u8],
+    value: ConfigurationValue,
+    alternates: &[u8; 16],
+    asked: Asked,
+) -> Opened
+    ensures { λ r. ⌜ Tells (opening pairedFull (lent (now (full .entry)) (now (serial .entry)))) true (now (full .entry)) (value .0) (now (alternates .entry)) asked r ⌝ }
+{
+    open_set(
+        full,
+        serial,
+        descriptors::paired_full(),
+        true,
+        value,
+        alternates,
+        asked,
+    )
 }
 
-// Opening two sets, of which this speed chooses the one in use: at full speed what is asked of it is collected, and at high speed nothing is, since the walk that collects has the
-// limits of full speed.
-pub fn open_pair(
+// The high-speed set of two, of which nothing is collected.
+fn open_high(
+    high: &[u8],
+    serial: &[u8],
+    value: ConfigurationValue,
+    alternates: &[u8; 16],
+    asked: Asked,
+) -> u8
+    ensures { λ r. ⌜ r ≡ opening highSpeed (lent (now (high .entry)) (now (serial .entry))) ⌝ }
+{
+    let opened = open_set(
+        high,
+        serial,
+        descriptors::high_speed(),
+        false,
+        value,
+        alternates,
+        asked,
+    );
+    opened.number
+}
+
+// Opening two sets, once the full-speed one was opened with a number: that, the high-speed set's, or 24.
+fn open_other(
+    first: u8,
     full: &[u8],
     high: &[u8],
     serial: &[u8],
-    speed: u8,
-    device: Device,
-    event: Event,
-) -> OpenedTwo
-    ensures { λ r. ⌜ TellsTwo (openingTwo (now (full .entry)) (now (high .entry)) (now (serial .entry))) (pick (eqb speed 0) (now (full .entry)) (now (high .entry)))
-        (device .configuration) (device .alternates) (askedBy (questionOf event)) r ⌝ }
+    value: ConfigurationValue,
+    alternates: &[u8; 16],
+    asked: Asked,
+) -> u8
+    requires { ⌜ first ≡ opening pairedFull (lent (now full) (now serial)) ⌝ }
+    ensures { λ r. ⌜ r ≡ openingTwo (now (full .entry)) (now (high .entry)) (now (serial .entry)) ⌝ }
 {
-    if speed == 0 {
-        let alternates = device.alternates;
-        let value = ConfigurationValue(device.configuration);
-        let asked = facts::asked_of(event);
-        let opened = open_set(
-            full,
-            serial,
-            descriptors::paired_full(),
-            value,
-            &alternates,
-            asked,
-        );
-        let known = opened.known;
-        return OpenedTwo {
-            number: pairs::opening_after(opened.number, full, high, serial),
-            given: Given::Collected(known),
-        };
+    if first != 0 {
+        return first;
     }
-    OpenedTwo {
-        number: pairs::opening_two(full, high, serial),
-        given: Given::Nothing,
+    let second = open_high(high, serial, value, alternates, asked);
+    if second != 0 {
+        return second;
     }
+    pairs::compare(full, high)
 }
 
-// The reaction to an event on a board that lends two, of which this speed chooses the one in use.
+// The reaction to an event on a board that lends two, of which this speed chooses the one in use. At high speed what is asked is looked up, as the first way does.
 pub fn react_two<'a>(
     full: &'a [u8],
     high: &'a [u8],
@@ -158,8 +200,22 @@ pub fn react_two<'a>(
 ) -> Reaction
     ensures { λ r. ⌜ outcomeOf r device ≡ stepIn (openingTwo (now (full .entry)) (now (high .entry)) (now (serial .entry))) (viewIn true (pick (eqb speed 0) (now (full .entry)) (now (high .entry))) (now (serial .entry))) device event ⌝ }
 {
-    let opened = open_pair(full, high, serial, speed, device, event);
-    let set = steps::in_use(full, high, speed);
-    let given = opened.given;
-    steps::react(opened.number, true, set, serial, device, event, given)
+    let alternates = device.alternates;
+    let value = ConfigurationValue(device.configuration);
+    let asked = facts::asked_of(event);
+    let opened = open_full(full, serial, value, &alternates, asked);
+    let number = open_other(opened.number, full, high, serial, value, &alternates, asked);
+    if speed == 0 {
+        let known = opened.known;
+        return steps::react(
+            number,
+            true,
+            full,
+            serial,
+            device,
+            event,
+            Given::Collected(known),
+        );
+    }
+    steps::react(number, true, high, serial, device, event, Given::Nothing)
 }

@@ -1,8 +1,9 @@
 // Group 4, with what is asked of the selected configuration: one pass over the entries, and one walk through each body.
+use collecting::Collected;
 use descriptors::ConfigurationValue;
+use descriptors::Limits;
 use descriptors::check::Verdict;
 use descriptors::survey::Asked;
-use descriptors::survey::Survey;
 use octets::table::holds;
 use octets::table::join;
 use sets::Entry;
@@ -15,7 +16,7 @@ ghost use mathlib.Core.Bool.{true, false, _&&_, not};
 ghost use lib.Dec.{eqb, leb};
 ghost use Rattle.octets.specs.Table.{has};
 ghost use Rattle.sets.specs.Found.{canWake};
-ghost use Rattle.tables.specs.Tables.{numbered, learned, Passes};
+ghost use Rattle.tables.specs.Tables.{numbered, AtFullSpeed, Walks, Passes};
 
 // Whether the configurations are good and refer to strings that are there, and what is known of them if they are good.
 pub struct Passed {
@@ -37,24 +38,25 @@ fn can_wake(body: &[u8]) -> bool
     octets::peek(body, 7) / 32 % 2 == 1
 }
 
-// What is known after a configuration, which is `selected` or not and has this survey: the first that is selected counts.
-fn learn(known: Selected, wakes: bool, selected: bool, survey: Survey) -> Selected
-    ensures { λ r. ⌜ r ≡ learned known wakes selected survey ⌝ }
+// One walk through a body. Only that of full speed collects.
+fn walk(
+    body: &[u8],
+    limits: Limits,
+    collects: bool,
+    names: &[u32; 8],
+    alternates: &[u8; 16],
+    asked: Asked,
+) -> Collected
+    requires { ⌜ (has (now names) 0 ≡ true) × (collects ≡ true → AtFullSpeed limits) ⌝ }
+    ensures { λ r. ⌜ Walks limits collects (now (names .entry)) (now (alternates .entry)) asked (now (body .entry)) r ⌝ }
 {
-    let waking = known.waking | wakes;
-    if selected & !known.configured {
-        return Selected {
-            configured: true,
-            waking,
-            survey,
-        };
+    if collects {
+        return collecting::collect_full_speed(body, names, alternates, asked);
     }
-    let before = known.survey;
-    Selected {
-        configured: known.configured,
-        waking,
-        survey: before,
-    }
+    let verdict = descriptors::check::good_configuration(body, limits, names);
+    let nothing = nothing_known();
+    let survey = nothing.survey;
+    Collected { verdict, survey }
 }
 
 fn refuse() -> Passed
@@ -66,22 +68,27 @@ fn refuse() -> Passed
     }
 }
 
-// The pass at full speed, with the index that is next and the values that were there; `value` selects.
+// The pass, with the index that is next and the values that were there; `value` selects, and the first that is selected counts.
 pub fn configurations(
     set: &[u8],
+    limits: Limits,
+    collects: bool,
     names: &[u32; 8],
     value: ConfigurationValue,
     alternates: &[u8; 16],
     asked: Asked,
 ) -> Passed
-    requires { ⌜ has (now names) 0 ≡ true ⌝ }
-    ensures { λ r. ⌜ Passes (now (set .entry)) (now (names .entry)) (value .0) (now (alternates .entry)) asked r ⌝ }
+    requires { ⌜ (has (now names) 0 ≡ true) × (collects ≡ true → AtFullSpeed limits) ⌝ }
+    ensures { λ r. ⌜ Passes limits collects (now (set .entry)) (now (names .entry)) (value .0) (now (alternates .entry)) asked r ⌝ }
 {
     let count = octets::peek(set, 2);
     let mut index: u8 = 0;
     let mut seen = [0u32; 8];
     let mut refers = true;
-    let mut known = nothing_known();
+    let nothing = nothing_known();
+    let mut survey = nothing.survey;
+    let mut configured = false;
+    let mut waking = false;
     let mut i: u8 = 0;
     while i < count {
         let e = entry_at(set, i);
@@ -90,13 +97,16 @@ pub fn configurations(
             let body = body_of(set, e);
             let here = octets::peek(body, 5);
             let again = holds(&seen, here);
-            let collected = collecting::collect_full_speed(body, names, alternates, asked);
+            let collected = walk(body, limits, collects, names, alternates, asked);
             let verdict = collected.verdict;
             if !(is_numbered(e, index, here, again) & verdict.good) {
                 return refuse();
             }
-            let survey = collected.survey;
-            known = learn(known, can_wake(body), here == value.0, survey);
+            waking = waking | can_wake(body);
+            if (here == value.0) & !configured {
+                configured = true;
+                survey = collected.survey;
+            }
             refers = refers & verdict.refers;
             join(&mut seen, here);
             index += 1;
@@ -104,6 +114,10 @@ pub fn configurations(
     }
     Passed {
         verdict: Verdict { good: true, refers },
-        known,
+        known: Selected {
+            configured,
+            waking,
+            survey,
+        },
     }
 }

@@ -1,49 +1,49 @@
--- `sets::string::read` meets its contract. No axiom.
-use mathlib.Core.Path.{sym, _∙_}
+-- `sets::string::read` meets its contract: where the strings are not good, the table has 0 alone. No axiom.
+use Prim.Native.Nat.{ℕ}
+use native.Mathlib.Omega.{arith}
+use mathlib.Core.Bool.{Bool, true, false, false≢true}
+use mathlib.Core.List.{List}
+use mathlib.Core.Path.{_≡_, refl, sym, _∙_}
+use lib.ListN.{drop}
 use borrow.Author.Needs.{needs}
-use Rattle.sets.proofs.Pieces.{none-of}
+use Rattle.octets.specs.Sentences.{pick}
+use Rattle.sets.specs.Checks.{mayName}
+use Rattle.sets.specs.Strings.{words, goodLanguages}
 use Rattle.sets.proofs.Strings.{with-none}
 use Rattle.sets.proofs.string.read.Statement.{statement}
 use Rattle.sets.proofs.string.read.Tie as tie
 
-good-languages-requires : tie.Need-good-languages-requires
-good-languages-requires c κs = search needs
+-- a reference may be 0
+zero-named : (set languages : List ℕ) → mayName set languages 0 ≡ true
+zero-named set languages = go (goodLanguages languages)
+  where
+    go : (b : Bool) → pick b true true ≡ true
+    go true = refl
+    go false = refl
 
-serial-index-requires : tie.Need-serial-index-requires
-serial-index-requires c κs = search needs
-
-read-listed-requires : tie.Need-read-listed-requires
-read-listed-requires c κs = record { order = c .before .before .before .before .before .before .pre; good = sym (c .before .before .before .good-languages .ensures) ∙ c .before .before .if1 .taken }
+read-entries-requires : tie.Need-read-entries-requires
+read-entries-requires c κs = c .before .before .before .pre
 
 returns : tie.Need-returns
 returns c =
-    let g = sym (c .before .before .before .before .good-languages .ensures) ∙ c .before .before .before .if1 .taken in
-    let serial = c .before .before .serial-index .ensures in (
-      rw g (rw serial at (c .read-listed .ensures .0)),
-      λ p j q. rw g (rw serial at (c .read-listed .ensures .1 p j q)),
-    )
+    let a = c .before .before .before .before .before .args in
+    let e = c .before .read-entries .ensures in
+    let g = c .if1 .taken in
+    record {
+      entries = sym g ∙ e .0;
+      named = λ _. e .1 g;
+      zero = e .1 g 0 (omega arith) ∙ zero-named (a .set .now) (words (drop 2 (a .languages .now)));
+    }
 
 join-requires : tie.Need-join-requires
 join-requires c κs = search needs
 
-count-of-requires : tie.Need-count-of-requires
-count-of-requires c κs = search needs
-
 returns-2 : tie.Need-returns-2
-returns-2 c =
-    let g = sym (c .before .before .before .before .before .good-languages .ensures) ∙ c .before .before .before .before .if1 .left in (
-      rw (g, c .count-of .ensures) (none-of (c .before .before .before .before .before .before .before .before .args .set .now) 3),
-      λ p j q. rw (g, c .before .join .ensures) (with-none j),
-    )
+returns-2 c = record {
+  entries = sym (c .before .before .before .if1 .left) ∙ c .before .before .before .before .read-entries .ensures .0;
+  named = λ g. absurd (false≢true g);
+  zero = rw (c .join .ensures) (with-none 0);
+}
 
 pub read-spec : {M : Type 1} → statement M
-read-spec =
-    tie.close
-    (tie.spec
-    good-languages-requires
-    serial-index-requires
-    read-listed-requires
-    returns
-    join-requires
-    count-of-requires
-    returns-2)
+read-spec = tie.close (tie.spec read-entries-requires returns join-requires returns-2)

@@ -1,9 +1,11 @@
 -- `tables::pass::configurations` meets its contract: what is asked of all configurations is asked of those left, and what is known is known before them. No axiom.
 use Prim.Native.Nat.{_+_, _-_, _≤_, _<_}
 use native.Mathlib.Omega.{arith}
-use mathlib.Core.Bool.{_&&_, true, false≢true, and-true, and-assoc}
+use mathlib.Core.Bool.{_&&_, _||_, true, false≢true, and-true, and-assoc}
+use mathlib.Core.Logic.{⊎-elim}
 use mathlib.Core.List.{map}
 use mathlib.Core.Path.{_≡_, refl, sym, ap, _∙_}
+use lib.Dec.{eqb}
 use lib.ListN.{length}
 use borrow.Author.Needs.{needs}
 use borrow.Author.Tests.{not-true, not-false}
@@ -11,7 +13,6 @@ use Rattle.octets.specs.Sentences.{every, only}
 use Rattle.octets.specs.Table.{has}
 use Rattle.octets.proofs.Sentences.{both}
 use Rattle.octets.proofs.Tables.{allOf, with-long}
-use Rattle.descriptors.specs.Limits.{fullSpeed}
 use Rattle.descriptors.specs.Check.{verdict, configurationRefers}
 use Rattle.descriptors.specs.Configuration.{bConfigurationValue, goodConfiguration}
 use Rattle.descriptors.proofs.CheckReferences.{refused, told}
@@ -21,36 +22,38 @@ use Rattle.sets.specs.Pieces.{pieceFor, piecesIn}
 use Rattle.sets.specs.Opening.{goodConfigurations}
 use Rattle.sets.proofs.Configurations.{goodFrom, good-start, good-end, good-more}
 use Rattle.sets.proofs.Entries.{rest-start, restOf, kind-next, kind-other, kind-end, asked-here, asked-other, asked-none, every-cons, every-empty}
-use Rattle.tables.proofs.Learning.{taken-apart, Learnt, learnt-start, learnt-more, learnt-end}
+use Rattle.steps.specs.declared.facts.Selected.{Selected}
+use Rattle.tables.proofs.Learning.{taken-apart, learned, Learnt, learnt-start, learnt-more, learnt-end}
 use Rattle.tables.proofs.pass.configurations.Statement.{statement}
 use Rattle.tables.proofs.pass.configurations.Tie as tie
 
 abbrev Inv-loop : tie.InvT-loop
-Inv-loop set names value alternates asked count index₀ seen₀ refers₀ known₀ i₀ index seen refers known i =
-    (index ≤ i) × (length seen ≡ 8) × (goodConfigurations fullSpeed (piecesIn set) ≡ goodFrom fullSpeed index seen (map (pieceFor set) (restOf 2 set i)))
+Inv-loop set limits collects names value alternates asked count index₀ seen₀ refers₀ survey₀ configured₀ waking₀ i₀ index seen refers survey configured waking i =
+    (index ≤ i) × (length seen ≡ 8) × (goodConfigurations limits (piecesIn set) ≡ goodFrom limits index seen (map (pieceFor set) (restOf 2 set i)))
     × (every (configurationRefers names) (bodies 2 set) ≡ (refers && every (configurationRefers names) (map (bodyOf set) (restOf 2 set i))))
-    × Learnt set (value .0) alternates asked known (restOf 2 set i)
+    × (collects ≡ true → Learnt set (value .0) alternates asked (record { configured = configured; waking = waking; survey = survey }) (restOf 2 set i))
 
 abbrev μ-loop : tie.MeasureT-loop
-μ-loop set names value alternates asked count index₀ seen₀ refers₀ known₀ i₀ index seen refers known i = count - i
+μ-loop set limits collects names value alternates asked count index₀ seen₀ refers₀ survey₀ configured₀ waking₀ i₀ index seen refers survey configured waking i = count - i
 
 -- a value is a byte
-small : (c : tie.After-peek2 Inv-loop μ-loop) → bConfigurationValue (bodyOf (c .before .before .before .before .before .before .before .before .before .before .args .set .now) (c .before .before .before .before .entry-at .result)) < 256
+small : (c : tie.After-peek2 Inv-loop μ-loop) → bConfigurationValue (bodyOf (c .before .before .before .before .before .before .before .before .before .before .before .args .set .now) (c .before .before .before .before .entry-at .result)) < 256
 small c = rw (← c .before .body-of .ensures, ← c .peek2 .ensures) (search needs)
 
 -- what was asked of the entry, of the set's own bytes
 judged : (c : tie.After-is-numbered Inv-loop μ-loop)
-    → let a = c .before .before .before .before .before .before .before .before .before .before .before .before .before .before .before .args in
+    → let a = c .before .before .before .before .before .before .before .before .before .before .before .before .before .before .before .before .args in
     let l = c .before .before .before .before .before .before .before .before .before .before .before .loop in
     let e = c .before .before .before .before .before .before .before .before .before .entry-at .result in
     let body = bodyOf (a .set .now) e in
-    (c .is-numbered .result && c .before .before .collect-full-speed .result .verdict .good) ≡ goodNumbered fullSpeed e (l .index) body (has (l .seen) (bConfigurationValue body))
+    (c .is-numbered .result && c .before .before .walk .result .verdict .good) ≡ goodNumbered (a .limits) e (l .index) body (has (l .seen) (bConfigurationValue body))
 judged c =
-    let a = c .before .before .before .before .before .before .before .before .before .before .before .before .before .before .before .args in
+    let a = c .before .before .before .before .before .before .before .before .before .before .before .before .before .before .before .before .args in
+    let l = c .before .before .before .before .before .before .before .before .before .before .before .loop in
     let e = c .before .before .before .before .before .before .before .before .before .entry-at .result in
     let n = rw (c .before .before .before .holds .ensures, c .before .before .before .before .before .peek2 .ensures, c .before .before .before .before .before .before .body-of .ensures) at (c .is-numbered .ensures) in
-    let g = ap (λ v. v .good) (c .before .before .collect-full-speed .ensures .verdict) ∙ ap (goodConfiguration fullSpeed) (c .before .before .before .before .before .before .body-of .ensures) in
-    rw (n, g) (taken-apart fullSpeed e (c .before .before .before .before .before .before .before .before .before .before .before .loop .index) (bodyOf (a .set .now) e) (has (c .before .before .before .before .before .before .before .before .before .before .before .loop .seen) (bConfigurationValue (bodyOf (a .set .now) e))))
+    let g = ap (λ v. v .good) (c .before .before .walk .ensures .verdict) ∙ ap (goodConfiguration (a .limits)) (c .before .before .before .before .before .before .body-of .ensures) in
+    rw (n, g) (taken-apart (a .limits) e (l .index) (bodyOf (a .set .now) e) (has (l .seen) (bConfigurationValue (bodyOf (a .set .now) e))))
 
 peek-requires : tie.Need-peek-requires Inv-loop μ-loop
 peek-requires c κs = search needs
@@ -60,12 +63,12 @@ nothing-known-requires c κs = search needs
 
 loop-holds : tie.Need-loop-holds Inv-loop μ-loop
 loop-holds c =
-    let a = c .before .before .before .args in (
+    let a = c .before .before .before .before .args in (
       omega arith,
       refl,
-      good-start fullSpeed (a .set .now) ∙ ap (λ es. goodFrom fullSpeed 0 (allOf 0) (map (pieceFor (a .set .now)) (only (isKind 2) es))) (rest-start (a .set .now)),
+      good-start (a .limits) (a .set .now) ∙ ap (λ es. goodFrom (a .limits) 0 (allOf 0) (map (pieceFor (a .set .now)) (only (isKind 2) es))) (rest-start (a .set .now)),
       ap (λ es. every (configurationRefers (a .names .now)) (map (bodyOf (a .set .now)) (only (isKind 2) es))) (rest-start (a .set .now)),
-      rw (c .nothing-known .ensures, sym (rest-start (a .set .now))) (learnt-start (a .set .now) (a .value .0) (a .alternates .now) (a .asked)),
+      λ _. rw (c .before .nothing-known .ensures, sym (rest-start (a .set .now))) (learnt-start (a .set .now) (a .value .0) (a .alternates .now) (a .asked)),
     )
 
 entry-at-requires : tie.Need-entry-at-requires Inv-loop μ-loop
@@ -83,8 +86,8 @@ peek-requires-2 c κs = search needs
 holds-requires : tie.Need-holds-requires Inv-loop μ-loop
 holds-requires c κs = search needs
 
-collect-full-speed-requires : tie.Need-collect-full-speed-requires Inv-loop μ-loop
-collect-full-speed-requires c κs = c .before .before .before .before .before .before .before .before .before .before .before .before .pre
+walk-requires : tie.Need-walk-requires Inv-loop μ-loop
+walk-requires c κs = c .before .before .before .before .before .before .before .before .before .before .before .before .before .pre
 
 is-numbered-requires : tie.Need-is-numbered-requires Inv-loop μ-loop
 is-numbered-requires c κs = search needs
@@ -96,60 +99,68 @@ returns : tie.Need-returns Inv-loop μ-loop
 returns c =
     let v = c .before .before .before in
     let s = c .before .before .before .before .before .before .before .before .before .before .before .before in
-    let a = c .before .before .before .before .before .before .before .before .before .before .before .before .before .before .before .before .before .before .args in
+    let a = c .before .before .before .before .before .before .before .before .before .before .before .before .before .before .before .before .before .before .before .args in
     let l = c .before .before .before .before .before .before .before .before .before .before .before .before .before .before .loop in
     record {
       verdict = c .refuse .ensures
           ∙ refused _
           (sym
-          (asked-here 2 (λ es. goodFrom fullSpeed (l .index) (l .seen) (map (pieceFor (a .set .now)) es)) (a .set .now) _ (c .before .before .before .before .before .before .before .before .before .before .before .before .before .before .before .before .peek .ensures) (l .i) (l .inv .2) (c .before .before .before .before .before .before .before .before .before .before .before .before .before .loop-test .taken) _ (s .entry-at .ensures) (c .before .before .before .before .before .before .before .before .before .before .if1 .taken)
-          ∙ good-more fullSpeed (l .index) (l .seen) (s .entry-at .result) (bodyOf (a .set .now) (s .entry-at .result)) _ (small (c .before .before .before .before .before .before .before .before)) (l .inv .1)
-          ∙ rw (sym (judged v), not-true (v .is-numbered .result && v .before .before .collect-full-speed .result .verdict .good) (c .before .if2 .taken))));
-      known = λ g. absurd (false≢true (sym (ap (λ v. v .good) (c .refuse .ensures)) ∙ g));
+          (asked-here 2 (λ es. goodFrom (a .limits) (l .index) (l .seen) (map (pieceFor (a .set .now)) es)) (a .set .now) _ (c .before .before .before .before .before .before .before .before .before .before .before .before .before .before .before .before .before .peek .ensures) (l .i) (l .inv .2) (c .before .before .before .before .before .before .before .before .before .before .before .before .before .loop-test .taken) _ (s .entry-at .ensures) (c .before .before .before .before .before .before .before .before .before .before .if1 .taken)
+          ∙ good-more (a .limits) (l .index) (l .seen) (s .entry-at .result) (bodyOf (a .set .now) (s .entry-at .result)) _ (small (c .before .before .before .before .before .before .before .before)) (l .inv .1)
+          ∙ rw (sym (judged v), not-true (v .is-numbered .result && c .before .before .before .before .before .walk .result .verdict .good) (c .before .if2 .taken))));
+      known = λ _ g. absurd (false≢true (sym (ap (λ v. v .good) (c .refuse .ensures)) ∙ g));
     }
 
 can-wake-requires : tie.Need-can-wake-requires Inv-loop μ-loop
 can-wake-requires c κs = search needs
 
-learn-requires : tie.Need-learn-requires Inv-loop μ-loop
-learn-requires c κs = search needs
-
 join-requires : tie.Need-join-requires Inv-loop μ-loop
 join-requires c κs = search needs
 
 add-index : tie.Need-add-index Inv-loop μ-loop
-add-index c = let l = c .before .before .before .before .before .before .before .before .before .before .before .before .before .before .before .before .before .before .before .before .loop in let t = c .before .before .before .before .before .before .before .before .before .before .before .before .before .before .before .before .before .before .before .loop-test .taken in let p = c .before .before .before .before .before .before .before .before .before .before .before .before .before .before .before .before .before .before .before .before .before .before .peek in omega arith
+add-index c = let l = c .before .before .before .before .before .before .before .before .before .before .before .before .before .before .before .before .before .before .before .loop in let t = c .before .before .before .before .before .before .before .before .before .before .before .before .before .before .before .before .before .before .loop-test .taken in let p = c .before .before .before .before .before .before .before .before .before .before .before .before .before .before .before .before .before .before .before .before .before .before .peek in omega arith
 
 loop-less : tie.Need-loop-less Inv-loop μ-loop
-loop-less c = let t = c .before .before .before .before .before .before .before .before .before .before .before .before .before .before .before .before .before .before .before .loop-test .taken in omega arith
+loop-less c = let t = c .before .before .before .before .before .before .before .before .before .before .before .before .before .before .before .before .before .before .loop-test .taken in omega arith
 
 -- a good entry: both tests were true
-passed : (c : tie.Else2 Inv-loop μ-loop) → (c .before .before .is-numbered .result && c .before .before .before .before .collect-full-speed .result .verdict .good) ≡ true
-passed c = not-false (c .before .before .is-numbered .result && c .before .before .before .before .collect-full-speed .result .verdict .good) (c .if2 .left)
+passed : (c : tie.Else2 Inv-loop μ-loop) → (c .before .before .is-numbered .result && c .before .before .before .before .walk .result .verdict .good) ≡ true
+passed c = not-false (c .before .before .is-numbered .result && c .before .before .before .before .walk .result .verdict .good) (c .if2 .left)
+
+-- what is known after it
+learns : (c : tie.Joined3 Inv-loop μ-loop)
+    → let a = c .before .before .before .before .before .before .before .before .before .before .before .before .before .before .before .before .before .before .before .before .before .args in
+    let l = c .before .before .before .before .before .before .before .before .before .before .before .before .before .before .before .before .loop in
+    let w = c .before .before .can-wake .result in
+    _≡_ {A = Selected} (record { configured = c .if3 .configured; waking = l .waking || w; survey = c .if3 .survey })
+    (learned (record { configured = l .configured; waking = l .waking; survey = l .survey }) w (eqb (c .before .before .before .before .before .before .before .before .before .before .peek2 .result) (a .value .0)) (c .before .before .before .before .before .before .before .walk .result .survey))
+learns c = ⊎-elim (λ w. rw (w .0 .taken, w .2, w .3)) (λ w. rw (w .0 .left, w .1, w .2)) (c .if3 .came)
 
 loop-again : tie.Need-loop-again Inv-loop μ-loop
 loop-again c =
-    let v = c .before .before .before .before .before .before .before .before .before in
-    let s = c .before .before .before .before .before .before .before .before .before .before .before .before .before .before .before .before .before .before in
+    let v = c .before .before .before .before .before .before .before .before in
+    let s = c .before .before .before .before .before .before .before .before .before .before .before .before .before .before .before .before .before in
+    let walked = c .before .before .before .before .before .before .before .before .before .before .walk in
+    let body = c .before .before .before .before .before .before .before .before .before .before .before .before .before .before .body-of .ensures in
     let a = c .before .before .before .before .before .before .before .before .before .before .before .before .before .before .before .before .before .before .before .before .before .before .before .before .args in
-    let l = c .before .before .before .before .before .before .before .before .before .before .before .before .before .before .before .before .before .before .before .before .loop in
+    let l = c .before .before .before .before .before .before .before .before .before .before .before .before .before .before .before .before .before .before .before .loop in
     let e = s .entry-at .result in
-    let kind = c .before .before .before .before .before .before .before .before .before .before .before .before .before .before .before .before .if1 .taken in
-    let test = c .before .before .before .before .before .before .before .before .before .before .before .before .before .before .before .before .before .before .before .loop-test .taken in
+    let kind = c .before .before .before .before .before .before .before .before .before .before .before .before .before .before .before .if1 .taken in
+    let test = c .before .before .before .before .before .before .before .before .before .before .before .before .before .before .before .before .before .before .loop-test .taken in
     let count = c .before .before .before .before .before .before .before .before .before .before .before .before .before .before .before .before .before .before .before .before .before .before .peek .ensures in
-    let good = both (v .is-numbered .result) (v .before .before .collect-full-speed .result .verdict .good) (passed (c .before .before .before .before .before .before .before)) .1 in
+    let good = both (v .is-numbered .result) (walked .result .verdict .good) (passed (c .before .before .before .before .before .before)) .1 in
     let f = configurationRefers (a .names .now) in (
       omega arith,
       rw (c .join .ensures) (with-long (l .seen) _ (l .inv .1)),
-      asked-here 2 (λ es. goodFrom fullSpeed (l .index) (l .seen) (map (pieceFor (a .set .now)) es)) (a .set .now) _ count (l .i) (l .inv .2) test _ (s .entry-at .ensures) kind
-          ∙ good-more fullSpeed (l .index) (l .seen) e (bodyOf (a .set .now) e) _ (small (c .before .before .before .before .before .before .before .before .before .before .before .before .before .before)) (l .inv .1)
-          ∙ rw (sym (judged v), passed (c .before .before .before .before .before .before .before), c .join .ensures, c .before .before .before .before .before .before .before .before .before .before .before .before .before .before .peek2 .ensures, c .before .before .before .before .before .before .before .before .before .before .before .before .before .before .before .body-of .ensures),
-      rw (told (v .before .before .collect-full-speed .result .verdict) _ _ (v .before .before .collect-full-speed .ensures .verdict) good, c .before .before .before .before .before .before .before .before .before .before .before .before .before .before .before .body-of .ensures)
+      asked-here 2 (λ es. goodFrom (a .limits) (l .index) (l .seen) (map (pieceFor (a .set .now)) es)) (a .set .now) _ count (l .i) (l .inv .2) test _ (s .entry-at .ensures) kind
+          ∙ good-more (a .limits) (l .index) (l .seen) e (bodyOf (a .set .now) e) _ (small (c .before .before .before .before .before .before .before .before .before .before .before .before .before)) (l .inv .1)
+          ∙ rw (sym (judged v), passed (c .before .before .before .before .before .before), c .join .ensures, c .before .before .before .before .before .before .before .before .before .before .before .before .before .peek2 .ensures, body),
+      rw (told (walked .result .verdict) _ _ (walked .ensures .verdict) good, body)
           (asked-here 2 (λ es. l .refers && every f (map (bodyOf (a .set .now)) es)) (a .set .now) _ count (l .i) (l .inv .3) test _ (s .entry-at .ensures) kind ∙ rw every-cons (sym (and-assoc (l .refers) _ _))),
-      rw (c .before .before .before .learn .ensures, c .before .before .before .before .before .can-wake .ensures, c .before .before .before .before .before .before .before .before .before .before .before .before .before .before .peek2 .ensures, c .before .before .before .before .before .before .before .before .before .before .before .before .before .before .before .body-of .ensures)
-          (learnt-more (a .set .now) (a .value .0) (a .alternates .now) (a .asked) e (restOf 2 (a .set .now) (l .i + 1)) (v .before .before .collect-full-speed .result .survey)
-          (rw (c .before .before .before .before .before .before .before .before .before .before .before .before .before .before .before .body-of .ensures) at (v .before .before .collect-full-speed .ensures .surveyed good))
-          (rw (kind-next 2 (a .set .now) _ count (l .i) test e (s .entry-at .ensures) kind) at (l .inv .4))),
+      λ collects. rw (learns (c .before .before .before), c .before .before .before .before .before .can-wake .ensures, c .before .before .before .before .before .before .before .before .before .before .before .before .before .peek2 .ensures, body)
+          (learnt-more (a .set .now) (a .value .0) (a .alternates .now) (a .asked) e (restOf 2 (a .set .now) (l .i + 1)) (walked .result .survey)
+          (rw body at (walked .ensures .surveyed collects good))
+          (rw (kind-next 2 (a .set .now) _ count (l .i) test e (s .entry-at .ensures) kind) at (l .inv .4 collects))),
     )
 
 loop-less-2 : tie.Need-loop-less-2 Inv-loop μ-loop
@@ -158,26 +169,29 @@ loop-less-2 c = search needs
 loop-again-2 : tie.Need-loop-again-2 Inv-loop μ-loop
 loop-again-2 c =
     let s = c .before .before in
-    let a = c .before .before .before .before .before .before .before .before .args in
+    let a = c .before .before .before .before .before .before .before .before .before .args in
     let l = c .before .before .before .before .loop in
+    let test = c .before .before .before .loop-test .taken in
+    let count = c .before .before .before .before .before .before .before .peek .ensures in
     let f = configurationRefers (a .names .now) in (
       omega arith,
       l .inv .1,
-      asked-other 2 (λ es. goodFrom fullSpeed (l .index) (l .seen) (map (pieceFor (a .set .now)) es)) (a .set .now) _ (c .before .before .before .before .before .before .peek .ensures) (l .i) (l .inv .2) (c .before .before .before .loop-test .taken) _ (s .entry-at .ensures) (c .if1 .left),
-      asked-other 2 (λ es. l .refers && every f (map (bodyOf (a .set .now)) es)) (a .set .now) _ (c .before .before .before .before .before .before .peek .ensures) (l .i) (l .inv .3) (c .before .before .before .loop-test .taken) _ (s .entry-at .ensures) (c .if1 .left),
-      rw (kind-other 2 (a .set .now) _ (c .before .before .before .before .before .before .peek .ensures) (l .i) (c .before .before .before .loop-test .taken) (s .entry-at .result) (s .entry-at .ensures) (c .if1 .left)) at (l .inv .4),
+      asked-other 2 (λ es. goodFrom (a .limits) (l .index) (l .seen) (map (pieceFor (a .set .now)) es)) (a .set .now) _ count (l .i) (l .inv .2) test _ (s .entry-at .ensures) (c .if1 .left),
+      asked-other 2 (λ es. l .refers && every f (map (bodyOf (a .set .now)) es)) (a .set .now) _ count (l .i) (l .inv .3) test _ (s .entry-at .ensures) (c .if1 .left),
+      λ collects. rw (kind-other 2 (a .set .now) _ count (l .i) test (s .entry-at .result) (s .entry-at .ensures) (c .if1 .left)) at (l .inv .4 collects),
     )
 
 returns-2 : tie.Need-returns-2 Inv-loop μ-loop
 returns-2 c =
-    let a = c .before .before .before .before .before .args in
+    let a = c .before .before .before .before .before .before .args in
     let l = c .before .loop in
+    let count = c .before .before .before .before .peek .ensures in
     let f = configurationRefers (a .names .now) in
-    let good = asked-none 2 (λ es. goodFrom fullSpeed (l .index) (l .seen) (map (pieceFor (a .set .now)) es)) (a .set .now) _ (c .before .before .before .peek .ensures) (l .i) (l .inv .2) (c .loop-test .left) ∙ good-end fullSpeed (l .index) (l .seen) in
-    let refer = asked-none 2 (λ es. l .refers && every f (map (bodyOf (a .set .now)) es)) (a .set .now) _ (c .before .before .before .peek .ensures) (l .i) (l .inv .3) (c .loop-test .left) ∙ ap (λ b. l .refers && b) (every-empty f) ∙ and-true (l .refers) in
+    let good = asked-none 2 (λ es. goodFrom (a .limits) (l .index) (l .seen) (map (pieceFor (a .set .now)) es)) (a .set .now) _ count (l .i) (l .inv .2) (c .loop-test .left) ∙ good-end (a .limits) (l .index) (l .seen) in
+    let refer = asked-none 2 (λ es. l .refers && every f (map (bodyOf (a .set .now)) es)) (a .set .now) _ count (l .i) (l .inv .3) (c .loop-test .left) ∙ ap (λ b. l .refers && b) (every-empty f) ∙ and-true (l .refers) in
     record {
       verdict = rw (good, refer);
-      known = λ g. learnt-end (a .set .now) (a .value .0) (a .alternates .now) (a .asked) (rw (kind-end 2 (a .set .now) _ (c .before .before .before .peek .ensures) (l .i) (c .loop-test .left)) at (l .inv .4));
+      known = λ collects g. learnt-end (a .set .now) (a .value .0) (a .alternates .now) (a .asked) (rw (kind-end 2 (a .set .now) _ count (l .i) (c .loop-test .left)) at (l .inv .4 collects));
     }
 
 pub configurations-spec : {M : Type 1} → statement M
@@ -194,12 +208,11 @@ configurations-spec =
     body-of-requires
     peek-requires-2
     holds-requires
-    collect-full-speed-requires
+    walk-requires
     is-numbered-requires
     refuse-requires
     returns
     can-wake-requires
-    learn-requires
     join-requires
     add-index
     loop-less
