@@ -207,7 +207,7 @@ typedef struct hk_record {
     uint32_t toggles;       /* the data toggles, in the same order */
 } hk_record;
 
-/* The events of hk_record_event, hk_two_event, hk_port_event and hk_two_port_event. */
+/* The events of hk_record_event, hk_two_event, hk_port_event, hk_two_port_event, hk_table_event and hk_two_table_event. */
 #define HK_EVENT_SETUP 0         /* as hk_setup: reads setup */
 #define HK_EVENT_STATUS_END 1    /* as hk_status_end */
 #define HK_EVENT_BUS_RESET 2     /* as hk_bus_reset_to: value is the speed */
@@ -280,6 +280,20 @@ uint8_t hk_two_port_event(const uint8_t *full, size_t full_length, const uint8_t
                           const uint8_t *serial, size_t serial_length, hk_record *row, size_t row_length, size_t port,
                           uint8_t event, uint8_t value, const uint8_t *setup, size_t setup_length,
                           uint8_t bytes[2], uint8_t *count, hk_part *part);
+
+/* A second way to answer any event on an image, by its number: for boards with large sets. What the event asks of the
+ * selected configuration is collected while the set is checked, so that no configuration is walked through twice; it takes
+ * more stack. Number, image, bytes, count and part are proved to be those of the calls above, for every input, so that a
+ * board may use both ways in turns. */
+uint8_t hk_table_event(const uint8_t *set, size_t set_length, const uint8_t *serial, size_t serial_length,
+                       uint8_t *image, size_t image_length, uint8_t event, uint8_t value,
+                       const uint8_t *setup, size_t setup_length, uint8_t bytes[2], uint8_t *count, hk_part *part);
+
+/* The same on a board that lends two sets, as hk_two_event. */
+uint8_t hk_two_table_event(const uint8_t *full, size_t full_length, const uint8_t *high, size_t high_length,
+                           const uint8_t *serial, size_t serial_length, uint8_t *image, size_t image_length,
+                           uint8_t event, uint8_t value, const uint8_t *setup, size_t setup_length,
+                           uint8_t bytes[2], uint8_t *count, hk_part *part);
 
 /* Cuts packet `number` (from 0) out of a reply: asked is the setup's wLength, size is bMaxPacketSize0.
  *

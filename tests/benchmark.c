@@ -1,7 +1,7 @@
-/* benchmark open|SETUP ROUNDS SET SERIAL CONFIGURATION: one call of the library, over and over, for tests/benchmark.
+/* benchmark open|SETUP|table:SETUP ROUNDS SET SERIAL CONFIGURATION: one call of the library, over and over, for tests/benchmark.
  *
- * SETUP is 8 bytes in hexadecimal; the record is Configured with that configuration, all else fresh. Prints the
- * nanoseconds of a call, its number and the two bytes. tests/benchmark.rs does the same. */
+ * SETUP is 8 bytes in hexadecimal, behind table: it goes the second way; the record is Configured with that configuration, all
+ * else fresh. Prints the nanoseconds of a call, its number and the two bytes. tests/benchmark.rs does the same, in its one way. */
 #define _POSIX_C_SOURCE 199309L
 
 #include <stdio.h>
@@ -11,21 +11,28 @@
 
 #include "heideklonk.h"
 
+#define TABLE "table:"
+
 static uint8_t set[20000], serial[20000], image[HK_IMAGE_LENGTH], opened[HK_IMAGE_LENGTH];
 static uint8_t setup[HK_SETUP_LENGTH], bytes[2], count;
 static size_t set_length, serial_length;
 static hk_part part = HK_NO_PART;
 
-static uint8_t call(int opening) {
-    if (opening)
+enum way { OPENING, BY_SETUP, BY_TABLE };
+
+static uint8_t call(enum way way) {
+    if (way == OPENING)
         return hk_open(set, set_length, serial, serial_length, opened, sizeof opened);
+    if (way == BY_TABLE)
+        return hk_table_event(set, set_length, serial, serial_length, image, sizeof image, HK_EVENT_SETUP, 0, setup, sizeof setup, bytes, &count,
+                              &part);
     return hk_setup(set, set_length, serial, serial_length, image, sizeof image, setup, sizeof setup, bytes, &count, &part);
 }
 
 /* What the instruction counter looks at. */
-__attribute__((noinline)) uint8_t measured(int opening);
-__attribute__((noinline)) uint8_t measured(int opening) {
-    return call(opening);
+__attribute__((noinline)) uint8_t measured(enum way way);
+__attribute__((noinline)) uint8_t measured(enum way way) {
+    return call(way);
 }
 
 static size_t read_file(const char *path, uint8_t *to, size_t room) {
@@ -54,12 +61,12 @@ static double nanoseconds_between(const struct timespec *start, const struct tim
 int main(int argument_count, char **arguments) {
     struct timespec start, end;
     long rounds;
-    int opening;
+    enum way way;
     uint8_t number;
     if (argument_count != 6)
         return 2;
-    opening = strcmp(arguments[1], "open") == 0;
-    read_setup(arguments[1]);
+    way = strcmp(arguments[1], "open") == 0 ? OPENING : strncmp(arguments[1], TABLE, strlen(TABLE)) == 0 ? BY_TABLE : BY_SETUP;
+    read_setup(arguments[1] + (way == BY_TABLE ? strlen(TABLE) : 0));
     rounds = strtol(arguments[2], NULL, 10);
     set_length = read_file(arguments[3], set, sizeof set);
     serial_length = read_file(arguments[4], serial, sizeof serial);
@@ -67,10 +74,10 @@ int main(int argument_count, char **arguments) {
     image[1] = 5;
     image[2] = 255;
     image[3] = (uint8_t)strtol(arguments[5], NULL, 10);
-    number = call(opening); /* the first call may run the linker too */
+    number = call(way); /* the first call may run the linker too */
     clock_gettime(CLOCK_MONOTONIC, &start);
     for (long round = 0; round < rounds; round++)
-        number = measured(opening);
+        number = measured(way);
     clock_gettime(CLOCK_MONOTONIC, &end);
     printf("%.0f %d %d %d\n", nanoseconds_between(&start, &end) / (double)rounds, number, bytes[0], bytes[1]);
     return 0;

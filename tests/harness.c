@@ -24,6 +24,7 @@
 #define MEMORY_TOUCHED 3
 #define CALL_STOPPED 4
 #define COMMAND_WRONG 5
+#define WAYS_DIFFER 6
 
 #define ROOM ((size_t)131072)
 #define FORBIDDEN ((size_t)65536)
@@ -247,6 +248,43 @@ static uint8_t block_of(hk_part found, uint8_t flags, int two, size_t *offset) {
     return IN_SERIAL;
 }
 
+/* What a call gave, beside the image that it left. */
+typedef struct given {
+    uint8_t number, bytes[2], count;
+    hk_part part;
+} given;
+
+/* What an event without bytes or a part gives. */
+static given number_alone(uint8_t number, uint8_t flags) {
+    given gave = {number, {0, 0}, 0, {lent(&set, flags), 0}};
+    return gave;
+}
+
+static given given_by(uint8_t number, const hk_part *found) {
+    given gave = {number, {bytes.room[bytes.start], bytes.room[bytes.start + 1]}, count.room[count.start], *found};
+    return gave;
+}
+
+/* The same event once more, by the second way, on the image as it was: it must give and leave the same. */
+static void ask_second_way(int two, uint8_t event, uint8_t value, given first, uint8_t flags) {
+    static uint8_t left[ROOM];
+    uint8_t *image_at = image.room + image.start;
+    memcpy(left, image_at, image.length);
+    memcpy(image_at, image.twin + image.start, image.length);
+    hk_part *found = unwritten_answer(flags);
+    const uint8_t *set_lent = lent(&set, flags), *high_lent = lent(&high, flags), *serial_lent = lent(&serial, flags);
+    const uint8_t *setup_lent = lent(&setup, flags);
+    uint8_t *image_lent = lent(&image, flags), *bytes_at = bytes.room + bytes.start, *count_at = count.room + count.start;
+    uint8_t number = two ? hk_two_table_event(set_lent, set.length, high_lent, high.length, serial_lent, serial.length, image_lent,
+                                              image.length, event, value, setup_lent, setup.length, bytes_at, count_at, found)
+                         : hk_table_event(set_lent, set.length, serial_lent, serial.length, image_lent, image.length, event,
+                                          value, setup_lent, setup.length, bytes_at, count_at, found);
+    given second = given_by(number, found);
+    if (first.number != second.number || memcmp(first.bytes, second.bytes, sizeof first.bytes) != 0 || first.count != second.count ||
+        first.part.start != second.part.start || first.part.length != second.part.length || memcmp(left, image_at, image.length) != 0)
+        respond_with_error(WAYS_DIFFER);
+}
+
 static void respond_with_part_of(int two, uint8_t number, const hk_part *found, uint8_t flags) {
     size_t offset;
     int kept = lent_blocks_kept() && unchanged(&setup) && guards_unchanged(&bytes) && guards_unchanged(&count) &&
@@ -268,6 +306,7 @@ static void call_setup(uint8_t flags) {
     uint8_t number = hk_setup(lent(&set, flags), set.length, lent(&serial, flags), serial.length, lent(&image, flags),
                               image.length, lent(&setup, flags), setup.length, bytes.room + bytes.start,
                               count.room + count.start, found);
+    ask_second_way(0, HK_EVENT_SETUP, 0, given_by(number, found), flags);
     respond_with_answer(number, found, flags);
 }
 
@@ -282,6 +321,7 @@ static void call_record_event(uint8_t flags) {
     uint8_t number = hk_record_event(lent(&set, flags), set.length, lent(&serial, flags), serial.length,
                                      (hk_record *)(void *)(image.room + image.start), event, value, lent(&setup, flags),
                                      setup.length, bytes.room + bytes.start, count.room + count.start, found);
+    ask_second_way(0, event, value, given_by(number, found), flags);
     respond_with_answer(number, found, flags);
 }
 
@@ -294,6 +334,7 @@ static void call_two_event(uint8_t flags) {
     uint8_t number = hk_two_event(lent(&set, flags), set.length, lent(&high, flags), high.length, lent(&serial, flags),
                                   serial.length, lent(&image, flags), image.length, event, value, lent(&setup, flags),
                                   setup.length, bytes.room + bytes.start, count.room + count.start, found);
+    ask_second_way(1, event, value, given_by(number, found), flags);
     respond_with_part_of(1, number, found, flags);
 }
 
@@ -342,7 +383,7 @@ static void call_event(uint8_t operation, uint8_t flags) {
     uint8_t value = has_value ? take_byte() : 0;
     take_block(&image, flags);
     const uint8_t *set_lent = lent(&set, flags), *serial_lent = lent(&serial, flags);
-    uint8_t *image_lent = lent(&image, flags), number;
+    uint8_t *image_lent = lent(&image, flags), event = HK_EVENT_SETUP, number;
     switch (operation) {
     case 'o':
         number = hk_open(set_lent, set.length, serial_lent, serial.length, image_lent, image.length);
@@ -351,32 +392,43 @@ static void call_event(uint8_t operation, uint8_t flags) {
         number = hk_super_open(set_lent, set.length, serial_lent, serial.length, image_lent, image.length);
         break;
     case 'e':
+        event = HK_EVENT_STATUS_END;
         number = hk_status_end(set_lent, set.length, serial_lent, serial.length, image_lent, image.length);
         break;
     case 'r':
+        event = HK_EVENT_BUS_RESET;
         number = hk_bus_reset(set_lent, set.length, serial_lent, serial.length, image_lent, image.length);
         break;
     case 'R':
+        event = HK_EVENT_BUS_RESET;
         number = hk_bus_reset_to(set_lent, set.length, serial_lent, serial.length, image_lent, image.length, value);
         break;
     case 'h':
+        event = HK_EVENT_HALT;
         number = hk_halt(set_lent, set.length, serial_lent, serial.length, image_lent, image.length, value);
         break;
     case 'z':
+        event = HK_EVENT_SUSPEND;
         number = hk_suspend(set_lent, set.length, serial_lent, serial.length, image_lent, image.length);
         break;
     case 'y':
+        event = HK_EVENT_RESUME;
         number = hk_resume(set_lent, set.length, serial_lent, serial.length, image_lent, image.length);
         break;
     case 'a':
+        event = HK_EVENT_WAKE;
         number = hk_wake(set_lent, set.length, serial_lent, serial.length, image_lent, image.length);
         break;
     case 'P':
+        event = HK_EVENT_POWER;
         number = hk_power(set_lent, set.length, serial_lent, serial.length, image_lent, image.length, value);
         break;
     default:
+        event = HK_EVENT_PACKET_PASSED;
         number = hk_packet_passed(set_lent, set.length, serial_lent, serial.length, image_lent, image.length, value);
     }
+    if (event != HK_EVENT_SETUP)
+        ask_second_way(0, event, value, number_alone(number, flags), flags);
     respond(lent_blocks_kept() ? 0 : BYTES_CHANGED, number, no_answer, 0, IN_SET, 0, 0);
     respond_with_image();
 }

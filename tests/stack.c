@@ -2,7 +2,7 @@
  * files: first a pair, then sets that are lent alone.
  *
  * Each call runs on a stack of its own that was painted before; the deepest byte that lost its paint tells, less what an
- * empty call takes. More than MOST or MOST_OF_TWO bytes fail: the smallest board has 2 KiB in all. */
+ * empty call takes. More than most_of allows fail: the smallest board has 2 KiB in all. */
 #define _XOPEN_SOURCE 700
 
 #include <stdint.h>
@@ -17,10 +17,14 @@
 #ifdef __x86_64__
 #define MOST 816
 #define MOST_OF_TWO 960
+#define MOST_OF_TWO_TABLE 1104
 #else
 #define MOST 1024
 #define MOST_OF_TWO 1024
+#define MOST_OF_TWO_TABLE 1152
 #endif
+/* Of the second way to answer, with one set lent. */
+#define MOST_OF_TABLE 1024
 /* hk_trim keeps the first bytes of the set aside, as many as 64 entries have: it may take these besides. */
 #define ASIDE 516
 #define STACK_LENGTH 65536
@@ -28,14 +32,15 @@
 
 enum function {
     EMPTY, OPEN, SETUP, STATUS_END, BUS_RESET, BUS_RESET_TO, HALT, PACKET_PASSED, POWER, SUSPEND, RESUME, WAKE, RECORD_EVENT, PACKET, ENDPOINT,
-    TWO_OPEN, TWO_EVENT, TWO_ENDPOINT, PORT_EVENT, TWO_PORT_EVENT, EXPORT, TRIM,
+    TWO_OPEN, TWO_EVENT, TWO_ENDPOINT, PORT_EVENT, TWO_PORT_EVENT, TABLE_EVENT, TWO_TABLE_EVENT, EXPORT, TRIM,
     FUNCTIONS
 };
 
 static const char *const names[FUNCTIONS] = {
     "an empty call", "hk_open", "hk_setup", "hk_status_end", "hk_bus_reset", "hk_bus_reset_to", "hk_halt", "hk_packet_passed",
     "hk_power", "hk_suspend", "hk_resume", "hk_wake", "hk_record_event", "hk_packet", "hk_endpoint",
-    "hk_two_open", "hk_two_event", "hk_two_endpoint", "hk_port_event", "hk_two_port_event", "hk_export", "hk_trim",
+    "hk_two_open", "hk_two_event", "hk_two_endpoint", "hk_port_event", "hk_two_port_event", "hk_table_event", "hk_two_table_event",
+    "hk_export", "hk_trim",
 };
 
 /* What the next call takes; static, so that nothing of it lies on the painted stack. */
@@ -112,6 +117,13 @@ static void call(void) {
         hk_two_port_event(set, set_length, high, high_length, serial, serial_length, row, 2, 1, event, event_value, setup, sizeof setup,
                           bytes, &count, &part);
         break;
+    case TABLE_EVENT:
+        hk_table_event(set, set_length, serial, serial_length, image, sizeof image, event, event_value, setup, sizeof setup, bytes, &count, &part);
+        break;
+    case TWO_TABLE_EVENT:
+        hk_two_table_event(set, set_length, high, high_length, serial, serial_length, image, sizeof image, event, event_value, setup, sizeof setup,
+                           bytes, &count, &part);
+        break;
     case PACKET:
         hk_packet(set, set_length, UINT16_MAX, 8, event_value, &part);
         break;
@@ -168,11 +180,13 @@ static void measure_event(uint8_t measured, enum function alone) {
     event = measured;
     if (paired) {
         measure(TWO_PORT_EVENT);
+        measure(TWO_TABLE_EVENT);
         measure(TWO_EVENT);
         return;
     }
     measure(RECORD_EVENT);
     measure(PORT_EVENT);
+    measure(TABLE_EVENT);
     measure(alone);
 }
 
@@ -286,6 +300,15 @@ static int is_of_two(int function) {
     return function == TWO_OPEN || function == TWO_EVENT || function == TWO_ENDPOINT || function == TWO_PORT_EVENT;
 }
 
+static size_t most_of(int function) {
+    switch (function) {
+    case TRIM: return MOST + ASIDE;
+    case TABLE_EVENT: return MOST_OF_TABLE;
+    case TWO_TABLE_EVENT: return MOST_OF_TWO_TABLE;
+    default: return is_of_two(function) ? MOST_OF_TWO : MOST;
+    }
+}
+
 int main(int argument_count, char **arguments) {
     int too_deep = 0;
     if (argument_count < 6 || argument_count % 2 != 0) {
@@ -304,11 +327,11 @@ int main(int argument_count, char **arguments) {
     }
     for (int at = OPEN; at < FUNCTIONS; at++) {
         size_t taken = deepest[at] > deepest[EMPTY] ? deepest[at] - deepest[EMPTY] : 0;
-        size_t most = at == TRIM ? MOST + ASIDE : is_of_two(at) ? MOST_OF_TWO : MOST;
+        size_t most = most_of(at);
         printf("  %5zu bytes of stack  %s%s\n", taken, names[at], taken > most ? "  TOO DEEP" : "");
         too_deep |= taken > most;
     }
-    printf("stack: %s %d bytes at the most (with two sets lent %d, hk_trim %d more) on a pair and %d sets\n",
-           too_deep ? "OVER" : "within", MOST, MOST_OF_TWO, ASIDE, argument_count / 2 - 2);
+    printf("stack: %s %d bytes at the most (with two sets lent %d, the second way %d and %d, hk_trim %d more) on a pair and %d sets\n",
+           too_deep ? "OVER" : "within", MOST, MOST_OF_TWO, MOST_OF_TABLE, MOST_OF_TWO_TABLE, ASIDE, argument_count / 2 - 2);
     return too_deep;
 }

@@ -1,6 +1,7 @@
 pub mod Exports
 pub mod Handing
 pub mod Decided
+pub mod Ways
 pub mod Opening
 pub mod Runs
 pub mod Transfers

@@ -16,6 +16,7 @@ mod endpoint;
 mod makers;
 mod numbers;
 mod ports;
+mod table;
 mod two;
 
 // Opens a set with its serial block: the image becomes the fresh record, whether they are accepted or not.
