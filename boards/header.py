@@ -9,7 +9,9 @@ from module import Unexpected
 
 # C's types of parameters, as the module has them.
 TYPES = {"uint8_t": "i8", "uint16_t": "i16", "uint32_t": "i32", "size_t": "i64"}
-MAKERS = "HK_MAKERS"
+# The archive's object that a call stands in, by the mark before its prototype; a call without one stands in the first.
+OBJECTS = {"": "heideklonk", "HK_LARGE": "tables", "HK_MAKERS": "makers"}
+MARK = rf"(?:({'|'.join(filter(None, OBJECTS))})\s+)?"
 
 BEGINNING = """\
 /* The library's exports on a 32-bit processor: size_t outside, the module's 64-bit lengths inside. */
@@ -29,10 +31,10 @@ __asm__(".eabi_attribute 28, 3");
 
 class Prototype:
     def __init__(self, text):
-        found = re.match(rf"({MAKERS}\s+)?(\w+)\s+(hk_\w+)\s*\((.*)\)$", text, re.S)
+        found = re.match(rf"{MARK}(\w+)\s+(hk_\w+)\s*\((.*)\)$", text, re.S)
         if not found:
             raise Unexpected(f"include/heideklonk.h has a prototype of another form: {text}")
-        self.for_makers, self.result, self.name = bool(found[1]), found[2], found[3]
+        self.object, self.result, self.name = OBJECTS[found[1] or ""], found[2], found[3]
         self.parameters = [self.parameter(" ".join(word.split())) for word in found[4].split(",")]
 
     def parameter(self, text):
@@ -63,7 +65,7 @@ class Prototype:
 def prototypes(text):
     """All of the header's, in its order."""
     text = re.sub(r"/\*.*?\*/", "", text, flags=re.S)
-    return [Prototype(word) for word in re.findall(rf"^((?:{MAKERS}\s+)?\w+\s+hk_\w+\s*\([^;]*\));", text, re.M)]
+    return [Prototype(found[1]) for found in re.finditer(rf"^({MARK}\w+\s+hk_\w+\s*\([^;]*\));", text, re.M)]
 
 
 def hold(found, exports):
@@ -84,7 +86,7 @@ def whole_registers(text):
     """The header for tests on a bare machine: a result is the whole register that it comes in, and goes through `a_byte`, which tells if it is none."""
     found = prototypes(text)
     for prototype in found:
-        text = re.sub(rf"^(?:{MAKERS}\s+)?{prototype.result}(\s+{prototype.name}\b)", r"unsigned long\1", text, flags=re.M)
+        text = re.sub(rf"^{MARK}{prototype.result}(\s+{prototype.name}\b)", r"unsigned long\2", text, flags=re.M)
     macros = "".join(f"#define {prototype.name}(...) a_byte({prototype.name}(__VA_ARGS__))\n" for prototype in found)
     return f"{text}\nuint8_t a_byte(unsigned long whole_register);\n{macros}"
 

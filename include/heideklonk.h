@@ -86,6 +86,10 @@ typedef struct hk_part {
  * its own in a board's archive, which a board that does not call it does not link. */
 #define HK_MAKERS
 
+/* Marks a call of the second way to answer, for boards with large sets: it stands in another object of a board's archive,
+ * which a board that does not call it does not link. */
+#define HK_LARGE
+
 /* Power-on: checks the set and the serial block, and makes the image the fresh record (state Default, address 0).
  *
  * HK_DONE: acceptable. HK_FRAME_BROKEN to HK_SERIAL_BROKEN: the first group of rules that is broken. In all these cases
@@ -282,15 +286,16 @@ uint8_t hk_two_port_event(const uint8_t *full, size_t full_length, const uint8_t
                           uint8_t bytes[2], uint8_t *count, hk_part *part);
 
 /* A second way to answer any event on an image, by its number: for boards with large sets. What the event asks of the
- * selected configuration is collected while the set is checked, so that no configuration is walked through twice; it takes
- * more stack. Number, image, bytes, count and part are proved to be those of the calls above, for every input, so that a
- * board may use both ways in turns. */
-uint8_t hk_table_event(const uint8_t *set, size_t set_length, const uint8_t *serial, size_t serial_length,
+ * selected configuration is collected while the set is checked, so that no configuration is walked through twice.
+ * Number, image, bytes, count and part are proved to be those of the calls above, for every input, so that a board may use
+ * both ways in turns. docs/FIRMWARE.md says when to use which. */
+HK_LARGE uint8_t hk_table_event(const uint8_t *set, size_t set_length, const uint8_t *serial, size_t serial_length,
                        uint8_t *image, size_t image_length, uint8_t event, uint8_t value,
                        const uint8_t *setup, size_t setup_length, uint8_t bytes[2], uint8_t *count, hk_part *part);
 
-/* The same on a board that lends two sets, as hk_two_event. */
-uint8_t hk_two_table_event(const uint8_t *full, size_t full_length, const uint8_t *high, size_t high_length,
+/* The same on a board that lends two sets, as hk_two_event. It collects while full speed is in use; at high speed it looks up
+ * what the event asks, as hk_two_event does. */
+HK_LARGE uint8_t hk_two_table_event(const uint8_t *full, size_t full_length, const uint8_t *high, size_t high_length,
                            const uint8_t *serial, size_t serial_length, uint8_t *image, size_t image_length,
                            uint8_t event, uint8_t value, const uint8_t *setup, size_t setup_length,
                            uint8_t bytes[2], uint8_t *count, hk_part *part);
