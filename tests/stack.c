@@ -16,14 +16,12 @@
 /* Of a board that lends one set, and of one that lends two: on x86-64 what is reached, and a little room; on a board's processor what every call of a board must keep. */
 #ifdef __x86_64__
 #define MOST 816
-#define MOST_OF_TWO 960
-#define MOST_OF_TWO_TABLE 1104
+#define MOST_OF_TWO 936
 #else
 #define MOST 1024
 #define MOST_OF_TWO 1024
-#define MOST_OF_TWO_TABLE 1152
 #endif
-/* Of the second way to answer, with one set lent. */
+/* Of the second way to answer, with one set lent and with two. */
 #define MOST_OF_TABLE 1024
 /* hk_trim keeps the first bytes of the set aside, as many as 64 entries have: it may take these besides. */
 #define ASIDE 516
@@ -303,8 +301,8 @@ static int is_of_two(int function) {
 static size_t most_of(int function) {
     switch (function) {
     case TRIM: return MOST + ASIDE;
-    case TABLE_EVENT: return MOST_OF_TABLE;
-    case TWO_TABLE_EVENT: return MOST_OF_TWO_TABLE;
+    case TABLE_EVENT:
+    case TWO_TABLE_EVENT: return MOST_OF_TABLE;
     default: return is_of_two(function) ? MOST_OF_TWO : MOST;
     }
 }
@@ -331,7 +329,7 @@ int main(int argument_count, char **arguments) {
         printf("  %5zu bytes of stack  %s%s\n", taken, names[at], taken > most ? "  TOO DEEP" : "");
         too_deep |= taken > most;
     }
-    printf("stack: %s %d bytes at the most (with two sets lent %d, the second way %d and %d, hk_trim %d more) on a pair and %d sets\n",
-           too_deep ? "OVER" : "within", MOST, MOST_OF_TWO, MOST_OF_TABLE, MOST_OF_TWO_TABLE, ASIDE, argument_count / 2 - 2);
+    printf("stack: %s %d bytes at the most (with two sets lent %d, by the second way %d, hk_trim %d more) on a pair and %d sets\n",
+           too_deep ? "OVER" : "within", MOST, MOST_OF_TWO, MOST_OF_TABLE, ASIDE, argument_count / 2 - 2);
     return too_deep;
 }
