@@ -7,7 +7,6 @@ use mathlib.Core.List.{List}
 use mathlib.Core.Bool.{Bool, true, false, _&&_, not, and-true, and-false}
 use mathlib.Core.Option.{some, none}
 use lib.ListN.{length, drop}
-use lib.Seq.{getD-take, getD-drop}
 use lib.Dec.{eqb, leb, ltb}
 use borrow.Author.Tests.{ne-eqb, le-leb, lt-leb, lt-ltb, eqb-true, eqb-false, leb-true, leb-false, ltb-true, ltb-false}
 use Rattle.octets.specs.Bit.{bit}
@@ -27,19 +26,21 @@ use Rattle.descriptors.specs.Descriptor.{bDescriptorType, isInterface, isEndpoi
 use Rattle.descriptors.specs.Interfaces.{begunBy}
 use Rattle.descriptors.specs.Cut.{Cutting, whole, broken, descriptor, cut}
 use Rattle.descriptors.specs.Configuration.{bitOf}
-use Rattle.descriptors.specs.Walk.{settingAt, before, standOf, stepsOn, stepOf, orElse, walked, collected}
+use Rattle.descriptors.specs.Walk.{settingAt, before, standOf, stepsOn, stepOf, Alike, orElse, walked, collected}
 use Rattle.descriptors.specs.Check.{placed, inOrder, unshared, allowed, accompanied, atEndpoint, ended, beginning, starting, passing, checking, referenceOf, referring}
 use Rattle.descriptors.specs.Check.{onward as checkedOn, Course as Checked}
 use Rattle.descriptors.specs.Survey.{nothingSeen, surveying}
 use Rattle.descriptors.specs.Survey.{onward as seenOn}
 use Rattle.descriptors.proofs.Walk.{Walking, spanned, walk-stop, walk-on, walk-end}
+use Rattle.descriptors.proofs.Alike.{alike-through, type-here}
 use Rattle.descriptors.proofs.CheckOrder.{kinds}
 use Rattle.descriptors.proofs.CheckWhole.{unasked, pass-on, pass-none, passed-without, check-stuck}
 use Rattle.descriptors.proofs.CheckReferences.{asked-all, asked-on}
 use Rattle.collecting.specs.declared.walk.Course.{Course}
 use Rattle.collecting.specs.declared.walk.Turned.{Turned}
 use Rattle.collecting.specs.declared.walk.Walked.{Walked}
-use Rattle.collecting.specs.Course.{wantedOf, nextOf, settles, begins, listable, settingOut, listedBy, StartedBy, Turns, Rests}
+use Rattle.collecting.specs.Course.{limitsAt, wantedOf, nextOf, settles, begins, listable, settingOut, listedBy, StartedBy, Turns, Rests}
+use Rattle.collecting.proofs.Rules.{no-companions, others-allowed}
 use Rattle.collecting.proofs.Models.{Models, models-begin, models-settles, models-endpoint, models-interface, models-ended, begins-allowed, lists-allowed, lists-inside}
 use Rattle.collecting.proofs.Finding.{Found, found-begin, found-other, found-interface, found-endpoint}
 
@@ -304,10 +305,7 @@ module _ {limits : Limits} {n : ℕ} {names alternates : List ℕ} {asked : Aske
               another i k = simp (i, k, and-true)
 
 -- ---- a descriptor that is stepped over, by its type alone; where it ends past the body, the body is not good
-pub type-here : (body : List ℕ) (at end : ℕ) → end ≡ at + byte body at → 2 ≤ byte body at → byte (spanned body at end) 1 ≡ byte body (at + 1)
-type-here body at end e two = getD-take (end - at) (drop at body) 1 0 (omega arith) ∙ getD-drop at body 1 0
-
-pub reached-skip : {limits : Limits} {n : ℕ} {names alternates : List ℕ} {asked : Asked} {body : List ℕ} {from : ℕ} {c : Course} {at : ℕ}
+reached-skip : {limits : Limits} {n : ℕ} {names alternates : List ℕ} {asked : Asked} {body : List ℕ} {from : ℕ} {c : Course} {at : ℕ}
     → limits .companions ≡ false → Reached limits n names alternates asked body from c at
     → (end : ℕ) → end ≡ at + byte body at → at + 1 < length body → 2 ≤ byte body at → byte body at ≤ 255
     → bit (limits .refused) (byte body (at + 1)) ≡ false → 6 ≤ byte body (at + 1) → Reached limits n names alternates asked body from c end
@@ -338,6 +336,18 @@ reached-skip {limits} {n} {names} {alternates} {asked} {body} {from} {c} {at} al
 
     unrefused : named (limits .refused) (bDescriptorType (spanned body at end)) ≡ false
     unrefused = rw t free
+
+-- and behind it those that begin as it does, of a body at a speed
+pub reached-run : (high : Bool) {n : ℕ} {names alternates : List ℕ} {asked : Asked} {body : List ℕ} {from : ℕ} {c : Course} {at : ℕ}
+    → Reached (limitsAt high) n names alternates asked body from c at → at + 1 < length body → 2 ≤ byte body at → byte body at ≤ 255 → 8 ≤ byte body (at + 1)
+    → {r : ℕ} → Alike body at (at + byte body at) r → Reached (limitsAt high) n names alternates asked body from c r
+reached-run high {n} {names} {alternates} {asked} {body} {from} {c} {at} reached l two small plain run =
+    alike-through (λ r. Reached (limitsAt high) n names alternates asked body from c r)
+    (λ r one p.
+    reached-skip (no-companions high) p _ (omega (arith, one .size)) (omega (arith, one .ends)) (rw (one .size) two) (rw (one .size) small)
+    (others-allowed high _ (rw (one .kind) plain)) (rw (one .kind) (omega arith)))
+    run
+    (reached-skip (no-companions high) reached _ refl l two small (others-allowed high _ plain) (omega arith))
 
 -- ---- the end
 pub rests-refused : {limits : Limits} {names alternates : List ℕ} {asked : Asked} {body : List ℕ} {n from : ℕ} {v : Walked} → v .good ≡ false → verdictOf limits n body from ≡ false

@@ -1,5 +1,5 @@
 -- Each test of the walk, by its shortest way, says what the rules say; and bits of words that are made of others. No axiom.
-use Prim.Native.Nat.{ℕ, zero, suc, _+_, _-_, _/_, _%_, _^_, _<_}
+use Prim.Native.Nat.{ℕ, zero, suc, _+_, _-_, _/_, _%_, _^_, _≤_, _<_}
 use native.Mathlib.Omega.{arith}
 use native.Mathlib.Nat.{lt-of-not-le, le-refl, pow-suc}
 use lib.Pow.{pow-pos}
@@ -21,7 +21,27 @@ use Rattle.descriptors.specs.Limits.{named, within, doubled}
 use Rattle.descriptors.specs.Descriptor.{bEndpointAddress, bmAttributes, wMaxPacketSize, bInterval, transferType, goodAddress, goodAttributes, goodSize, goodInterval, sized}
 use Rattle.descriptors.specs.Configuration.{bitOf}
 use Rattle.collecting.specs.declared.walk.Order.{Order}
-use Rattle.collecting.specs.Course.{goodKind, listable}
+use Rattle.collecting.specs.Course.{limitsAt, goodKind, listable}
+
+-- ---- a speed's limits: no companions, the same types refused, and none from 8 on
+pub no-companions : (high : Bool) → limitsAt high .companions ≡ false
+no-companions true = refl
+no-companions false = refl
+
+pub refused-at : (high : Bool) → limitsAt high .refused ≡ 206
+refused-at true = refl
+refused-at false = refl
+
+pub interfaces-allowed : (high : Bool) → named (limitsAt high .refused) 4 ≡ false
+interfaces-allowed true = refl
+interfaces-allowed false = refl
+
+pub endpoints-allowed : (high : Bool) → named (limitsAt high .refused) 5 ≡ false
+endpoints-allowed true = refl
+endpoints-allowed false = refl
+
+pub others-allowed : (high : Bool) (t : ℕ) → 8 ≤ t → bit (limitsAt high .refused) t ≡ false
+others-allowed high t l = rw (refused-at high) (bit-past 8 206 t (omega arith) l)
 
 -- ---- an endpoint descriptor
 or-true : (b : Bool) → (b || true) ≡ true

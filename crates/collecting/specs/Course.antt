@@ -14,7 +14,7 @@ use Rattle.descriptors.specs.declared.lookup.EndpointFound.{EndpointFound}
 use Rattle.descriptors.specs.declared.lookup.EndpointFound.the-variants.{At, Nothing}
 use Rattle.descriptors.specs.declared.survey.Asked.{Asked}
 use Rattle.descriptors.specs.declared.survey.Survey.{Survey}
-use Rattle.descriptors.specs.Limits.{named}
+use Rattle.descriptors.specs.Limits.{named, fullSpeed, highSpeed}
 use Rattle.descriptors.specs.Descriptor.{bDescriptorType, isInterface, isEndpoint, bInterfaceNumber, bAlternateSetting, bNumEndpoints, iInterface, bEndpointAddress, bmAttributes, transferType, goodAttributes, goodSize, goodInterval, goodEndpoint}
 use Rattle.descriptors.specs.Configuration.{bitOf}
 use Rattle.descriptors.specs.Cut.{cut}
@@ -30,6 +30,10 @@ use Rattle.collecting.specs.declared.walk.Placing.{Placing}
 use Rattle.collecting.specs.declared.walk.Begun.{Begun}
 use Rattle.collecting.specs.declared.walk.Turned.{Turned}
 use Rattle.collecting.specs.declared.walk.Walked.{Walked}
+
+-- ---- the limits of a speed
+abbrev pub limitsAt : Bool → Limits
+limitsAt high = pick high highSpeed fullSpeed
 
 -- ---- what is asked: both numbers of a setting in one, which is a descriptor's two bytes if these are the numbers, and else none's
 abbrev pub wantedOf : Asked → Wanted
@@ -174,16 +178,13 @@ pub record Turns (limits : Limits) (names alternates : List ℕ) (wanted : Wante
   pub passes : isInterface d ≡ false → isEndpoint d ≡ false → r .course ≡ c
 
 -- ---- the whole walk
--- what is asked of its call: the body is short enough that no place overflows; types from `plain` on are not refused; number 0 is a name
-pub record Ready (limits : Limits) (names body : List ℕ) (n from plain : ℕ) : Type 0 where
-  pub alone : limits .companions ≡ false
+-- what is asked of its call: the body is short enough that no place overflows; number 0 is a name
+pub record Ready (names body : List ℕ) (n from : ℕ) : Type 0 where
   pub short : length body ≤ 65535
   pub some-bytes : 1 ≤ length body
   pub inside : from ≤ length body
   pub one : 1 ≤ n
   pub few : n ≤ 16
-  pub allows : (t : ℕ) → plain ≤ t → bit (limits .refused) t ≡ false
-  pub plainly : 6 ≤ plain
   pub zero : has names 0 ≡ true
 
 -- what is found says what a survey says, but for the interfaces that exist

@@ -2,7 +2,6 @@
 pub mod walk;
 
 use descriptors::Endpoint;
-use descriptors::Limits;
 use descriptors::check::Verdict;
 use descriptors::check::good_head;
 use descriptors::lookup::EndpointFound;
@@ -16,10 +15,9 @@ ghost use Prim.Native.Nat.{ℕ, _≤_};
 ghost use lib.Dec.{ltb};
 ghost use Rattle.octets.specs.Bit.{bit};
 ghost use Rattle.octets.specs.Table.{has};
-ghost use Rattle.descriptors.specs.Limits.{fullSpeed};
 ghost use Rattle.descriptors.specs.Check.{verdict};
 ghost use Rattle.collecting.specs.Collected.{Collects};
-ghost use Rattle.collecting.specs.Course.{endpointIn, SurveyOf};
+ghost use Rattle.collecting.specs.Course.{limitsAt, endpointIn, SurveyOf};
 
 // What is found of a body: whether it is good, and whether it is and every string reference in it is in a table; if it is good, what is asked
 // of it.
@@ -88,16 +86,17 @@ fn survey_of(finds: Finds, interfaces: u8, address: u16) -> Survey
     }
 }
 
-// The walk, by limits without companions, where number 0 is among the names, so that it is not looked up for each interface.
-fn walk_once(
+// The walk at a speed, where number 0 is among the names, so that it is not looked up for each interface. `names` are the numbers that a string
+// reference may be, `alternates` the alternate setting of each interface.
+pub fn collect(
     body: &[u8],
-    limits: Limits,
+    high: bool,
     names: &[u32; 8],
     alternates: &[u8; 16],
     asked: Asked,
 ) -> Collected
-    requires { ⌜ (limits .companions ≡ false) × (has (now names) 0 ≡ true) ⌝ }
-    ensures { λ r. ⌜ Collects limits (now (names .entry)) (now (alternates .entry)) asked (now (body .entry)) r ⌝ }
+    requires { ⌜ has (now names) 0 ≡ true ⌝ }
+    ensures { λ r. ⌜ Collects (limitsAt high) (now (names .entry)) (now (alternates .entry)) asked (now (body .entry)) r ⌝ }
 {
     let step = descriptors::advance(body, 0, descriptors::outside());
     let end = step.end;
@@ -107,17 +106,7 @@ fn walk_once(
     let head = &body[..end];
     if good_head(head, body.len()) {
         let interfaces = octets::peek(head, 4);
-        let plain = walk::first_plain(limits.refused);
-        let walked = walk::rest(
-            body,
-            end,
-            interfaces,
-            plain,
-            limits,
-            names,
-            alternates,
-            asked,
-        );
+        let walked = walk::rest(body, end, interfaces, high, names, alternates, asked);
         let named = walked.refers & holds(names, octets::peek(body, 6));
         let finds = walked.finds;
         return Collected {
@@ -129,18 +118,4 @@ fn walk_once(
         };
     }
     refuse()
-}
-
-// At full speed, where number 0 is among the names: the limits are known in the walk, wherever it is called from. `names` are the numbers that a
-// string reference may be, `alternates` the alternate setting of each interface.
-pub fn collect_full_speed(
-    body: &[u8],
-    names: &[u32; 8],
-    alternates: &[u8; 16],
-    asked: Asked,
-) -> Collected
-    requires { ⌜ has (now names) 0 ≡ true ⌝ }
-    ensures { λ r. ⌜ Collects fullSpeed (now (names .entry)) (now (alternates .entry)) asked (now (body .entry)) r ⌝ }
-{
-    walk_once(body, descriptors::full_speed(), names, alternates, asked)
 }

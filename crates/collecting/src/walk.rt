@@ -11,15 +11,14 @@ use descriptors::lookup::with_bit;
 use descriptors::survey::Asked;
 use octets::table::holds;
 ghost use mathlib.Core.Path.{_≡_};
-ghost use mathlib.Core.Bool.{true, false};
-ghost use Prim.Native.Nat.{ℕ, _<_, _≤_, _+_};
+ghost use mathlib.Core.Bool.{Bool, true};
+ghost use Prim.Native.Nat.{_<_, _≤_};
 ghost use lib.Dec.{eqb};
 ghost use Rattle.octets.specs.Bit.{setBit};
 ghost use Rattle.octets.specs.Sentences.{pick};
 ghost use Rattle.octets.specs.Table.{has};
-ghost use Rattle.descriptors.specs.Limits.{named};
 ghost use Rattle.descriptors.specs.Descriptor.{bInterfaceNumber};
-ghost use Rattle.collecting.specs.Course.{wantedOf, nextOf, Low, Places, Begins, goodKind, listable, listedIn, roleOf, withSetting, firstFound, atOther, atCurrent, withEndpoint, settingOut, Starts, Lists, Turns, Ready, Rests};
+ghost use Rattle.collecting.specs.Course.{limitsAt, wantedOf, nextOf, Low, Places, Begins, goodKind, listable, listedIn, roleOf, withSetting, firstFound, atOther, atCurrent, withEndpoint, settingOut, Starts, Lists, Turns, Ready, Rests};
 
 // What is asked, as the walk compares it: an address, an interface, and a setting by one number.
 pub struct Wanted {
@@ -79,16 +78,6 @@ pub struct Walked {
     pub good: bool,
     pub refers: bool,
     pub finds: Finds,
-}
-
-// From this type on, no type is refused.
-pub fn first_plain(refused: u16) -> u8
-    ensures { λ r. ⌜ (6 ≤ r) × ((t : ℕ) → r ≤ t → named refused t ≡ false) ⌝ }
-{
-    if refused < 256 {
-        return 8;
-    }
-    16
 }
 
 pub fn wanted_of(asked: Asked) -> Wanted
@@ -156,14 +145,11 @@ fn place(order: Order, setting: u32) -> Placing
     }
 }
 
-// An interface descriptor, as to the check.
-fn begin(d: &[u8], order: Order, limits: Limits) -> Begun
-    ensures { λ r. ⌜ Begins limits order (now (d .entry)) r ⌝ }
+// An interface descriptor, as to the check; every speed allows its type.
+fn begin(d: &[u8], order: Order) -> Begun
+    ensures { λ r. ⌜ ((high : Bool) → Begins (limitsAt high) order (now (d .entry)) r) ⌝ }
 {
     if d.len() < 9 {
-        return Begun { good: false, order };
-    }
-    if is_named(limits.refused, 4) {
         return Begun { good: false, order };
     }
     if order.coming != 0 {
@@ -182,8 +168,8 @@ fn begin(d: &[u8], order: Order, limits: Limits) -> Begun
     }
 }
 
-// An endpoint's attributes, size and interval.
-fn good_kind(limits: Limits, attributes: u8, size: u16, interval: u8) -> bool
+// An endpoint's attributes, size and interval, by a speed's limits.
+fn good_kind_by(limits: Limits, attributes: u8, size: u16, interval: u8) -> bool
     ensures { λ r. ⌜ r ≡ goodKind limits attributes size interval ⌝ }
 {
     if attributes == 3 {
@@ -201,14 +187,21 @@ fn good_kind(limits: Limits, attributes: u8, size: u16, interval: u8) -> bool
     false
 }
 
-// An endpoint descriptor may come.
-fn may_list(d: &[u8], order: Order, limits: Limits) -> bool
-    ensures { λ r. ⌜ r ≡ listable limits order (now (d .entry)) ⌝ }
+// The same at a speed. The limits of both are known here: a compiler then compares with constants.
+fn good_kind(high: bool, attributes: u8, size: u16, interval: u8) -> bool
+    ensures { λ r. ⌜ r ≡ goodKind (limitsAt high) attributes size interval ⌝ }
+{
+    if high {
+        return good_kind_by(descriptors::high_speed(), attributes, size, interval);
+    }
+    good_kind_by(descriptors::full_speed(), attributes, size, interval)
+}
+
+// An endpoint descriptor may come; every speed allows its type.
+fn may_list(d: &[u8], order: Order, high: bool) -> bool
+    ensures { λ r. ⌜ r ≡ listable (limitsAt high) order (now (d .entry)) ⌝ }
 {
     if d.len() < 7 {
-        return false;
-    }
-    if is_named(limits.refused, 5) {
         return false;
     }
     if order.coming == 0 {
@@ -217,7 +210,7 @@ fn may_list(d: &[u8], order: Order, limits: Limits) -> bool
     let address = octets::peek(d, 2);
     if good_address(address) {
         if good_kind(
-            limits,
+            high,
             octets::peek(d, 3),
             octets::word(d, 4),
             octets::peek(d, 6),
@@ -370,13 +363,13 @@ fn with_endpoint(finds: Finds, d: &[u8], again: u32, role: u32, wanted: Wanted) 
 }
 
 // An endpoint descriptor.
-fn list(d: &[u8], course: Course, limits: Limits, wanted: Wanted) -> Turned
+fn list(d: &[u8], course: Course, high: bool, wanted: Wanted) -> Turned
     requires { ⌜ Low (course .order .again) ⌝ }
-    ensures { λ r. ⌜ Lists limits wanted course (now (d .entry)) r ⌝ }
+    ensures { λ r. ⌜ Lists (limitsAt high) wanted course (now (d .entry)) r ⌝ }
 {
     let order = course.order;
     let finds = course.finds;
-    if may_list(d, order, limits) {
+    if may_list(d, order, high) {
         return Turned {
             good: true,
             course: Course {
@@ -397,17 +390,16 @@ fn list(d: &[u8], course: Course, limits: Limits, wanted: Wanted) -> Turned
 fn start(
     d: &[u8],
     course: Course,
-    limits: Limits,
     names: &[u32; 8],
     alternates: &[u8; 16],
     wanted: Wanted,
 ) -> Turned
     requires { ⌜ Low (course .order .again) × (has (now names) 0 ≡ true) ⌝ }
-    ensures { λ r. ⌜ Starts limits (now (names .entry)) (now (alternates .entry)) wanted course (now (d .entry)) r ⌝ }
+    ensures { λ r. ⌜ ((high : Bool) → Starts (limitsAt high) (now (names .entry)) (now (alternates .entry)) wanted course (now (d .entry)) r) ⌝ }
 {
     let order = course.order;
     let finds = course.finds;
-    let begun = begin(d, order, limits);
+    let begun = begin(d, order);
     if begun.good {
         let next = begun.order;
         let role = role_of(d, alternates, wanted);
@@ -427,26 +419,27 @@ fn start(
     }
 }
 
+// A descriptor of any type. Both speeds refuse the same types.
 fn turn(
     d: &[u8],
     course: Course,
-    limits: Limits,
+    high: bool,
     names: &[u32; 8],
     alternates: &[u8; 16],
     wanted: Wanted,
 ) -> Turned
     requires { ⌜ Low (course .order .again) × (has (now names) 0 ≡ true) ⌝ }
-    ensures { λ r. ⌜ Turns limits (now (names .entry)) (now (alternates .entry)) wanted course (now (d .entry)) r ⌝ }
+    ensures { λ r. ⌜ Turns (limitsAt high) (now (names .entry)) (now (alternates .entry)) wanted course (now (d .entry)) r ⌝ }
 {
     let t = octets::peek(d, 1);
     if t == 5 {
-        return list(d, course, limits, wanted);
+        return list(d, course, high, wanted);
     }
     if t == 4 {
-        return start(d, course, limits, names, alternates, wanted);
+        return start(d, course, names, alternates, wanted);
     }
     Turned {
-        good: !is_named(limits.refused, t),
+        good: !is_named(0xCE, t),
         course,
     }
 }
@@ -463,20 +456,19 @@ fn told(course: Course, ends: bool) -> Walked
     }
 }
 
-// The descriptors from `from` on, for so many interfaces; no type from `plain` on is refused. A refusal is told by the place alone, which then is
+// The descriptors from `from` on, for so many interfaces; no speed refuses a type from 8 on. A refusal is told by the place alone, which then is
 // no body's end, so that the loop keeps no flag.
 pub fn rest(
     body: &[u8],
     from: usize,
     interfaces: u8,
-    plain: u8,
-    limits: Limits,
+    high: bool,
     names: &[u32; 8],
     alternates: &[u8; 16],
     asked: Asked,
 ) -> Walked
-    requires { ⌜ Ready limits (now names) (now body) interfaces from plain ⌝ }
-    ensures { λ r. ⌜ Rests limits (now (names .entry)) (now (alternates .entry)) asked (now (body .entry)) interfaces from r ⌝ }
+    requires { ⌜ Ready (now names) (now body) interfaces from ⌝ }
+    ensures { λ r. ⌜ Rests (limitsAt high) (now (names .entry)) (now (alternates .entry)) asked (now (body .entry)) interfaces from r ⌝ }
 {
     let wanted = wanted_of(asked);
     let mut course = set_out();
@@ -490,15 +482,15 @@ pub fn rest(
             break;
         }
         let end = at + size;
-        if plain <= t {
-            at = end;
+        if 8 <= t {
+            at = descriptors::behind(body, at, end);
             continue;
         }
         if body.len() < end {
             at = last;
             break;
         }
-        let turned = turn(&body[at..end], course, limits, names, alternates, wanted);
+        let turned = turn(&body[at..end], course, high, names, alternates, wanted);
         if !turned.good {
             at = last;
             break;

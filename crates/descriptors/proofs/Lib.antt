@@ -9,6 +9,7 @@ pub mod CheckReferences
 pub mod EndpointBits
 pub mod Alternates
 pub mod Surveying
+pub mod Alike
 pub mod CurrentEndpoints
 pub mod FullSpeed
 pub mod HighSpeed

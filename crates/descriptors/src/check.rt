@@ -320,14 +320,15 @@ fn good_rest(body: &[u8], from: usize, interfaces: u8, limits: Limits, names: &[
             progress = move_on(&body[at..end], progress, last, step.stand);
             refers = still_refers(&body[at..end], refers, names);
             last = step.stand;
-            let start = at;
-            at = end;
             // Last, so that a kind without companions pays one test a descriptor.
             if limits.companions {
-                if !is_accompanied(&body[start..end], due) {
+                if !is_accompanied(&body[at..end], due) {
                     return refuse();
                 }
-                due = octets::peek(&body[start..end], 1) == 5;
+                due = octets::peek(&body[at..end], 1) == 5;
+                at = end;
+            } else {
+                at = crate::behind(body, at, end);
             }
         } else {
             return refuse();

@@ -7,7 +7,10 @@ pub mod survey;
 ghost use mathlib.Core.Path.{_≡_};
 ghost use mathlib.Core.Bool.{true};
 ghost use Rattle.descriptors.specs.Limits.{fullSpeed, pairedFull, highSpeed, superSpeed};
-ghost use Rattle.descriptors.specs.Walk.{before, standOf, stepsOn, stepOf};
+ghost use Prim.Native.Nat.{_<_, _≤_, _+_};
+ghost use lib.ListN.{length};
+ghost use Rattle.octets.specs.Octets.{word};
+ghost use Rattle.descriptors.specs.Walk.{before, standOf, stepsOn, stepOf, Unseen, Alike};
 
 // A range of numbers, both ends in it.
 pub struct Range {
@@ -232,4 +235,51 @@ pub fn advance(body: &[u8], at: usize, last: Stand) -> Step
         };
     }
     step_over(body, at, last)
+}
+
+// The first two bytes of a descriptor, its length and its type, as one number.
+fn first_two(body: &[u8], at: usize) -> u16
+    requires { ⌜ at + 1 < length (now body) ⌝ }
+    ensures { λ r. ⌜ r ≡ word (now (body .entry)) at ⌝ }
+{
+    body[at] as u16 + 256 * (body[at + 1] as u16)
+}
+
+// Past the descriptors behind the one from `at` to `end` that begin with the same two bytes. Where the next one is looked for does not wait for a byte to be read.
+fn pass_alike(body: &[u8], at: usize, end: usize) -> usize
+    requires { ⌜ Unseen (now body) at end ⌝ }
+    ensures { λ r. ⌜ Alike (now (body .entry)) at end r ⌝ }
+{
+    let size = end - at;
+    if body.len() < size {
+        return end;
+    }
+    let first = first_two(body, at);
+    let most = body.len() - size;
+    let mut place = end;
+    while place <= most {
+        if first_two(body, place) != first {
+            return place;
+        }
+        place += size;
+    }
+    place
+}
+
+// Where a walk goes on behind the descriptor from `at` to `end`: class descriptors often stand in runs, which are passed at once. No walk looks at a type from 8 on. Most stand alone, and
+// are told by a test ahead of the loop.
+pub fn behind(body: &[u8], at: usize, end: usize) -> usize
+    requires { ⌜ (at + 1 < length (now body)) × (at + 2 ≤ end) ⌝ }
+    ensures { λ r. ⌜ Alike (now (body .entry)) at end r ⌝ }
+{
+    if body[at + 1] < 8 {
+        return end;
+    }
+    let last = body.len() - 1;
+    if end < last {
+        if first_two(body, end) == first_two(body, at) {
+            return pass_alike(body, at, end);
+        }
+    }
+    end
 }

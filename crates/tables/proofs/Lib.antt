@@ -1,2 +1,3 @@
 pub mod Learning
+pub mod AtSpeed
 pub mod InUse

@@ -7,11 +7,9 @@ use lib.Dec.{eqb, leb}
 use Rattle.octets.specs.Sentences.{every}
 use Rattle.descriptors.specs.declared.Limits.{Limits}
 use Rattle.descriptors.specs.declared.survey.Asked.{Asked}
-use Rattle.descriptors.specs.Limits.{fullSpeed}
 use Rattle.descriptors.specs.Check.{verdict, configurationRefers}
-use Rattle.descriptors.specs.Configuration.{configurationOf, goodConfiguration}
-use Rattle.descriptors.specs.Survey.{Surveys}
-use Rattle.collecting.specs.declared.Collected.{Collected}
+use Rattle.descriptors.specs.Configuration.{goodConfiguration}
+use Rattle.collecting.specs.Course.{limitsAt}
 use Rattle.sets.specs.declared.Entry.{Entry}
 use Rattle.sets.specs.Contents.{bodies}
 use Rattle.sets.specs.Pieces.{piecesIn}
@@ -24,21 +22,16 @@ use Rattle.tables.specs.declared.pass.Passed.{Passed}
 abbrev pub numbered : Entry → ℕ → ℕ → Bool → Bool
 numbered e n value seen = eqb (e .index) n && eqb (e .language) 0 && leb 1 value && not seen
 
--- limits that ask of a configuration what full speed asks
-abbrev pub AtFullSpeed : Limits → Type 0
-AtFullSpeed limits = (body : List ℕ) → goodConfiguration limits body ≡ goodConfiguration fullSpeed body
+-- limits that ask of a configuration what those of a speed ask
+abbrev pub AtSpeed : Limits → Bool → Type 0
+AtSpeed limits high = (body : List ℕ) → goodConfiguration limits body ≡ goodConfiguration (limitsAt high) body
 
--- one walk: the verdict of the check, and of a good body what is asked of it, if that is collected
-pub record Walks (limits : Limits) (collects : Bool) (names alternates : List ℕ) (asked : Asked) (body : List ℕ) (r : Collected) : Type 0 where
-  pub verdict : r .verdict ≡ verdict (goodConfiguration limits body) (configurationRefers names body)
-  pub surveyed : collects ≡ true → r .verdict .good ≡ true → Surveys (configurationOf body) alternates asked (r .survey)
+-- the pass over the configurations at a speed: the verdict of the check, and if it is good what is known
+pub record Passes (high : Bool) (set names : List ℕ) (value : ℕ) (alternates : List ℕ) (asked : Asked) (r : Passed) : Type 0 where
+  pub verdict : r .verdict ≡ verdict (goodConfigurations (limitsAt high) (piecesIn set)) (every (configurationRefers names) (bodies 2 set))
+  pub known : r .verdict .good ≡ true → Knows set value alternates asked (r .known)
 
--- the pass over the configurations: the verdict of the check, and if it is good what is known, if that is collected
-pub record Passes (limits : Limits) (collects : Bool) (set names : List ℕ) (value : ℕ) (alternates : List ℕ) (asked : Asked) (r : Passed) : Type 0 where
-  pub verdict : r .verdict ≡ verdict (goodConfigurations limits (piecesIn set)) (every (configurationRefers names) (bodies 2 set))
-  pub known : collects ≡ true → r .verdict .good ≡ true → Knows set value alternates asked (r .known)
-
--- opening: its number, and if that is 0 what is known of the set, if that is collected
-pub record Tells (gives : ℕ) (collects : Bool) (set : List ℕ) (value : ℕ) (alternates : List ℕ) (asked : Asked) (r : Opened) : Type 0 where
+-- opening: its number, and if that is 0 what is known of the set
+pub record Tells (gives : ℕ) (set : List ℕ) (value : ℕ) (alternates : List ℕ) (asked : Asked) (r : Opened) : Type 0 where
   pub number : r .number ≡ gives
-  pub known : collects ≡ true → r .number ≡ 0 → Knows set value alternates asked (r .known)
+  pub known : r .number ≡ 0 → Knows set value alternates asked (r .known)

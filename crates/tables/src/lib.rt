@@ -28,7 +28,7 @@ ghost use Rattle.sets.specs.Pair.{openingTwo};
 ghost use Rattle.sets.specs.View.{openingOf};
 ghost use Rattle.events.specs.Facts.{outcomeOf};
 ghost use Rattle.steps.specs.Gathering.{viewIn, stepIn};
-ghost use Rattle.tables.specs.Tables.{AtFullSpeed, Tells};
+ghost use Rattle.tables.specs.Tables.{AtSpeed, Tells};
 
 // What opening gives, and if that is 0 what it collected.
 pub struct Opened {
@@ -67,18 +67,18 @@ fn finish(set: &[u8], serial: &[u8], configurations: Verdict, strings: bool, nam
     sets::checks::last_groups(set, serial, configurations, strings, names)
 }
 
-// Opening by these limits; where it `collects`, with what is asked of the configuration that has this value, at these alternate settings.
+// Opening by these limits, at full or at high speed, with what is asked of the configuration that has this value, at these alternate settings.
 pub fn open_set(
     set: &[u8],
     serial: &[u8],
     limits: Limits,
-    collects: bool,
+    high: bool,
     value: ConfigurationValue,
     alternates: &[u8; 16],
     asked: Asked,
 ) -> Opened
-    requires { ⌜ (collects ≡ true → AtFullSpeed limits) ⌝ }
-    ensures { λ r. ⌜ Tells (opening limits (lent (now (set .entry)) (now (serial .entry)))) collects (now (set .entry)) (value .0) (now (alternates .entry)) asked r ⌝ }
+    requires { ⌜ AtSpeed limits high ⌝ }
+    ensures { λ r. ⌜ Tells (opening limits (lent (now (set .entry)) (now (serial .entry)))) (now (set .entry)) (value .0) (now (alternates .entry)) asked r ⌝ }
 {
     let first = begin(set, limits);
     if first != 0 {
@@ -86,7 +86,7 @@ pub fn open_set(
     }
     let mut names = [0u32; 8];
     let strings = read_strings(set, &mut names);
-    let passed = pass::configurations(set, limits, collects, &names, value, alternates, asked);
+    let passed = pass::configurations(set, high, &names, value, alternates, asked);
     let verdict = passed.verdict;
     let known = passed.known;
     Opened {
@@ -106,7 +106,7 @@ pub fn react(set: &[u8], serial: &[u8], device: Device, event: Event) -> Reactio
         set,
         serial,
         descriptors::full_speed(),
-        true,
+        false,
         value,
         &alternates,
         asked,
@@ -123,7 +123,7 @@ pub fn react(set: &[u8], serial: &[u8], device: Device, event: Event) -> Reactio
     )
 }
 
-// The full-speed set of two.
+// The full-speed set of two, and the high-speed one.
 fn open_full(
     full: &[u8],
     serial: &[u8],
@@ -131,65 +131,55 @@ fn open_full(
     alternates: &[u8; 16],
     asked: Asked,
 ) -> Opened
-    ensures { λ r. ⌜ Tells (opening pairedFull (lent (now (full .entry)) (now (serial .entry)))) true (now (full .entry)) (value .0) (now (alternates .entry)) asked r ⌝ }
+    ensures { λ r. ⌜ Tells (opening pairedFull (lent (now (full .entry)) (now (serial .entry)))) (now (full .entry)) (value .0) (now (alternates .entry)) asked r ⌝ }
 {
-    open_set(
-        full,
-        serial,
-        descriptors::paired_full(),
-        true,
-        value,
-        alternates,
-        asked,
-    )
+    let limits = descriptors::paired_full();
+    open_set(full, serial, limits, false, value, alternates, asked)
 }
 
-// The high-speed set of two, of which nothing is collected.
 fn open_high(
     high: &[u8],
     serial: &[u8],
     value: ConfigurationValue,
     alternates: &[u8; 16],
     asked: Asked,
-) -> u8
-    ensures { λ r. ⌜ r ≡ opening highSpeed (lent (now (high .entry)) (now (serial .entry))) ⌝ }
+) -> Opened
+    ensures { λ r. ⌜ Tells (opening highSpeed (lent (now (high .entry)) (now (serial .entry)))) (now (high .entry)) (value .0) (now (alternates .entry)) asked r ⌝ }
 {
-    let opened = open_set(
-        high,
-        serial,
-        descriptors::high_speed(),
-        false,
-        value,
-        alternates,
-        asked,
-    );
-    opened.number
+    let limits = descriptors::high_speed();
+    open_set(high, serial, limits, true, value, alternates, asked)
 }
 
-// Opening two sets, once the full-speed one was opened with a number: that, the high-speed set's, or 24.
-fn open_other(
-    first: u8,
+// Opening two sets: the number, and if that is 0 what was collected of the set that this speed chooses.
+fn open_two(
     full: &[u8],
     high: &[u8],
     serial: &[u8],
+    speed: u8,
     value: ConfigurationValue,
     alternates: &[u8; 16],
     asked: Asked,
-) -> u8
-    requires { ⌜ first ≡ opening pairedFull (lent (now full) (now serial)) ⌝ }
-    ensures { λ r. ⌜ r ≡ openingTwo (now (full .entry)) (now (high .entry)) (now (serial .entry)) ⌝ }
+) -> Opened
+    ensures { λ r. ⌜ Tells (openingTwo (now (full .entry)) (now (high .entry)) (now (serial .entry))) (pick (eqb speed 0) (now (full .entry)) (now (high .entry))) (value .0) (now (alternates .entry)) asked r ⌝ }
 {
-    if first != 0 {
-        return first;
+    let slow = open_full(full, serial, value, alternates, asked);
+    if slow.number != 0 {
+        return slow;
     }
-    let second = open_high(high, serial, value, alternates, asked);
-    if second != 0 {
-        return second;
+    let fast = open_high(high, serial, value, alternates, asked);
+    if fast.number != 0 {
+        return fast;
     }
-    pairs::compare(full, high)
+    let number = pairs::compare(full, high);
+    if speed == 0 {
+        let known = slow.known;
+        return Opened { number, known };
+    }
+    let known = fast.known;
+    Opened { number, known }
 }
 
-// The reaction to an event on a board that lends two, of which this speed chooses the one in use. At high speed what is asked is looked up, as the first way does.
+// The reaction to an event on a board that lends two, of which this speed chooses the one in use.
 pub fn react_two<'a>(
     full: &'a [u8],
     high: &'a [u8],
@@ -203,19 +193,16 @@ pub fn react_two<'a>(
     let alternates = device.alternates;
     let value = ConfigurationValue(device.configuration);
     let asked = facts::asked_of(event);
-    let opened = open_full(full, serial, value, &alternates, asked);
-    let number = open_other(opened.number, full, high, serial, value, &alternates, asked);
-    if speed == 0 {
-        let known = opened.known;
-        return steps::react(
-            number,
-            true,
-            full,
-            serial,
-            device,
-            event,
-            Given::Collected(known),
-        );
-    }
-    steps::react(number, true, high, serial, device, event, Given::Nothing)
+    let opened = open_two(full, high, serial, speed, value, &alternates, asked);
+    let set = steps::in_use(full, high, speed);
+    let known = opened.known;
+    steps::react(
+        opened.number,
+        true,
+        set,
+        serial,
+        device,
+        event,
+        Given::Collected(known),
+    )
 }

@@ -1,7 +1,5 @@
 // Group 4, with what is asked of the selected configuration: one pass over the entries, and one walk through each body.
-use collecting::Collected;
 use descriptors::ConfigurationValue;
-use descriptors::Limits;
 use descriptors::check::Verdict;
 use descriptors::survey::Asked;
 use octets::table::holds;
@@ -16,7 +14,7 @@ ghost use mathlib.Core.Bool.{true, false, _&&_, not};
 ghost use lib.Dec.{eqb, leb};
 ghost use Rattle.octets.specs.Table.{has};
 ghost use Rattle.sets.specs.Found.{canWake};
-ghost use Rattle.tables.specs.Tables.{numbered, AtFullSpeed, Walks, Passes};
+ghost use Rattle.tables.specs.Tables.{numbered, Passes};
 
 // Whether the configurations are good and refer to strings that are there, and what is known of them if they are good.
 pub struct Passed {
@@ -38,27 +36,6 @@ fn can_wake(body: &[u8]) -> bool
     octets::peek(body, 7) / 32 % 2 == 1
 }
 
-// One walk through a body. Only that of full speed collects.
-fn walk(
-    body: &[u8],
-    limits: Limits,
-    collects: bool,
-    names: &[u32; 8],
-    alternates: &[u8; 16],
-    asked: Asked,
-) -> Collected
-    requires { ⌜ (has (now names) 0 ≡ true) × (collects ≡ true → AtFullSpeed limits) ⌝ }
-    ensures { λ r. ⌜ Walks limits collects (now (names .entry)) (now (alternates .entry)) asked (now (body .entry)) r ⌝ }
-{
-    if collects {
-        return collecting::collect_full_speed(body, names, alternates, asked);
-    }
-    let verdict = descriptors::check::good_configuration(body, limits, names);
-    let nothing = nothing_known();
-    let survey = nothing.survey;
-    Collected { verdict, survey }
-}
-
 fn refuse() -> Passed
     ensures { λ r. ⌜ r .verdict ≡ record { good = false; refers = false } ⌝ }
 {
@@ -68,18 +45,17 @@ fn refuse() -> Passed
     }
 }
 
-// The pass, with the index that is next and the values that were there; `value` selects, and the first that is selected counts.
+// The pass at a speed, with the index that is next and the values that were there; `value` selects, and the first that is selected counts.
 pub fn configurations(
     set: &[u8],
-    limits: Limits,
-    collects: bool,
+    high: bool,
     names: &[u32; 8],
     value: ConfigurationValue,
     alternates: &[u8; 16],
     asked: Asked,
 ) -> Passed
-    requires { ⌜ (has (now names) 0 ≡ true) × (collects ≡ true → AtFullSpeed limits) ⌝ }
-    ensures { λ r. ⌜ Passes limits collects (now (set .entry)) (now (names .entry)) (value .0) (now (alternates .entry)) asked r ⌝ }
+    requires { ⌜ has (now names) 0 ≡ true ⌝ }
+    ensures { λ r. ⌜ Passes high (now (set .entry)) (now (names .entry)) (value .0) (now (alternates .entry)) asked r ⌝ }
 {
     let count = octets::peek(set, 2);
     let mut index: u8 = 0;
@@ -97,7 +73,7 @@ pub fn configurations(
             let body = body_of(set, e);
             let here = octets::peek(body, 5);
             let again = holds(&seen, here);
-            let collected = walk(body, limits, collects, names, alternates, asked);
+            let collected = collecting::collect(body, high, names, alternates, asked);
             let verdict = collected.verdict;
             if !(is_numbered(e, index, here, again) & verdict.good) {
                 return refuse();

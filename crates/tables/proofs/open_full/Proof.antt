@@ -1,6 +1,6 @@
 -- `tables::open_full` meets its contract. No axiom.
 use borrow.Author.Needs.{needs}
-use Rattle.tables.proofs.InUse.{paired-alike}
+use Rattle.tables.proofs.AtSpeed.{paired-at}
 use Rattle.tables.proofs.open_full.Statement.{statement}
 use Rattle.tables.proofs.open_full.Tie as tie
 
@@ -8,7 +8,7 @@ paired-full-requires : tie.Need-paired-full-requires
 paired-full-requires c κs = search needs
 
 open-set-requires : tie.Need-open-set-requires
-open-set-requires c κs = λ _. rw (c .paired-full .ensures) paired-alike
+open-set-requires c κs = rw (c .paired-full .ensures) paired-at
 
 returns : tie.Need-returns
 returns c = rw (c .before .paired-full .ensures) at (c .open-set .ensures)

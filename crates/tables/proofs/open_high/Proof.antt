@@ -1,5 +1,5 @@
 -- `tables::open_high` meets its contract. No axiom.
-use mathlib.Core.Bool.{false≢true}
+use mathlib.Core.Path.{refl}
 use borrow.Author.Needs.{needs}
 use Rattle.tables.proofs.open_high.Statement.{statement}
 use Rattle.tables.proofs.open_high.Tie as tie
@@ -8,10 +8,10 @@ high-speed-requires : tie.Need-high-speed-requires
 high-speed-requires c κs = search needs
 
 open-set-requires : tie.Need-open-set-requires
-open-set-requires c κs = λ collects. absurd (false≢true collects)
+open-set-requires c κs = rw (c .high-speed .ensures) (λ body. refl)
 
 returns : tie.Need-returns
-returns c = rw (c .before .high-speed .ensures) at (c .open-set .ensures .number)
+returns c = rw (c .before .high-speed .ensures) at (c .open-set .ensures)
 
 pub open-high-spec : {M : Type 1} → statement M
 open-high-spec = tie.close (tie.spec high-speed-requires open-set-requires returns)

@@ -3,8 +3,10 @@ use mathlib.Core.Path.{sym, ap, _∙_}
 use borrow.Author.Needs.{needs}
 use Rattle.descriptors.proofs.CheckReferences.{told}
 use Rattle.sets.specs.Opening.{lent}
+use Rattle.sets.specs.Pieces.{piecesIn}
 use Rattle.sets.proofs.Groups.{groups}
 use Rattle.sets.proofs.Passing.{ordered}
+use Rattle.tables.proofs.AtSpeed.{configurations-at}
 use Rattle.tables.proofs.open_set.Statement.{statement}
 use Rattle.tables.proofs.open_set.Tie as tie
 
@@ -17,14 +19,14 @@ refuses-requires c κs = search needs
 returns : tie.Need-returns
 returns c = record {
   number = c .refuses .ensures ∙ c .before .before .begin .ensures .1 (c .before .if1 .taken) (c .before .before .before .before .before .args .serial .now);
-  known = λ _ z. absurd (c .before .if1 .taken (sym (c .refuses .ensures) ∙ z));
+  known = λ z. absurd (c .before .if1 .taken (sym (c .refuses .ensures) ∙ z));
 }
 
 read-strings-requires : tie.Need-read-strings-requires
 read-strings-requires c κs = let b = c .before .before .begin .ensures .0 (c .before .if1 .left) in ordered _ _ (b .frame) (b .contents)
 
 configurations-requires : tie.Need-configurations-requires
-configurations-requires c κs = (c .before .read-strings .ensures .zero, c .before .before .before .before .before .before .before .pre)
+configurations-requires c κs = c .before .read-strings .ensures .zero
 
 finish-requires : tie.Need-finish-requires
 finish-requires c κs =
@@ -36,11 +38,11 @@ returns-2 : tie.Need-returns-2
 returns-2 c =
     let a = c .before .before .before .before .before .before .before .before .before .before .before .before .args in
     let v = c .before .before .before .before .configurations in
-    let good = ap (λ v. v .good) (v .ensures .verdict) in
+    let good = ap (λ v. v .good) (v .ensures .verdict) ∙ sym (configurations-at (a .limits) (a .high) (piecesIn (a .set .now)) (c .before .before .before .before .before .before .before .before .before .before .before .before .pre)) in
     let number = c .finish .ensures (a .limits) (c .before .before .before .before .before .before .before .before .before .begin .ensures .0 (c .before .before .before .before .before .before .before .before .if1 .left)) good in
     record {
       number = number;
-      known = λ collects z. v .ensures .known collects (good ∙ groups (a .limits) (lent (a .set .now) (a .serial .now)) (sym number ∙ z) .configurations);
+      known = λ z. v .ensures .known (good ∙ groups (a .limits) (lent (a .set .now) (a .serial .now)) (sym number ∙ z) .configurations);
     }
 
 pub open-set-spec : {M : Type 1} → statement M

@@ -15,13 +15,13 @@ full-speed-requires : tie.Need-full-speed-requires
 full-speed-requires c κs = search needs
 
 open-set-requires : tie.Need-open-set-requires
-open-set-requires c κs = λ _. rw (c .before .full-speed .ensures) (λ body. refl)
+open-set-requires c κs = rw (c .before .full-speed .ensures) (λ body. refl)
 
 react-requires : tie.Need-react-requires
 react-requires c κs = λ z.
     let o = c .before .open-set in
     let number = rw (c .before .before .before .full-speed .ensures) at (o .ensures .number) in
-    ((fullSpeed, sym number ∙ z), rw (c .before .before .before .before .asked-of .ensures) at (o .ensures .known refl z))
+    ((fullSpeed, sym number ∙ z), rw (c .before .before .before .before .asked-of .ensures) at (o .ensures .known z))
 
 returns : tie.Need-returns
 returns c =

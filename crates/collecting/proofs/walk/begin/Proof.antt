@@ -4,20 +4,15 @@ use mathlib.Core.Bool.{and-false}
 use borrow.Author.Tests.{eq-eqb, ne-eqb, lt-leb, le-leb}
 use Rattle.octets.proofs.Sentences.{never}
 use borrow.Author.Needs.{needs}
+use Rattle.collecting.proofs.Rules.{interfaces-allowed}
 use Rattle.collecting.proofs.walk.begin.Statement.{statement}
 use Rattle.collecting.proofs.walk.begin.Tie as tie
 
 returns : tie.Need-returns
-returns c = record { may = rw (lt-leb 9 _ (c .if1 .taken)); on = λ e. never e refl }
-
-is-named-requires : tie.Need-is-named-requires
-is-named-requires c κs = search needs
+returns c = λ high. record { may = rw (lt-leb 9 _ (c .if1 .taken)); on = λ e. never e refl }
 
 returns-2 : tie.Need-returns-2
-returns-2 c = record { may = simp (sym (c .before .is-named .ensures) ∙ c .if2 .taken, and-false); on = λ e. never e refl }
-
-returns-3 : tie.Need-returns-3
-returns-3 c = record { may = simp (ne-eqb (c .before .before .before .before .before .before .args .order .coming) 0 (c .if3 .taken), and-false); on = λ e. never e refl }
+returns-2 c = λ high. record { may = simp (ne-eqb (c .before .before .before .before .args .order .coming) 0 (c .if2 .taken), and-false); on = λ e. never e refl }
 
 word-requires : tie.Need-word-requires
 word-requires c κs = search needs
@@ -28,23 +23,22 @@ cast-setting c = search needs
 place-requires : tie.Need-place-requires
 place-requires c κs = search needs
 
-add-t10 : tie.Need-add-t10
-add-t10 c = search needs
+add-t8 : tie.Need-add-t8
+add-t8 c = search needs
 
 peek-requires : tie.Need-peek-requires
 peek-requires c κs = search needs
 
-cast-t12 : tie.Need-cast-t12
-cast-t12 c = search needs
+cast-t10 : tie.Need-cast-t10
+cast-t10 c = search needs
 
-returns-4 : tie.Need-returns-4
-returns-4 c =
-    let l = le-leb 9 _ (c .before .before .before .before .before .before .before .if1 .left) in
-    let n = sym (c .before .before .before .before .before .before .is-named .ensures) ∙ c .before .before .before .before .before .if2 .left in
-    let z = eq-eqb (c .before .before .before .before .before .before .before .before .before .args .order .coming) 0 (c .before .before .before .if3 .left) in
+returns-3 : tie.Need-returns-3
+returns-3 c = λ high.
+    let l = le-leb 9 _ (c .before .before .before .before .before .if1 .left) in
+    let z = eq-eqb (c .before .before .before .before .before .before .before .args .order .coming) 0 (c .before .before .before .if2 .left) in
     let p = rw (c .before .before .word .ensures) at (c .before .place .ensures) in
     record {
-      may = rw (l, n, z) (p .may);
+      may = rw (l, interfaces-allowed high, z) (p .may);
       on = λ g. record { again = rw (c .before .before .word .ensures); comes = c .peek .ensures; rest = p .on g };
     }
 
@@ -53,13 +47,11 @@ begin-spec =
     tie.close
     (tie.spec
     returns
-    is-named-requires
     returns-2
-    returns-3
     word-requires
     cast-setting
     place-requires
-    add-t10
+    add-t8
     peek-requires
-    cast-t12
-    returns-4)
+    cast-t10
+    returns-3)

@@ -10,6 +10,7 @@ use Rattle.descriptors.specs.Limits.{named}
 use Rattle.descriptors.specs.Descriptor.{goodEndpoint, bEndpointAddress}
 use Rattle.descriptors.specs.Configuration.{bitOf}
 use borrow.Author.Needs.{needs}
+use Rattle.collecting.specs.Course.{limitsAt}
 use Rattle.collecting.proofs.walk.list.Statement.{statement}
 use Rattle.collecting.proofs.walk.list.Tie as tie
 
@@ -21,7 +22,7 @@ listed-in-requires c κs =
     let a = c .before .before .before .before .before .args in
     let o = a .course .order in
     let d = a .d .now in
-    leb-true 1 (o .coming) (conjunct 2 (not (named (a .limits .refused) 5) ∷ goodEndpoint (a .limits) d ∷ leb 1 (o .coming) ∷ not (bit (o .taken) (bitOf (bEndpointAddress d))) ∷ []) (sym (c .before .may-list .ensures) ∙ c .if1 .taken))
+    leb-true 1 (o .coming) (conjunct 2 (not (named (limitsAt (a .high) .refused) 5) ∷ goodEndpoint (limitsAt (a .high)) d ∷ leb 1 (o .coming) ∷ not (bit (o .taken) (bitOf (bEndpointAddress d))) ∷ []) (sym (c .before .may-list .ensures) ∙ c .if1 .taken))
 
 with-endpoint-requires : tie.Need-with-endpoint-requires
 with-endpoint-requires c κs = c .before .before .before .before .before .before .pre .small

@@ -9,19 +9,20 @@ use borrow.Author.Tests.{not-true, not-false}
 use borrow.Author.Needs.{needs}
 use Rattle.octets.specs.Octets.{byte}
 use Rattle.descriptors.specs.declared.survey.Asked.{Asked}
-use Rattle.collecting.specs.Course.{wantedOf}
-use Rattle.collecting.proofs.Rules.{part-bytes}
+use Rattle.collecting.specs.Course.{limitsAt, wantedOf}
+use Rattle.descriptors.proofs.Alike.{alike-on}
+use Rattle.collecting.proofs.Rules.{no-companions, part-bytes}
 use Rattle.collecting.proofs.Models.{models-low}
-use Rattle.collecting.proofs.Reaching.{Reached, reached-begin, reached-small, reached-long, reached-skip, reached-turn, reached-refused, rests-stopped, rests-end}
+use Rattle.collecting.proofs.Reaching.{Reached, reached-begin, reached-small, reached-long, reached-run, reached-turn, reached-refused, rests-stopped, rests-end}
 use Rattle.collecting.proofs.walk.rest.Statement.{statement}
 use Rattle.collecting.proofs.walk.rest.Tie as tie
 
 abbrev Inv-loop : tie.InvT-loop
-Inv-loop body from interfaces plain limits names alternates wanted course₀ at₀ last course at =
-    (asked : Asked) → wanted ≡ wantedOf asked → Reached limits interfaces names alternates asked body from course at
+Inv-loop body from interfaces high names alternates wanted course₀ at₀ last course at =
+    (asked : Asked) → wanted ≡ wantedOf asked → Reached (limitsAt high) interfaces names alternates asked body from course at
 
 abbrev μ-loop : tie.MeasureT-loop
-μ-loop body from interfaces plain limits names alternates wanted course₀ at₀ last course at = length body + 256 - at
+μ-loop body from interfaces high names alternates wanted course₀ at₀ last course at = length body + 256 - at
 
 -- two bytes are left where a descriptor is looked at
 more : (c : tie.Else1 Inv-loop μ-loop) → c .before .before .before .before .loop .at + 1 < length (c .before .before .before .before .before .before .before .before .args .body .now)
@@ -57,15 +58,22 @@ shared-slice-read-t c = omega (arith, c .before .before .loop-test .taken, c .be
 add-end : tie.Need-add-end Inv-loop μ-loop
 add-end c = let m = more c in omega (arith, c .before .before .shared-slice-known2 .given (c .before .before .before .before .loop .at), c .before .before .before .before .before .before .before .before .pre .short)
 
+-- a descriptor that is stepped over, and those behind it that begin as it does
+plain : (c : tie.Then2 Inv-loop μ-loop) → 8 ≤ byte (c .before .before .before .before .before .before .before .before .before .args .body .now) (c .before .before .before .before .before .loop .at + 1)
+plain c = c .if2 .taken
+
+behind-requires : tie.Need-behind-requires Inv-loop μ-loop
+behind-requires c κs = (more (c .before), omega (arith, c .before .if1 .left))
+
 loop-less : tie.Need-loop-less Inv-loop μ-loop
-loop-less c = let m = more (c .before) in omega (arith, c .before .if1 .left)
+loop-less c = let m = more (c .before .before) in omega (arith, alike-on (c .behind .ensures), c .before .before .if1 .left)
 
 loop-again : tie.Need-loop-again Inv-loop μ-loop
 loop-again c =
-    let m = more (c .before) in
-    let l = c .before .before .before .before .before .loop in
-    let high : 6 ≤ byte (c .before .before .before .before .before .before .before .before .before .args .body .now) (l .at + 1) = omega (arith, c .if2 .taken, c .before .before .before .before .before .before .before .before .before .pre .plainly) in
-    λ asked e. reached-skip (c .before .before .before .before .before .before .before .before .before .pre .alone) (l .inv asked e) _ refl m (c .before .if1 .left) (omega (arith, c .before .before .before .shared-slice-known2 .given (l .at))) (c .before .before .before .before .before .before .before .before .before .pre .allows _ (c .if2 .taken)) high
+    let m = more (c .before .before) in
+    let l = c .before .before .before .before .before .before .loop in
+    let a = c .before .before .before .before .before .before .before .before .before .before .args in
+    λ asked e. reached-run (a .high) (l .inv asked e) m (c .before .before .if1 .left) (omega (arith, c .before .before .before .before .shared-slice-known2 .given (l .at))) (plain (c .before)) (c .behind .ensures)
 
 sub-turn : tie.Need-sub-turn Inv-loop μ-loop
 sub-turn c = omega (arith, c .before .before .if1 .left)
@@ -88,7 +96,7 @@ loop-again-2 c =
     let l = c .before .before .before .before .before .before .before .before .before .before .before .loop in
     let h : l .at < length (a .body .now) = omega (arith, c .before .before .before .before .before .before .before .before .before .before .loop-test .taken) in
     let bytes = part-bytes (a .body .now) (λ k. omega (arith, c .before .before .before .before .before .before .before .before .before .shared-slice-known2 .given k)) (l .at) (l .at + byte (a .body .now) (l .at) - l .at) in
-    λ asked e. reached-turn (c .before .before .before .before .before .before .before .before .before .before .before .before .before .before .before .pre .alone) (l .inv asked e) h (c .before .before .before .before .before .before .before .if1 .left) _ refl (c .before .before .before .before .before .if3 .left) (bytes 2) (bytes 3) (rw e at (c .before .before .before .turn .ensures)) (not-false _ (c .before .if4 .left))
+    λ asked e. reached-turn (no-companions (c .before .before .before .before .before .before .before .before .before .before .before .before .before .before .before .args .high)) (l .inv asked e) h (c .before .before .before .before .before .before .before .if1 .left) _ refl (c .before .before .before .before .before .if3 .left) (bytes 2) (bytes 3) (rw e at (c .before .before .before .turn .ensures)) (not-false _ (c .before .if4 .left))
 
 next-of-requires : tie.Need-next-of-requires Inv-loop μ-loop
 next-of-requires c κs = search needs
@@ -105,15 +113,15 @@ returns c =
     let r = l .inv (a .asked) (c .before .before .before .before .before .before .before .wanted-of .ensures) in
     let good = rw (c .before .before .next-of .ensures) at (c .told .ensures .0) in
     ⊎-elim
-    (λ p. rests-end (pre .alone) r _ (pre .one) (omega (arith, p .0 .left)) (rw (p .1) at good) (c .told .ensures .1) (c .told .ensures .2))
+    (λ p. rests-end (no-companions (a .high)) r _ (pre .one) (omega (arith, p .0 .left)) (rw (p .1) at good) (c .told .ensures .1) (c .told .ensures .2))
     (⊎-elim
-    (λ p. rests-stopped _ _ _ (pre .some-bytes) (p .4) good (reached-small (pre .alone) r (before-end body (p .0 .taken)) (p .3 .taken)))
+    (λ p. rests-stopped _ _ _ (pre .some-bytes) (p .4) good (reached-small (no-companions (a .high)) r (before-end body (p .0 .taken)) (p .3 .taken)))
     (⊎-elim
-    (λ p. rests-stopped _ _ _ (pre .some-bytes) (p .6) good (reached-long (pre .alone) r (before-end body (p .0 .taken)) (p .5 .taken)))
+    (λ p. rests-stopped _ _ _ (pre .some-bytes) (p .6) good (reached-long (no-companions (a .high)) r (before-end body (p .0 .taken)) (p .5 .taken)))
     (λ p.
     let bytes = part-bytes body (λ k. omega (arith, p .1 .given k)) (l .at) (l .at + byte body (l .at) - l .at) in
     rests-stopped _ _ _ (pre .some-bytes) (p .10) good
-    (reached-refused (pre .alone) r (before-end body (p .0 .taken)) (p .3 .left) _ refl (p .5 .left) (bytes 2) (bytes 3) (rw (c .before .before .before .before .before .before .before .wanted-of .ensures) at (p .7 .ensures)) (pre .few) (not-true _ (p .9 .taken))))))
+    (reached-refused (no-companions (a .high)) r (before-end body (p .0 .taken)) (p .3 .left) _ refl (p .5 .left) (bytes 2) (bytes 3) (rw (c .before .before .before .before .before .before .before .wanted-of .ensures) at (p .7 .ensures)) (pre .few) (not-true _ (p .9 .taken))))))
     (c .before .before .before .before .loop-test .came)
 
 pub rest-spec : {M : Type 1} → statement M
@@ -131,6 +139,7 @@ rest-spec =
     add-t
     shared-slice-read-t
     add-end
+    behind-requires
     loop-less
     loop-again
     sub-turn

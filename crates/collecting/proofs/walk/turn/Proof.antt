@@ -4,6 +4,7 @@ use mathlib.Core.Bool.{not}
 use borrow.Author.Tests.{ne-eqb}
 use Rattle.octets.proofs.Sentences.{never}
 use borrow.Author.Needs.{needs}
+use Rattle.collecting.proofs.Rules.{refused-at}
 use Rattle.collecting.proofs.walk.turn.Statement.{statement}
 use Rattle.collecting.proofs.walk.turn.Tie as tie
 
@@ -30,9 +31,9 @@ returns-2 : tie.Need-returns-2
 returns-2 c =
     let p = sym (c .before .before .before .peek .ensures) ∙ c .before .if2 .taken in
     record {
-      may = rw p (c .start .ensures .may);
+      may = rw p (c .start .ensures (c .before .before .before .before .before .args .high) .may);
       lists = λ k _. never k (rw p);
-      starts = λ _. c .start .ensures .on;
+      starts = λ _. c .start .ensures (c .before .before .before .before .before .args .high) .on;
       passes = λ i _. never (rw p) i;
     }
 
@@ -45,7 +46,7 @@ returns-3 c =
     let k = ne-eqb _ _ (λ q. c .before .before .if1 .left (e ∙ q)) in
     let i = ne-eqb _ _ (λ q. c .before .if2 .left (e ∙ q)) in
     record {
-      may = ap not (c .is-named .ensures) ∙ rw (e, i, k);
+      may = ap not (c .is-named .ensures) ∙ rw (e, i, k, refused-at (c .before .before .before .before .before .args .high));
       lists = λ p _. never p k;
       starts = λ p _. never p i;
       passes = λ _ _. refl;

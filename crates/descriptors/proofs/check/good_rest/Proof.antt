@@ -1,5 +1,5 @@
 -- `descriptors::check::good_rest` meets its contract: what is asked of all is asked of the descriptors ahead, by the check and of the references. No axiom.
-use Prim.Native.Nat.{ℕ, _-_, _≤_}
+use Prim.Native.Nat.{ℕ, _+_, _-_, _≤_}
 use native.Mathlib.Omega.{arith}
 use mathlib.Core.Path.{_≡_, refl, sym, ap, _∙_}
 use mathlib.Core.List.{List}
@@ -8,6 +8,7 @@ use lib.ListN.{length, drop}
 use lib.Dec.{eqb}
 use borrow.Author.Tests.{not-true, not-false}
 use borrow.Author.Needs.{needs}
+use Rattle.octets.specs.Octets.{byte}
 use Rattle.octets.specs.Sentences.{every}
 use Rattle.octets.specs.Table.{has}
 use Rattle.descriptors.specs.Cut.{cut}
@@ -16,6 +17,7 @@ use Rattle.descriptors.specs.Check.{allowed, Course, starting, checking,
 use Rattle.descriptors.proofs.Walk.{Walking, spanned, walk-inside, walk-stop, walk-on, walk-end}
 use Rattle.descriptors.proofs.CheckWhole.{unasked, asked-of, pass-on, pass-not, pass-none, passed-with, passed-without, check-stuck}
 use Rattle.descriptors.proofs.CheckReferences.{asked-all, asked-on, refused}
+use Rattle.descriptors.proofs.Alike.{alike-on, step-size, type-here, asked-alike, check-alike}
 use Rattle.descriptors.proofs.check.good_rest.Statement.{statement}
 use Rattle.descriptors.proofs.check.good_rest.Tie as tie
 
@@ -167,24 +169,39 @@ loop-again c =
           (asked-on (has (a .names .now)) (a .body .now) (p .last) (p .at) (p .refers) _ (p .inv .1) (s .result) (s .ensures) (w .before .before .loop-test .taken) (w .if1 .left)),
     )
 
+-- the size of a descriptor that is stepped over
+sized : (e : tie.Else1 Inv-loop μ-loop)
+    → let at = e .before .before .before .loop .at in
+    let size = byte (e .before .before .before .before .before .before .before .args .body .now) at in
+    (2 ≤ size) × (e .before .advance .result .end ≡ at + size)
+sized e = step-size (e .before .before .before .before .before .before .before .args .body .now) _ _ (e .before .advance .ensures) (e .if1 .left)
+
+behind-requires : tie.Need-behind-requires Inv-loop μ-loop
+behind-requires c κs =
+    let z = sized (found (c .before)) in
+    let i = inside (found (c .before)) in
+    (omega (arith, z .0, z .1, i), omega (arith, z .0, z .1))
+
 loop-less-2 : tie.Need-loop-less-2 Inv-loop μ-loop
 loop-less-2 c =
-    let w = found (c .before) in
-    let i = inside w in
-    omega (arith, i, w .if1 .left, w .before .before .loop-test .taken)
+    let w = found (c .before .before) in
+    omega (arith, alike-on (c .behind .ensures), w .if1 .left, w .before .before .loop-test .taken)
 
 loop-again-2 : tie.Need-loop-again-2 Inv-loop μ-loop
 loop-again-2 c =
-    let l = c .before in
+    let l = c .before .before in
     let w = l .before .before .before .before .before .before .before .before in
     let a = w .before .before .before .before .before .before .before .args in
     let p = w .before .before .before .loop in
-    let s = w .before .advance in (
-      walk-on (p .inv .0) (s .ensures) (w .before .before .loop-test .taken) (w .if1 .left)
-          (pass-on (a .limits) (a .interfaces) (course w) (p .last) (s .result .stand) (here w) (may l) (unasked _ (c .if3 .left)))
-          (passed-without (a .limits) (a .interfaces) (course w) (p .last) (s .result .stand) (here w) _ (l .before .before .before .move-on .ensures) (c .if3 .left)),
-      rw (l .before .still-refers .ensures)
-          (asked-on (has (a .names .now)) (a .body .now) (p .last) (p .at) (p .refers) _ (p .inv .1) (s .result) (s .ensures) (w .before .before .loop-test .taken) (w .if1 .left)),
+    let s = w .before .advance in
+    let (two, e) = sized w in (
+      check-alike (a .body .now) (p .at) two e (a .limits) (a .interfaces) (record { progress = l .before .before .before .move-on .result; due = p .due }) (s .result .stand) (p .progress) (p .last) (s .result .stand) (here w) (c .before .if3 .left) (type-here (a .body .now) (p .at) _ e two) (may l) (c .behind .ensures)
+          (walk-on (p .inv .0) (s .ensures) (w .before .before .loop-test .taken) (w .if1 .left)
+          (pass-on (a .limits) (a .interfaces) (course w) (p .last) (s .result .stand) (here w) (may l) (unasked _ (c .before .if3 .left)))
+          (passed-without (a .limits) (a .interfaces) (course w) (p .last) (s .result .stand) (here w) _ (l .before .before .before .move-on .ensures) (c .before .if3 .left))),
+      asked-alike (a .body .now) (p .at) two e (has (a .names .now)) (s .result .stand) (l .before .still-refers .result) (every (has (a .names .now)) (collected referring (a .body .now) before (a .from))) (c .behind .ensures)
+          (rw (l .before .still-refers .ensures)
+          (asked-on (has (a .names .now)) (a .body .now) (p .last) (p .at) (p .refers) _ (p .inv .1) (s .result) (s .ensures) (w .before .before .loop-test .taken) (w .if1 .left))),
     )
 
 refuse-requires-3 : tie.Need-refuse-requires-3 Inv-loop μ-loop
@@ -249,6 +266,7 @@ good-rest-spec =
     peek-requires
     loop-less
     loop-again
+    behind-requires
     loop-less-2
     loop-again-2
     refuse-requires-3

@@ -1,4 +1,4 @@
--- `collecting::walk_once` meets its contract: the head, and the walk behind it. No axiom.
+-- `collecting::collect` meets its contract: the head, and the walk behind it. No axiom.
 use Prim.Native.Nat.{_<_, _≤_}
 use native.Mathlib.Omega.{arith}
 use mathlib.Core.Bool.{Bool, true, _&&_}
@@ -15,11 +15,12 @@ use Rattle.descriptors.proofs.GoodBody.{good-cut}
 use Rattle.descriptors.proofs.CheckWhole.{check-none, head-inside, check-head}
 use Rattle.descriptors.proofs.CheckReferences.{references-behind}
 use Rattle.descriptors.proofs.Surveying.{surveys}
+use Rattle.collecting.specs.Course.{limitsAt}
 use Rattle.collecting.proofs.Rules.{part-bytes}
 use Rattle.collecting.proofs.Whole.{head-short, first-ends, collects-refused, same-verdict, surveys-found}
 use borrow.Author.Needs.{needs}
-use Rattle.collecting.proofs.walk_once.Statement.{statement}
-use Rattle.collecting.proofs.walk_once.Tie as tie
+use Rattle.collecting.proofs.collect.Statement.{statement}
+use Rattle.collecting.proofs.collect.Tie as tie
 
 -- the first step, and that it moved on
 stepped : (c : tie.After-advance) → c .advance .result ≡ stepOf (c .before .before .before .args .body .now) 0 before
@@ -32,11 +33,11 @@ went c = omega (arith, c .if1 .left)
 checked : (c : tie.After-good-head) {b : Bool} → c .good-head .result ≡ b
     → let a = c .before .before .before .before .before .before .args in
     let end = c .before .before .before .advance .result .end in
-    goodConfiguration (a .limits) (a .body .now)
-    ≡ (b && walked (checking (a .limits) (bNumInterfaces (take end (a .body .now)))) starting before (cut (drop end (a .body .now))))
+    goodConfiguration (limitsAt (a .high)) (a .body .now)
+    ≡ (b && walked (checking (limitsAt (a .high)) (bNumInterfaces (take end (a .body .now)))) starting before (cut (drop end (a .body .now))))
 checked c p =
     let a = c .before .before .before .before .before .before .args in
-    check-head (a .limits) (a .body .now) _ (stepped (c .before .before .before)) (went (c .before .before)) ∙ rw (sym (c .good-head .ensures) ∙ p)
+    check-head (limitsAt (a .high)) (a .body .now) _ (stepped (c .before .before .before)) (went (c .before .before)) ∙ rw (sym (c .good-head .ensures) ∙ p)
 
 head-small : (c : tie.After-good-head) → c .good-head .result ≡ true
     → let body = c .before .before .before .before .before .before .args .body .now in
@@ -57,7 +58,7 @@ refuse-requires : tie.Need-refuse-requires
 refuse-requires c κs = search needs
 
 returns : tie.Need-returns
-returns c = collects-refused (c .refuse .ensures) (check-none (c .before .before .before .before .before .args .limits) (c .before .before .before .before .before .args .body .now) _ (stepped (c .before .before)) (c .before .if1 .taken))
+returns c = collects-refused (c .refuse .ensures) (check-none (limitsAt (c .before .before .before .before .before .args .high)) (c .before .before .before .before .before .args .body .now) _ (stepped (c .before .before)) (c .before .if1 .taken))
 
 slice-aggregate-head : tie.Need-slice-aggregate-head
 slice-aggregate-head c = sym (length-take-le _ _ (head-inside (c .before .before .before .before .before .args .body .now) _ (stepped (c .before .before)) (went (c .before))))
@@ -68,26 +69,20 @@ good-head-requires c κs = search needs
 peek-requires : tie.Need-peek-requires
 peek-requires c κs = search needs
 
-first-plain-requires : tie.Need-first-plain-requires
-first-plain-requires c κs = search needs
-
 rest-requires : tie.Need-rest-requires
 rest-requires c κs =
-    let a = c .before .before .before .before .before .before .before .before .before .args in
+    let a = c .before .before .before .before .before .before .before .before .args in
     let body = a .body .now in
-    let end = c .before .before .before .before .before .before .advance .result .end in
-    let inside = head-inside body _ (stepped (c .before .before .before .before .before .before)) (went (c .before .before .before .before .before)) in
-    let small = head-small (c .before .before .before) (c .before .before .if2 .taken) in
+    let end = c .before .before .before .before .before .advance .result .end in
+    let inside = head-inside body _ (stepped (c .before .before .before .before .before)) (went (c .before .before .before .before)) in
+    let small = head-small (c .before .before) (c .before .if2 .taken) in
     record {
-      alone = c .before .before .before .before .before .before .before .before .before .pre .0;
       short = small .0;
-      some-bytes = omega (arith, inside, went (c .before .before .before .before .before));
+      some-bytes = omega (arith, inside, went (c .before .before .before .before));
       inside = inside;
-      one = rw (c .before .peek .ensures) (small .1);
-      few = rw (c .before .peek .ensures) (small .2);
-      allows = c .first-plain .ensures .1;
-      plainly = c .first-plain .ensures .0;
-      zero = c .before .before .before .before .before .before .before .before .before .pre .1;
+      one = rw (c .peek .ensures) (small .1);
+      few = rw (c .peek .ensures) (small .2);
+      zero = c .before .before .before .before .before .before .before .before .pre;
     }
 
 peek-requires-2 : tie.Need-peek-requires-2
@@ -97,20 +92,20 @@ holds-requires : tie.Need-holds-requires
 holds-requires c κs = search needs
 
 survey-of-requires : tie.Need-survey-of-requires
-survey-of-requires c κs = rw (c .before .before .before .before .before .before .before .peek .ensures) (head-small (c .before .before .before .before .before .before .before .before .before) (c .before .before .before .before .before .before .before .before .if2 .taken) .2)
+survey-of-requires c κs = rw (c .before .before .before .before .before .before .peek .ensures) (head-small (c .before .before .before .before .before .before .before .before) (c .before .before .before .before .before .before .before .if2 .taken) .2)
 
 returns-2 : tie.Need-returns-2
 returns-2 c =
-    let a = c .before .before .before .before .before .before .before .before .before .before .before .before .before .before .before .before .args in
+    let a = c .before .before .before .before .before .before .before .before .before .before .before .before .before .before .before .args in
     let body = a .body .now in
     let rests = c .before .before .before .before .before .before .rest .ensures in
-    let good : c .before .before .before .before .before .before .rest .result .good ≡ goodConfiguration (a .limits) body = (rw (c .before .before .before .before .before .before .before .before .peek .ensures) at (rests .good)) ∙ sym (checked (c .before .before .before .before .before .before .before .before .before .before) (c .before .before .before .before .before .before .before .before .before .if2 .taken)) in
+    let good : c .before .before .before .before .before .before .rest .result .good ≡ goodConfiguration (limitsAt (a .high)) body = (rw (c .before .before .before .before .before .before .before .peek .ensures) at (rests .good)) ∙ sym (checked (c .before .before .before .before .before .before .before .before .before) (c .before .before .before .before .before .before .before .before .if2 .taken)) in
     record {
       verdict =
-          rw (references-behind (has (a .names .now)) body _ (stepped (c .before .before .before .before .before .before .before .before .before .before .before .before .before)) (went (c .before .before .before .before .before .before .before .before .before .before .before .before)), c .before .before .before .before .holds .ensures, c .before .before .before .before .before .peek2 .ensures)
+          rw (references-behind (has (a .names .now)) body _ (stepped (c .before .before .before .before .before .before .before .before .before .before .before .before)) (went (c .before .before .before .before .before .before .before .before .before .before .before)), c .before .before .before .before .holds .ensures, c .before .before .before .before .before .peek2 .ensures)
           (same-verdict (c .before .before .before .before .before .before .rest .result .good) (c .before .before .before .before .before .before .rest .result .refers) _ good (rests .refers));
       surveyed = λ g. surveys-found
-          (surveys (a .alternates .now) (a .asked) (at-first body _ (good-cut (a .limits) body (sym good ∙ g)) (first-ends body _ (stepped (c .before .before .before .before .before .before .before .before .before .before .before .before .before)) (went (c .before .before .before .before .before .before .before .before .before .before .before .before)))) refl)
+          (surveys (a .alternates .now) (a .asked) (at-first body _ (good-cut (limitsAt (a .high)) body (sym good ∙ g)) (first-ends body _ (stepped (c .before .before .before .before .before .before .before .before .before .before .before .before)) (went (c .before .before .before .before .before .before .before .before .before .before .before)))) refl)
           (rests .tells g)
           (rests .exists g)
           (c .survey-of .ensures);
@@ -122,8 +117,8 @@ refuse-requires-2 c κs = search needs
 returns-3 : tie.Need-returns-3
 returns-3 c = collects-refused (c .refuse2 .ensures) (sym (checked (c .before .before) (c .before .if2 .left)))
 
-pub walk-once-spec : {M : Type 1} → statement M
-walk-once-spec =
+pub collect-spec : {M : Type 1} → statement M
+collect-spec =
     tie.close
     (tie.spec
     outside-requires
@@ -133,7 +128,6 @@ walk-once-spec =
     slice-aggregate-head
     good-head-requires
     peek-requires
-    first-plain-requires
     rest-requires
     peek-requires-2
     holds-requires
