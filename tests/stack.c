@@ -1,5 +1,5 @@
 /* stack FULL HIGH SERIAL SET SERIAL [SET SERIAL].. : how many bytes of stack each function of the library takes, on the sets in these
- * files: first a pair, then sets that are lent alone.
+ * files: first a pair, then sets that are lent alone. LD_BIND_NOW is to be set: a linker that works at the first call takes stack too.
  *
  * Each call runs on a stack of its own that was painted before; the deepest byte that lost its paint tells, less what an
  * empty call takes. More than most_of allows fail: the smallest board has 2 KiB in all. */
@@ -25,7 +25,7 @@
 #define MOST_OF_TABLE 1024
 /* hk_trim keeps the first bytes of the set aside, as many as 64 entries have: it may take these besides. */
 #define ASIDE 516
-#define STACK_LENGTH 65536
+#define STACK_LENGTH 16384
 #define PAINT 0x5A
 
 enum function {
@@ -154,20 +154,14 @@ static size_t depth_of_call(void) {
     return sizeof stack - untouched;
 }
 
-/* The second of two equal calls counts: the first may run the linker too. The record is that of the image. */
+/* The record is that of the image. */
 static void measure(enum function measured) {
-    uint8_t before[HK_IMAGE_LENGTH];
     size_t depth;
     function = measured;
-    memcpy(before, image, sizeof image);
-    memcpy(&record, before, sizeof record);
-    memcpy(row + 1, before, sizeof *row);
-    memcpy(trimmed, set, sizeof trimmed);
-    depth_of_call();
-    memcpy(image, before, sizeof image);
-    memcpy(&record, before, sizeof record);
-    memcpy(row + 1, before, sizeof *row);
-    memcpy(trimmed, set, sizeof trimmed);
+    memcpy(&record, image, sizeof record);
+    memcpy(row + 1, image, sizeof *row);
+    if (measured == TRIM)
+        memcpy(trimmed, set, sizeof trimmed);
     depth = depth_of_call();
     if (depth > deepest[measured])
         deepest[measured] = depth;

@@ -206,7 +206,7 @@ pub fn after(settles: bool, change: Change, device: Device) -> Device
 
 // Whether two slices are the same.
 pub fn same(was: &[u8], next: &[u8]) -> bool
-    ensures { λ r. ⌜ (r ≡ true → now (was .entry) ≡ now (next .entry)) ⌝ }
+    ensures { λ r. ⌜ (r ≡ true → now (was .entry) ≡ now (next .entry)) × (now (was .entry) ≡ now (next .entry) → r ≡ true) ⌝ }
 {
     if was.len() != next.len() {
         return false;

@@ -1,6 +1,6 @@
 -- `records::same` meets its contract. The invariant: from k on they are the same. No axiom.
 use Prim.Native.Nat.{ℕ, zero, suc, _-_, _≤_, _<_}
-use mathlib.Core.Path.{_≡_, sym, _∙_}
+use mathlib.Core.Path.{_≡_, refl, sym, ap, _∙_}
 use mathlib.Core.Bool.{false≢true}
 use mathlib.Core.List.{List}
 use lib.ListN.{length, drop, getD, drop-of-length-le}
@@ -26,7 +26,7 @@ abbrev μ-loop : tie.MeasureT-loop
 μ-loop was next k₀ k = k
 
 returns : tie.Need-returns Inv-loop μ-loop
-returns c = λ p. absurd (false≢true p)
+returns c = (λ p. absurd (false≢true p), λ e. absurd (c .if1 .taken (ap (λ (x : List ℕ). length x) e)))
 
 loop-holds : tie.Need-loop-holds Inv-loop μ-loop
 loop-holds c =
@@ -43,7 +43,9 @@ shared-slice-read-if2-2 : tie.Need-shared-slice-read-if2-2 Inv-loop μ-loop
 shared-slice-read-if2-2 c = omega (arith, c .before .before .before .loop .inv .0, c .before .before .loop-test .taken, c .before .before .before .before .if1 .left)
 
 returns-2 : tie.Need-returns-2 Inv-loop μ-loop
-returns-2 c = λ p. absurd (false≢true p)
+returns-2 c =
+    let l = c .before .before .before .before .loop in
+    (λ p. absurd (false≢true p), λ e. absurd (c .if2 .taken (ap (λ (x : List ℕ). getD x (l .k - 1) 0) e)))
 
 loop-less : tie.Need-loop-less Inv-loop μ-loop
 loop-less c = omega (arith, c .before .before .before .loop-test .taken)
@@ -55,9 +57,9 @@ loop-again c =
     back (a .was .now) (a .next .now) (l .k) (l .k - 1) (omega (arith, c .before .before .before .loop-test .taken)) (c .before .before .before .before .before .if1 .left) (l .inv) (c .if2 .left)
 
 returns-3 : tie.Need-returns-3 Inv-loop μ-loop
-returns-3 c = λ p.
+returns-3 c =
     let l = c .before .loop in
-    whole (c .before .before .before .args .was .now) (c .before .before .before .args .next .now) (l .k) (c .loop-test .left) (l .inv .1)
+    (λ p. whole (c .before .before .before .args .was .now) (c .before .before .before .args .next .now) (l .k) (c .loop-test .left) (l .inv .1), λ e. refl)
 
 pub same-spec : {M : Type 1} → statement M
 same-spec =

@@ -37,7 +37,7 @@ returns c =
     let a = start .args in
     let b = lent (a .set .now) (a .serial .now) in
     let d = a .device in
-    (rw (w .after .ensures) (w .before .react .ensures ∙ ap (λ (n : ℕ). stepIn n (viewIn false (a .set .now) (a .serial .now)) d (a .event)) (start .pre) ∙ sym (step-in b d (a .event))), λ p. c .same .ensures (not-false (c .same .result) p))
+    (rw (w .after .ensures) (w .before .react .ensures ∙ ap (λ (n : ℕ). stepIn n (viewIn false (a .set .now) (a .serial .now)) d (a .event)) (start .pre) ∙ sym (step-in b d (a .event))), λ p. c .same .ensures .0 (not-false (c .same .result) p))
 
 pub step-left-spec : {M : Type 1} → statement M
 step-left-spec = tie.close (tie.spec react-requires after-requires slice-aggregate-same slice-aggregate-same-2 same-requires returns)
