@@ -293,8 +293,7 @@ HK_LARGE uint8_t hk_table_event(const uint8_t *set, size_t set_length, const uin
                        uint8_t *image, size_t image_length, uint8_t event, uint8_t value,
                        const uint8_t *setup, size_t setup_length, uint8_t bytes[2], uint8_t *count, hk_part *part);
 
-/* The same on a board that lends two sets, as hk_two_event. It collects while full speed is in use; at high speed it looks up
- * what the event asks, as hk_two_event does. */
+/* The same on a board that lends two sets, as hk_two_event. */
 HK_LARGE uint8_t hk_two_table_event(const uint8_t *full, size_t full_length, const uint8_t *high, size_t high_length,
                            const uint8_t *serial, size_t serial_length, uint8_t *image, size_t image_length,
                            uint8_t event, uint8_t value, const uint8_t *setup, size_t setup_length,

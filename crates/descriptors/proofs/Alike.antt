@@ -1,9 +1,9 @@
 -- Runs of descriptors that begin alike, of a type that no walk looks at: what a walk knows before one of them, it knows behind it. No axiom.
 use Prim.Native.Nat.{ℕ, _+_, _-_, _≤_, _<_}
 use native.Mathlib.Omega.{arith}
-use mathlib.Core.Path.{_≡_, refl, sym, ap, _∙_}
+use mathlib.Core.Path.{_≡_, sym, ap, _∙_}
 use mathlib.Core.List.{List}
-use mathlib.Core.Bool.{Bool, true, false, _&&_, not, and-true, or-false}
+use mathlib.Core.Bool.{Bool, true, false, _&&_, not, and-true}
 use mathlib.Core.Option.{none}
 use lib.ListN.{length, drop}
 use lib.Seq.{getD-take, getD-drop}
@@ -16,18 +16,13 @@ use Rattle.descriptors.specs.declared.Limits.{Limits}
 use Rattle.descriptors.specs.declared.Stand.{Stand}
 use Rattle.descriptors.specs.declared.Step.{Step}
 use Rattle.descriptors.specs.declared.check.Progress.{Progress}
-use Rattle.descriptors.specs.declared.survey.Asked.{Asked}
-use Rattle.descriptors.specs.declared.survey.Survey.{Survey}
 use Rattle.descriptors.specs.Limits.{named}
 use Rattle.descriptors.specs.Descriptor.{bDescriptorType, isInterface, isEndpoint}
-use Rattle.descriptors.specs.Walk.{before, stepsOn, stepOf, AlikeAt, Alike, alone, onward, Walk, collected}
+use Rattle.descriptors.specs.Walk.{stepsOn, stepOf, AlikeAt, Alike, alone, onward, Walk, collected}
 use Rattle.descriptors.specs.Check.{allowed, Course, checking, referring}
-use Rattle.descriptors.specs.Survey.{surveying}
 use Rattle.descriptors.proofs.Walk.{spanned, Walking, walk-on}
-use Rattle.descriptors.proofs.Ahead.{Place, turn}
 use Rattle.descriptors.proofs.CheckWhole.{unasked, pass-on}
 use Rattle.descriptors.proofs.CheckReferences.{asked-on}
-use Rattle.descriptors.proofs.Surveying.{earlier-none}
 
 pub same-bytes : (body : List ℕ) (at k : ℕ) → Bytes body → word body at ≡ word body k → (byte body at ≡ byte body k) × (byte body (at + 1) ≡ byte body (k + 1))
 same-bytes body at k f e =
@@ -95,10 +90,6 @@ module _ (body : List ℕ) (at : ℕ) {end : ℕ} (two : 2 ≤ byte body at) (e 
         let (q, u) = quiet (spanned body r (r + (end - at))) (no-interface two e one) (no-endpoint two e one) (kind two e one) in
         walk-on p (is-step two e one last) (inside two e one) (further two e one) q u)
 
-  -- the place of a walk over a well-cut body
-  pub place-alike : {r : ℕ} → Alike body at end r → Place body end → Place body r
-  place-alike = alike-through (λ r. Place body r) (λ r one p. turn body r before p (inside two e one) _ (is-step two e one before) .place)
-
   -- the references that are still to come
   pub asked-alike : (f : ℕ → Bool) (last : Stand) (sofar total : Bool) {r : ℕ} → Alike body at end r → total ≡ (sofar && every f (collected referring body last end))
       → total ≡ (sofar && every f (collected referring body last r))
@@ -121,8 +112,3 @@ module _ (body : List ℕ) (at : ℕ) {end : ℕ} (two : 2 ≤ byte body at) (e 
 
     pub check-alike : {total : Bool} {r : ℕ} → Alike body at end r → Walking (checking limits n) body total c last end → Walking (checking limits n) body total c last r
     check-alike = walk-alike (λ x i k u. (pass-on limits n c last last x (as-first x i k u) (unasked _ alone), rw (i, k, alone)))
-
-  -- the survey
-  pub survey-alike : (alternates : List ℕ) (asked : Asked) {total s : Survey} {last : Stand} {r : ℕ} → Alike body at end r
-      → Walking (surveying alternates asked) body total s last end → Walking (surveying alternates asked) body total s last r
-  survey-alike alternates asked {s = s} = walk-alike (λ d i k t. (refl, rw (i, k, earlier-none (s .endpoint), or-false (s .there))))

@@ -6,10 +6,10 @@ pub mod CheckWhole
 pub mod GoodBody
 pub mod Ahead
 pub mod CheckReferences
+pub mod Alike
 pub mod EndpointBits
 pub mod Alternates
 pub mod Surveying
-pub mod Alike
 pub mod CurrentEndpoints
 pub mod FullSpeed
 pub mod HighSpeed

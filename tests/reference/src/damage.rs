@@ -1,7 +1,7 @@
 //! Damage near every rule of opening: each item breaks one rule, or just does not.
 
 use crate::descriptors::{BULK, INTERRUPT, ISOCHRONOUS};
-use crate::draft::{class_descriptor, endpoint, lay_out, serial_block, string, string_body};
+use crate::draft::{class_descriptor, class_descriptors, endpoint, lay_out, serial_block, string, string_body};
 use crate::draft::{Descriptors, Draft, DraftEntry, ENDPOINT, INTERFACE, LONGEST_SET, MOST_ENTRIES};
 use crate::octets::number;
 use crate::opening::STRING;
@@ -426,8 +426,14 @@ fn shorten_by_one(descriptor: &mut Vec<u8>, _: &mut Random) {
     shorten(descriptor, if descriptor[1] == INTERFACE { 8 } else { 6 });
 }
 
-/// The last descriptor ends elsewhere than the body.
+/// The last descriptor ends elsewhere than the body: by its length, or as the last of a run that is cut off.
 fn misstate_last_length(descriptors: &mut Descriptors, random: &mut Random) {
+    if random.percent(30) {
+        let (count, length) = (random.between(2, 4), random.between(3, 9));
+        let mut run = class_descriptors(count, length, random);
+        run[count - 1].truncate(length - 1);
+        return descriptors.extend(run);
+    }
     if let Some(last) = descriptors.last_mut() {
         last[0] = random.pick(&[0, 1, 3, 8, 10, 255]);
     }

@@ -110,11 +110,22 @@ pub fn cut(body: &[u8], fault: Fault) -> Result<Vec<&[u8]>, Rule> {
     while !rest.is_empty() {
         let length = usize::from(rest[0]);
         require(length >= shortest, Rule::DescriptorLengthBelowTwo)?;
+        if fault == Fault::LastOfARunNotWholePasses && length > rest.len() && is_alike(&descriptors, rest) {
+            break;
+        }
         require(length <= rest.len(), Rule::DescriptorBeyondBody)?;
-        descriptors.push(&rest[..length]);
+        let passed = fault == Fault::EndpointsPassedAsARun && rest[1] == 5 && is_alike(&descriptors, rest);
+        if !passed {
+            descriptors.push(&rest[..length]);
+        }
         rest = &rest[length..];
     }
     Ok(descriptors)
+}
+
+/// Whether a descriptor begins with the same two bytes as the one before it.
+fn is_alike(before: &[&[u8]], rest: &[u8]) -> bool {
+    before.last().is_some_and(|last| rest.starts_with(&last[..2]))
 }
 
 /// The configuration descriptor, which stands first.

@@ -313,7 +313,8 @@ fn configuration(value: u8, kind: Kind, scale: Scale, names: &Names, random: &mu
         if random.percent(scale.class_percent) {
             let any = random.between(2, 60);
             let length = random.pick(&[2, 2, 3, 5, 9, any]);
-            descriptors.insert(at, class_descriptor(length, random));
+            let run = if random.percent(40) { random.between(2, 6) } else { 1 };
+            descriptors.splice(at..at, class_descriptors(run, length, random));
         }
         at += 1;
     }
@@ -371,6 +372,13 @@ fn lengthened(mut descriptor: Vec<u8>, random: &mut Random) -> Vec<u8> {
         descriptor[0] = descriptor.len() as u8;
     }
     descriptor
+}
+
+/// So many that begin with the same two bytes.
+pub fn class_descriptors(count: usize, length: usize, random: &mut Random) -> Descriptors {
+    let first = class_descriptor(length, random);
+    let alike = |random: &mut Random| [&first[..2], &random.bytes(length - 2)].concat();
+    (0..count).map(|_| alike(random)).collect()
 }
 
 /// Of a type that is stepped over.

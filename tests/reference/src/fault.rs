@@ -19,7 +19,7 @@ faults! {
         MaxPacketSize128Passes SubclassIgnored NinthConfigurationPasses ConfigurationEntriesNotCounted
         ConfigurationValueZeroPasses ConfigurationValueComparedWithLastOnly
         MaxPowerOneMore MaxPowerOneLess AttributesBitFourIgnored LongFirstDescriptorRefused
-        DeviceQualifierSteppedOver DescriptorOfTwoBytesRefused
+        DeviceQualifierSteppedOver DescriptorOfTwoBytesRefused LastOfARunNotWholePasses EndpointsPassedAsARun
         SeventeenInterfacesPass SixteenInterfacesRefused AlternateSixteenPasses AlternateFifteenRefused
         LastSettingEndpointsNotCounted EarlyEndpointPasses InterfaceMayStartAtAlternateOne
         AddressWithoutDirectionInSetting AddressTwiceInAlternatesRefused

@@ -92,7 +92,7 @@ fn companion_fault(body: &[u8], fault: Fault) -> Option<Broken> {
                     return Some(Broken::CompanionShort);
                 }
             }
-            _ if descriptor[3] & 3 == 1 && fault == Fault::IsochronousNeedsNoCompanion => {}
+            _ if fault == Fault::IsochronousNeedsNoCompanion && descriptor.get(3).is_some_and(|attributes| attributes & 3 == 1) => {}
             _ => return Some(Broken::CompanionMissing),
         }
     }

@@ -1,17 +1,15 @@
 -- `descriptors::survey::walk` meets its contract: what was seen and what is ahead tell of the whole. No axiom.
-use Prim.Native.Nat.{_+_, _-_, _≤_}
+use Prim.Native.Nat.{_-_}
 use native.Mathlib.Omega.{arith}
-use mathlib.Core.Path.{_≡_, refl}
+use mathlib.Core.Path.{refl}
 use lib.ListN.{length, drop}
 use borrow.Author.Needs.{needs}
-use Rattle.octets.specs.Octets.{byte}
 use Rattle.descriptors.specs.Cut.{cut}
 use Rattle.descriptors.specs.Walk.{before, walked}
 use Rattle.descriptors.specs.Survey.{nothingSeen, surveying}
 use Rattle.descriptors.proofs.Walk.{Walking, walk-on, walk-end}
-use Rattle.descriptors.proofs.Ahead.{Place, Turn, at-first, steps, turn}
+use Rattle.descriptors.proofs.Ahead.{Place, at-first, steps, turn}
 use Rattle.descriptors.proofs.Surveying.{surveys}
-use Rattle.descriptors.proofs.Alike.{alike-on, step-size, place-alike, survey-alike}
 use Rattle.descriptors.proofs.survey.walk.Statement.{statement}
 use Rattle.descriptors.proofs.survey.walk.Tie as tie
 
@@ -57,37 +55,16 @@ slice-aggregate-move-on c = search needs
 move-on-requires : tie.Need-move-on-requires Inv-loop μ-loop
 move-on-requires c κs = search needs
 
--- one step on from the place at hand, and the descriptor's size
-stepped : (c : tie.After-step-over Inv-loop μ-loop)
-    → let l = c .before .before .loop in
-    Turn (c .before .before .before .before .before .before .before .args .body .now) (l .at) (l .stand) (c .step-over .result)
-stepped c = turn _ _ _ (c .before .before .loop .inv .0) (c .before .loop-test .taken) _ (c .step-over .ensures)
-
-sized : (c : tie.After-step-over Inv-loop μ-loop)
-    → let at = c .before .before .loop .at in
-    let size = byte (c .before .before .before .before .before .before .before .args .body .now) at in
-    (2 ≤ size) × (c .step-over .result .end ≡ at + size)
-sized c = step-size (c .before .before .before .before .before .before .before .args .body .now) _ _ (c .step-over .ensures) (stepped c .on)
-
-behind-requires : tie.Need-behind-requires Inv-loop μ-loop
-behind-requires c κs =
-    let z = sized (c .before .before .before .before) in
-    let t = stepped (c .before .before .before .before) in
-    (omega (arith, z .0, z .1, t .place .inside), omega (arith, z .0, z .1))
-
 loop-less : tie.Need-loop-less Inv-loop μ-loop
-loop-less c = let t = stepped (c .before .before .before .before .before) in omega (arith, t .on, t .place .inside, alike-on (c .behind .ensures))
+loop-less c = let t = turn _ _ _ (c .before .before .before .before .before .before .loop .inv .0) (c .before .before .before .before .before .loop-test .taken) _ (c .before .before .before .before .step-over .ensures) in omega (arith, t .place .inside)
 
 loop-again : tie.Need-loop-again Inv-loop μ-loop
 loop-again c =
-    let w = c .before .before .before .before .before in
-    let l = w .before .before .loop in
-    let a = w .before .before .before .before .before .before .before .args in
-    let t = stepped w in
-    let (two, e) = sized w in (
-      place-alike (a .body .now) (l .at) two e (c .behind .ensures) (t .place),
-      survey-alike (a .body .now) (l .at) two e (a .t2) (a .asked) (c .behind .ensures) (walk-on (l .inv .1) (w .step-over .ensures) (w .before .loop-test .taken) (t .on) refl (c .before .move-on .ensures)),
-    )
+    let l = c .before .before .before .before .before .before .loop in
+    let h = c .before .before .before .before .before .loop-test .taken in
+    let s = c .before .before .before .before .step-over in
+    let t = turn _ _ _ (l .inv .0) h _ (s .ensures) in
+    (t .place, walk-on (l .inv .1) (s .ensures) h (t .on) refl (c .move-on .ensures))
 
 returns : tie.Need-returns Inv-loop μ-loop
 returns c =
@@ -112,7 +89,6 @@ walk-spec =
     part-move-on-end
     slice-aggregate-move-on
     move-on-requires
-    behind-requires
     loop-less
     loop-again
     returns)
