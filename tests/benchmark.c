@@ -1,7 +1,8 @@
-/* benchmark open|SETUP|table:SETUP ROUNDS SET SERIAL CONFIGURATION: one call of the library, over and over, for tests/benchmark.
+/* benchmark open|[WAY:]SETUP ROUNDS SET SERIAL CONFIGURATION: one call of the library, over and over, for tests/benchmark.
  *
- * SETUP is 8 bytes in hexadecimal, behind table: it goes the second way; the record is Configured with that configuration, all
- * else fresh. Prints the nanoseconds of a call, its number and the two bytes. tests/benchmark.rs does the same, in its one way. */
+ * SETUP is 8 bytes in hexadecimal; behind table: it goes the second way, behind pair: and pair-table: the set is lent for both
+ * speeds, and high speed is in use. The record is Configured with that configuration, all else fresh. Prints the nanoseconds of
+ * a call, its number and the two bytes. tests/benchmark.rs does the same, in its one way. */
 #define _POSIX_C_SOURCE 199309L
 
 #include <stdio.h>
@@ -11,22 +12,37 @@
 
 #include "heideklonk.h"
 
-#define TABLE "table:"
-
 static uint8_t set[20000], serial[20000], image[HK_IMAGE_LENGTH], opened[HK_IMAGE_LENGTH];
 static uint8_t setup[HK_SETUP_LENGTH], bytes[2], count;
 static size_t set_length, serial_length;
 static hk_part part = HK_NO_PART;
 
-enum way { OPENING, BY_SETUP, BY_TABLE };
+enum way { OPENING, BY_SETUP, BY_TABLE, BY_PAIR, BY_PAIR_TABLE };
+static const char *const prefixes[] = {"open", "", "table:", "pair:", "pair-table:"};
 
 static uint8_t call(enum way way) {
-    if (way == OPENING)
+    switch (way) {
+    case OPENING:
         return hk_open(set, set_length, serial, serial_length, opened, sizeof opened);
-    if (way == BY_TABLE)
+    case BY_TABLE:
         return hk_table_event(set, set_length, serial, serial_length, image, sizeof image, HK_EVENT_SETUP, 0, setup, sizeof setup, bytes, &count,
                               &part);
-    return hk_setup(set, set_length, serial, serial_length, image, sizeof image, setup, sizeof setup, bytes, &count, &part);
+    case BY_PAIR:
+        return hk_two_event(set, set_length, set, set_length, serial, serial_length, image, sizeof image, HK_EVENT_SETUP, 0, setup, sizeof setup,
+                            bytes, &count, &part);
+    case BY_PAIR_TABLE:
+        return hk_two_table_event(set, set_length, set, set_length, serial, serial_length, image, sizeof image, HK_EVENT_SETUP, 0, setup,
+                                  sizeof setup, bytes, &count, &part);
+    default:
+        return hk_setup(set, set_length, serial, serial_length, image, sizeof image, setup, sizeof setup, bytes, &count, &part);
+    }
+}
+
+static enum way way_of(const char *word) {
+    for (enum way way = BY_PAIR_TABLE; way > OPENING; way--)
+        if (way != BY_SETUP && strncmp(word, prefixes[way], strlen(prefixes[way])) == 0)
+            return way;
+    return strcmp(word, prefixes[OPENING]) == 0 ? OPENING : BY_SETUP;
 }
 
 /* What the instruction counter looks at. */
@@ -65,8 +81,8 @@ int main(int argument_count, char **arguments) {
     uint8_t number;
     if (argument_count != 6)
         return 2;
-    way = strcmp(arguments[1], "open") == 0 ? OPENING : strncmp(arguments[1], TABLE, strlen(TABLE)) == 0 ? BY_TABLE : BY_SETUP;
-    read_setup(arguments[1] + (way == BY_TABLE ? strlen(TABLE) : 0));
+    way = way_of(arguments[1]);
+    read_setup(arguments[1] + strlen(prefixes[way]));
     rounds = strtol(arguments[2], NULL, 10);
     set_length = read_file(arguments[3], set, sizeof set);
     serial_length = read_file(arguments[4], serial, sizeof serial);
@@ -74,6 +90,7 @@ int main(int argument_count, char **arguments) {
     image[1] = 5;
     image[2] = 255;
     image[3] = (uint8_t)strtol(arguments[5], NULL, 10);
+    image[7] = way == BY_PAIR || way == BY_PAIR_TABLE;
     number = call(way); /* the first call may run the linker too */
     clock_gettime(CLOCK_MONOTONIC, &start);
     for (long round = 0; round < rounds; round++)

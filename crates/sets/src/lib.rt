@@ -47,15 +47,15 @@ pub fn opening(set: &[u8], serial: &[u8], limits: Limits) -> u8
     finish(set, serial, configurations, strings, &names)
 }
 
-// The parts of opening around the configurations, for whoever walks through these, each a function of its own, so that what they are lent shares its place on the stack: groups 1 to 3,
-pub fn begin(set: &[u8], limits: Limits) -> u8
+// The parts of opening around the configurations, each a function of its own, so that what they are lent shares its place on the stack: groups 1 to 3,
+fn begin(set: &[u8], limits: Limits) -> u8
     ensures { λ r. ⌜ (r ≡ 0 → Begins limits (now (set .entry))) × ((r ≡ 0 → ⊥) → (serial : List ℕ) → r ≡ opening limits (lent (now (set .entry)) serial)) ⌝ }
 {
     checks::first_groups(set, limits)
 }
 
 // the strings in the languages that string 0 lists,
-pub fn read_strings(set: &[u8], names: &mut [u32; 8]) -> bool
+fn read_strings(set: &[u8], names: &mut [u32; 8]) -> bool
     requires { ⌜ Ordered (now set) ⌝ }
     ensures { λ r. ⌜ Reads (now (set .entry)) (languages (now (set .entry))) r (now (names .exit)) ⌝ }
 {
@@ -63,7 +63,7 @@ pub fn read_strings(set: &[u8], names: &mut [u32; 8]) -> bool
 }
 
 // and groups 4 to 6.
-pub fn finish(set: &[u8], serial: &[u8], configurations: Verdict, strings: bool, names: &[u32; 8]) -> u8
+fn finish(set: &[u8], serial: &[u8], configurations: Verdict, strings: bool, names: &[u32; 8]) -> u8
     requires { ⌜ Ready (now set) (now names) strings configurations ⌝ }
     ensures { λ r. ⌜ ((limits : Limits) → Begins limits (now (set .entry)) → configurations .good ≡ goodConfigurations limits (piecesIn (now (set .entry)))
         → r ≡ opening limits (lent (now (set .entry)) (now (serial .entry)))) ⌝ }

@@ -4,6 +4,7 @@ pub mod pass;
 
 use descriptors::ConfigurationValue;
 use descriptors::Limits;
+use descriptors::check::Verdict;
 use descriptors::survey::Asked;
 use events::Event;
 use events::reaction::Reaction;
@@ -12,11 +13,17 @@ use steps::facts;
 use steps::facts::Given;
 use steps::facts::Selected;
 ghost use mathlib.Core.Path.{_≡_};
+ghost use mathlib.Core.List.{List};
 ghost use mathlib.Core.Bool.{false, true};
+ghost use Prim.Native.Nat.{ℕ};
 ghost use lib.Dec.{eqb};
 ghost use Rattle.octets.specs.Sentences.{pick};
+ghost use Rattle.descriptors.specs.declared.Limits.{Limits};
 ghost use Rattle.descriptors.specs.Limits.{pairedFull, highSpeed};
-ghost use Rattle.sets.specs.Opening.{lent, opening};
+ghost use Rattle.sets.specs.Checks.{Ordered, Reads, Begins, Ready};
+ghost use Rattle.sets.specs.Pieces.{piecesIn};
+ghost use Rattle.sets.specs.Strings.{languages};
+ghost use Rattle.sets.specs.Opening.{lent, goodConfigurations, opening};
 ghost use Rattle.sets.specs.Pair.{openingTwo};
 ghost use Rattle.sets.specs.View.{openingOf};
 ghost use Rattle.events.specs.Facts.{outcomeOf};
@@ -38,6 +45,28 @@ fn refuses(number: u8) -> Opened
     }
 }
 
+// The parts of opening around the configurations, each a function of its own, as in sets::opening, so that what they are lent shares its place on the stack.
+fn begin(set: &[u8], limits: Limits) -> u8
+    ensures { λ r. ⌜ (r ≡ 0 → Begins limits (now (set .entry))) × ((r ≡ 0 → ⊥) → (serial : List ℕ) → r ≡ opening limits (lent (now (set .entry)) serial)) ⌝ }
+{
+    sets::checks::first_groups(set, limits)
+}
+
+fn read_strings(set: &[u8], names: &mut [u32; 8]) -> bool
+    requires { ⌜ Ordered (now set) ⌝ }
+    ensures { λ r. ⌜ Reads (now (set .entry)) (languages (now (set .entry))) r (now (names .exit)) ⌝ }
+{
+    sets::string::read(set, sets::string::string_zero(set), names)
+}
+
+fn finish(set: &[u8], serial: &[u8], configurations: Verdict, strings: bool, names: &[u32; 8]) -> u8
+    requires { ⌜ Ready (now set) (now names) strings configurations ⌝ }
+    ensures { λ r. ⌜ ((limits : Limits) → Begins limits (now (set .entry)) → configurations .good ≡ goodConfigurations limits (piecesIn (now (set .entry)))
+        → r ≡ opening limits (lent (now (set .entry)) (now (serial .entry)))) ⌝ }
+{
+    sets::checks::last_groups(set, serial, configurations, strings, names)
+}
+
 // Opening by these limits, at full or at high speed, with what is asked of the configuration that has this value, at these alternate settings.
 pub fn open_set(
     set: &[u8],
@@ -51,17 +80,17 @@ pub fn open_set(
     requires { ⌜ AtSpeed limits high ⌝ }
     ensures { λ r. ⌜ Tells (opening limits (lent (now (set .entry)) (now (serial .entry)))) (now (set .entry)) (value .0) (now (alternates .entry)) asked r ⌝ }
 {
-    let first = sets::begin(set, limits);
+    let first = begin(set, limits);
     if first != 0 {
         return refuses(first);
     }
     let mut names = [0u32; 8];
-    let strings = sets::read_strings(set, &mut names);
+    let strings = read_strings(set, &mut names);
     let passed = pass::configurations(set, high, &names, value, alternates, asked);
     let verdict = passed.verdict;
     let known = passed.known;
     Opened {
-        number: sets::finish(set, serial, verdict, strings, &names),
+        number: finish(set, serial, verdict, strings, &names),
         known,
     }
 }

@@ -1,0 +1,13 @@
+-- `tables::begin` meets its contract. No axiom.
+use borrow.Author.Needs.{needs}
+use Rattle.tables.proofs.begin.Statement.{statement}
+use Rattle.tables.proofs.begin.Tie as tie
+
+first-groups-requires : tie.Need-first-groups-requires
+first-groups-requires c κs = search needs
+
+returns : tie.Need-returns
+returns c = c .first-groups .ensures
+
+pub begin-spec : {M : Type 1} → statement M
+begin-spec = tie.close (tie.spec first-groups-requires returns)
