@@ -3,7 +3,6 @@ use events::Answer;
 use events::Event;
 use records::Change;
 use records::Device;
-use steps::facts::Given;
 ghost use mathlib.Core.Path.{_≡_};
 ghost use Rattle.sets.specs.Opening.{lent};
 ghost use Rattle.sets.specs.View.{openingOf};
@@ -45,8 +44,8 @@ fn happen(
     ensures answer { λ r. ⌜ r ≡ eventIn number (viewIn paired (now (set .entry)) (now (serial .entry))) (now (image .entry)) what .answer ⌝ }
     ensures image { λ _. ⌜ now (image .exit) ≡ eventIn number (viewIn paired (now (set .entry)) (now (serial .entry))) (now (image .entry)) what .image ⌝ }
 {
-    let device = records::read(image);
-    let reaction = steps::react(number, paired, set, serial, device, what, Given::Nothing);
+    let known = steps::facts::learn(number, set, serial, image, what);
+    let reaction = steps::react(number, paired, set, serial, image, what, known);
     let change = reaction.next;
     records::renewal::renew(image, reaction.settles, change);
     reaction.answer

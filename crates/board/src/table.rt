@@ -12,7 +12,7 @@ fn happen(set: &[u8], serial: &[u8], image: &mut [u8], what: Event) -> Answer
     ensures answer { λ r. ⌜ r ≡ event (lent (now (set .entry)) (now (serial .entry))) (now (image .entry)) what .answer ⌝ }
     ensures image { λ _. ⌜ now (image .exit) ≡ event (lent (now (set .entry)) (now (serial .entry))) (now (image .entry)) what .image ⌝ }
 {
-    let reaction = tables::react(set, serial, records::read(image), what);
+    let reaction = tables::react(set, serial, image, what);
     let change = reaction.next;
     records::renewal::renew(image, reaction.settles, change);
     reaction.answer
@@ -30,7 +30,7 @@ fn happen_two<'a>(
     ensures image { λ _. ⌜ now (image .exit) ≡ event (lentTwo (now (full .entry)) (now (high .entry)) (now (serial .entry))) (now (image .entry)) what .image ⌝ }
 {
     let speed = octets::peek(image, 7);
-    let reaction = tables::react_two(full, high, serial, speed, records::read(image), what);
+    let reaction = tables::react_two(full, high, serial, speed, image, what);
     let change = reaction.next;
     records::renewal::renew(image, reaction.settles, change);
     reaction.answer

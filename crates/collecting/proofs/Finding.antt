@@ -93,10 +93,6 @@ begins-next stand t k p = cases (stand .inside)
     (λ y. never p (rw (x, y)))))
 
 module _ {alternates : List ℕ} {asked : Asked} {f : Finds} {role : ℕ} {s : Survey} {last : Stand} (g : Found alternates asked f role s last) (d : List ℕ) where
-  -- nothing is found at other descriptors
-  pub found-other : isInterface d ≡ false → isEndpoint d ≡ false → onward alternates asked s last d ≡ s
-  found-other i k = rw (i, k, earlier-none (s .endpoint), or-false (s .there))
-
   module _ (i : isInterface d ≡ true) (low : bInterfaceNumber d < 16) (j : bAlternateSetting d < 256) (may : placed last (begunBy d) ≡ true) where
     abbrev stand : Stand
     stand = record { inside = true; interface = bInterfaceNumber d; alternate = bAlternateSetting d }

@@ -1,5 +1,4 @@
 pub mod Rules
-pub mod Models
 pub mod Finding
 pub mod Reaching
 pub mod Whole

@@ -1,23 +1,20 @@
 -- The whole body: its first descriptor, the walk behind it, and what both tell. No axiom.
-use Prim.Native.Nat.{ℕ, _/_, _%_, _≤_, _<_}
+use Prim.Native.Nat.{ℕ, _<_}
 use native.Mathlib.Omega.{arith}
 use native.Mathlib.Nat.{zero-add}
 use mathlib.Core.Path.{_≡_, refl, sym, ap, _∙_}
-use mathlib.Core.List.{List, [], _∷_}
+use mathlib.Core.List.{List}
 use mathlib.Core.Bool.{Bool, true, false, _&&_, and-true, and-false}
-use lib.ListN.{length}
-use lib.Dec.{eqb, leb, ltb}
-use borrow.Author.Tests.{eqb-true, leb-true}
+use lib.Dec.{ltb}
 use Rattle.octets.specs.Bit.{bit}
 use Rattle.octets.specs.Octets.{byte}
-use Rattle.octets.proofs.Sentences.{cases, never, conjunct}
+use Rattle.octets.proofs.Sentences.{cases, never}
 use Rattle.descriptors.specs.declared.Limits.{Limits}
 use Rattle.descriptors.specs.declared.Step.{Step}
 use Rattle.descriptors.specs.declared.check.Verdict.{Verdict}
 use Rattle.descriptors.specs.declared.survey.Asked.{Asked}
 use Rattle.descriptors.specs.declared.survey.Survey.{Survey}
-use Rattle.descriptors.specs.Descriptor.{bDescriptorType}
-use Rattle.descriptors.specs.Configuration.{wTotalLength, bNumInterfaces, configurationAttributes, bMaxPower, goodHead, Configuration, goodConfiguration}
+use Rattle.descriptors.specs.Configuration.{Configuration, goodConfiguration}
 use Rattle.descriptors.specs.Walk.{before, stepsOn, stepOf}
 use Rattle.descriptors.specs.Check.{verdict}
 use Rattle.descriptors.specs.Survey.{Surveys}
@@ -26,13 +23,6 @@ use Rattle.collecting.specs.declared.Collected.{Collected}
 use Rattle.collecting.specs.declared.walk.Finds.{Finds}
 use Rattle.collecting.specs.Collected.{Collects}
 use Rattle.collecting.specs.Course.{Tells, SurveyOf}
-
--- what a good head says of the call that walks
-pub head-short : (size : ℕ) (d : List ℕ) → goodHead size d ≡ true → ((k : ℕ) → byte d k < 256) → (size ≤ 65535) × (1 ≤ bNumInterfaces d) × (bNumInterfaces d ≤ 16)
-head-short size d p f =
-    let row = eqb (bDescriptorType d) 2 ∷ leb 9 (length d) ∷ eqb (wTotalLength d) size ∷ eqb (configurationAttributes d / 128) 1 ∷ eqb (configurationAttributes d % 32) 0 ∷ leb (bMaxPower d) 250 ∷ leb 1 (bNumInterfaces d) ∷ leb (bNumInterfaces d) 16 ∷ [] in
-    let t = eqb-true (wTotalLength d) size (conjunct 2 row p) in
-    (omega (arith, f 2, f 3), leb-true 1 (bNumInterfaces d) (conjunct 6 row p), leb-true (bNumInterfaces d) 16 (conjunct 7 row p))
 
 -- the first descriptor ends where its first byte says
 pub first-ends : (body : List ℕ) (step : Step) → step ≡ stepOf body 0 before → 0 < step .end → step .end ≡ byte body 0

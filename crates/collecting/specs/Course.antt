@@ -1,7 +1,7 @@
 -- Working definitions for the contracts of the walk that checks and collects, a descriptor at a time; no promise cites them.
-use Prim.Native.Nat.{ℕ, _+_, _-_, _*_, _/_, _%_, _<_, _≤_}
+use Prim.Native.Nat.{ℕ, _+_, _*_, _/_, _%_, _<_, _≤_}
 use mathlib.Core.List.{List}
-use mathlib.Core.Bool.{Bool, true, false, _&&_, _||_, not}
+use mathlib.Core.Bool.{Bool, true, false, _&&_}
 use mathlib.Core.Path.{_≡_}
 use lib.ListN.{length, getD, drop}
 use lib.Dec.{eqb, leb, ltb}
@@ -14,20 +14,18 @@ use Rattle.descriptors.specs.declared.lookup.EndpointFound.{EndpointFound}
 use Rattle.descriptors.specs.declared.lookup.EndpointFound.the-variants.{At, Nothing}
 use Rattle.descriptors.specs.declared.survey.Asked.{Asked}
 use Rattle.descriptors.specs.declared.survey.Survey.{Survey}
-use Rattle.descriptors.specs.Limits.{named, fullSpeed, highSpeed}
-use Rattle.descriptors.specs.Descriptor.{bDescriptorType, isInterface, isEndpoint, bInterfaceNumber, bAlternateSetting, bNumEndpoints, iInterface, bEndpointAddress, bmAttributes, transferType, goodAttributes, goodSize, goodInterval, goodEndpoint}
-use Rattle.descriptors.specs.Configuration.{bitOf}
+use Rattle.descriptors.specs.Limits.{fullSpeed, highSpeed}
+use Rattle.descriptors.specs.Descriptor.{isInterface, isEndpoint, bInterfaceNumber, bAlternateSetting, iInterface, bEndpointAddress, bmAttributes, transferType}
 use Rattle.descriptors.specs.Cut.{cut}
 use Rattle.descriptors.specs.Walk.{before, walked, collected}
 use Rattle.descriptors.specs.Check.{starting, checking, referring}
+use Rattle.descriptors.specs.Sequence.{begins, BegunBy, listable, listedIn, proceeds}
+use Rattle.descriptors.specs.Sequence.{settingOut as orderOut}
 use Rattle.descriptors.specs.Lookup.{withBit}
 use Rattle.descriptors.specs.Survey.{nothingSeen, surveying}
 use Rattle.collecting.specs.declared.walk.Wanted.{Wanted}
-use Rattle.collecting.specs.declared.walk.Order.{Order}
 use Rattle.collecting.specs.declared.walk.Finds.{Finds}
 use Rattle.collecting.specs.declared.walk.Course.{Course}
-use Rattle.collecting.specs.declared.walk.Placing.{Placing}
-use Rattle.collecting.specs.declared.walk.Begun.{Begun}
 use Rattle.collecting.specs.declared.walk.Turned.{Turned}
 use Rattle.collecting.specs.declared.walk.Walked.{Walked}
 
@@ -41,57 +39,6 @@ wantedOf asked = record {
   address = asked .address;
   interface = asked .interface;
   setting = asked .interface % 256 + 256 * asked .alternate + 16777216 * (asked .interface / 256);
-}
-
--- ---- the order of settings: the two bytes that the next interface's first setting has, after a setting whose next one would have `again`
-abbrev pub nextOf : ℕ → ℕ
-nextOf again = (again % 256 + 1) % 256
-
-abbrev pub settles : ℕ → ℕ → Bool
-settles again setting = pick (eqb setting again) (leb setting 4095) (eqb setting (nextOf again) && ltb setting 16)
-
--- `again` is no sum that overflows, and names one of 16 interfaces, if any
-pub record Low (again : ℕ) : Type 0 where
-  pub small : again < 131072
-  pub low : again ≤ 4095 → again % 256 < 16
-
--- the addresses that may not come, and those of this interface's settings, once a setting is begun
-pub record Takes (o : Order) (setting taken own : ℕ) : Type 0 where
-  pub owns : own ≡ pick (eqb setting (o .again)) (o .own) 0
-  pub takes : (e : ℕ) → e < 32 → bit taken e ≡ pick (eqb setting (o .again)) (bit (o .taken) e && not (bit (o .own) e)) (bit (o .taken) e || bit (o .own) e)
-
-pub record Places (o : Order) (setting : ℕ) (r : Placing) : Type 0 where
-  pub may : r .good ≡ settles (o .again) setting
-  pub on : r .good ≡ true → Takes o setting (r .taken) (r .own)
-
--- ---- an interface descriptor: whether it may come, and the order after it
-abbrev pub begins : Limits → Order → List ℕ → Bool
-begins limits o d = leb 9 (length d) && not (named (limits .refused) 4) && eqb (o .coming) 0 && settles (o .again) (word d 2)
-
-pub record BegunBy (o : Order) (d : List ℕ) (next : Order) : Type 0 where
-  pub again : next .again ≡ word d 2 + 256
-  pub comes : next .coming ≡ bNumEndpoints d
-  pub rest : Takes o (word d 2) (next .taken) (next .own)
-
-pub record Begins (limits : Limits) (o : Order) (d : List ℕ) (r : Begun) : Type 0 where
-  pub may : r .good ≡ begins limits o d
-  pub on : r .good ≡ true → BegunBy o d (r .order)
-
--- ---- an endpoint descriptor: its attributes, size and interval; whether it may come, and the order after it
-abbrev pub goodKind : Limits → ℕ → ℕ → ℕ → Bool
-goodKind limits attributes size interval =
-    goodAttributes attributes && goodSize limits (transferType attributes) size && goodInterval limits (transferType attributes) interval
-
-abbrev pub listable : Limits → Order → List ℕ → Bool
-listable limits o d =
-    not (named (limits .refused) 5) && goodEndpoint limits d && leb 1 (o .coming) && not (bit (o .taken) (bitOf (bEndpointAddress d)))
-
-abbrev pub listedIn : Order → List ℕ → Order
-listedIn o d = record {
-  again = o .again;
-  coming = o .coming - 1;
-  taken = setBit (o .taken) (bitOf (bEndpointAddress d));
-  own = setBit (o .own) (bitOf (bEndpointAddress d));
 }
 
 -- ---- what is found. The role of a setting: 3 is current and of the asked interface, 2 is current, 1 is the asked one, 0 is none of these
@@ -140,14 +87,11 @@ endpointIn found address = pick (eqb found 0) Nothing (At (record {
 -- ---- a descriptor of any type
 abbrev pub settingOut : Course
 settingOut = record {
-  order = record { again = 65791; coming = 0; taken = 0; own = 0 };
+  order = orderOut;
   finds = record { current = 0; halting = 0; bits = 0; endpoint = 0; there = 0 };
   role = 0;
   refers = 1;
 }
-
-abbrev pub proceeds : Limits → Order → List ℕ → Bool
-proceeds limits o d = pick (isEndpoint d) (listable limits o d) (pick (isInterface d) (begins limits o d) (not (named (limits .refused) (bDescriptorType d))))
 
 abbrev pub listedBy : Wanted → Course → List ℕ → Course
 listedBy wanted c d = record {
@@ -163,8 +107,8 @@ pub record StartedBy (names alternates : List ℕ) (wanted : Wanted) (c : Course
   pub finds : next .finds ≡ withSetting (c .finds) d (roleOf alternates wanted d) wanted
   pub refers : next .refers ≡ pick (has names (iInterface d)) (c .refers) 0
 
-pub record Starts (limits : Limits) (names alternates : List ℕ) (wanted : Wanted) (c : Course) (d : List ℕ) (r : Turned) : Type 0 where
-  pub may : r .good ≡ begins limits (c .order) d
+pub record Starts (names alternates : List ℕ) (wanted : Wanted) (c : Course) (d : List ℕ) (r : Turned) : Type 0 where
+  pub may : r .good ≡ begins (c .order) d
   pub on : r .good ≡ true → StartedBy names alternates wanted c d (r .course)
 
 pub record Lists (limits : Limits) (wanted : Wanted) (c : Course) (d : List ℕ) (r : Turned) : Type 0 where

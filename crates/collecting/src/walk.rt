@@ -1,40 +1,27 @@
 // One walk that checks a configuration body and collects what is asked of it. A descriptor's type is asked first, and that a descriptor which is only
 // stepped over ends inside the body only by where the walk ends. What the walk keeps are numbers of one width, so that a compiler keeps them in registers.
-use descriptors::Limits;
-use descriptors::check::good_address;
-use descriptors::check::is_doubled;
-use descriptors::check::is_named;
-use descriptors::check::is_sized;
-use descriptors::check::is_within;
-use descriptors::lookup::bit_of;
+use descriptors::check::is_refused;
 use descriptors::lookup::with_bit;
+use descriptors::sequence;
+use descriptors::sequence::Order;
 use descriptors::survey::Asked;
 use octets::table::holds;
 ghost use mathlib.Core.Path.{_≡_};
-ghost use mathlib.Core.Bool.{Bool, true};
-ghost use Prim.Native.Nat.{_<_, _≤_};
+ghost use mathlib.Core.Bool.{true};
+ghost use Prim.Native.Nat.{_<_};
 ghost use lib.Dec.{eqb};
 ghost use Rattle.octets.specs.Bit.{setBit};
 ghost use Rattle.octets.specs.Sentences.{pick};
 ghost use Rattle.octets.specs.Table.{has};
 ghost use Rattle.descriptors.specs.Descriptor.{bInterfaceNumber};
-ghost use Rattle.collecting.specs.Course.{limitsAt, wantedOf, nextOf, Low, Places, Begins, goodKind, listable, listedIn, roleOf, withSetting, firstFound, atOther, atCurrent, withEndpoint, settingOut, Starts, Lists, Turns, Ready, Rests};
+ghost use Rattle.descriptors.specs.Sequence.{Low, goodKind, listable};
+ghost use Rattle.collecting.specs.Course.{limitsAt, wantedOf, roleOf, withSetting, firstFound, atOther, atCurrent, withEndpoint, settingOut, Starts, Lists, Turns, Ready, Rests};
 
 // What is asked, as the walk compares it: an address, an interface, and a setting by one number.
 pub struct Wanted {
     pub address: u32,
     pub interface: u32,
     pub setting: u32,
-}
-
-// How far the check is. The two bytes of a setting, its interface's number and its alternate, are one number: `again` is that of this interface's next
-// setting, and before the first interface none that a setting has. `coming` endpoints are still to come; `taken` are the addresses that may not come
-// in this setting, `own` those of this interface's settings.
-struct Order {
-    again: u32,
-    coming: u32,
-    taken: u32,
-    own: u32,
 }
 
 // What was found so far: a survey's words; the endpoint asked for, in one number, or 0; 1 if the setting asked for is there.
@@ -52,19 +39,6 @@ struct Course {
     finds: Finds,
     role: u32,
     refers: u32,
-}
-
-// A setting that comes: whether it may, and the addresses then.
-struct Placing {
-    good: bool,
-    taken: u32,
-    own: u32,
-}
-
-// An interface descriptor: whether it may come, and the order then.
-struct Begun {
-    good: bool,
-    order: Order,
 }
 
 // One more descriptor: whether it may come, and how far the walk is then.
@@ -95,12 +69,7 @@ fn set_out() -> Course
     ensures { λ r. ⌜ r ≡ settingOut ⌝ }
 {
     Course {
-        order: Order {
-            again: 65791,
-            coming: 0,
-            taken: 0,
-            own: 0,
-        },
+        order: sequence::set_out(),
         finds: Finds {
             current: 0,
             halting: 0,
@@ -113,127 +82,29 @@ fn set_out() -> Course
     }
 }
 
-// The number of the next interface's first setting.
-fn next_of(again: u32) -> u32
-    ensures { λ r. ⌜ r ≡ nextOf again ⌝ }
-{
-    (again % 256 + 1) % 256
-}
-
-// A setting that comes, by its number.
-fn place(order: Order, setting: u32) -> Placing
-    ensures { λ r. ⌜ Places order setting r ⌝ }
-{
-    if setting == order.again {
-        return Placing {
-            good: setting <= 4095,
-            taken: octets::without(order.taken, order.own),
-            own: order.own,
-        };
-    }
-    if setting == next_of(order.again) {
-        return Placing {
-            good: setting < 16,
-            taken: order.taken | order.own,
-            own: 0,
-        };
-    }
-    Placing {
-        good: false,
-        taken: order.taken,
-        own: order.own,
-    }
-}
-
-// An interface descriptor, as to the check; every speed allows its type.
-fn begin(d: &[u8], order: Order) -> Begun
-    ensures { λ r. ⌜ ((high : Bool) → Begins (limitsAt high) order (now (d .entry)) r) ⌝ }
-{
-    if d.len() < 9 {
-        return Begun { good: false, order };
-    }
-    if order.coming != 0 {
-        return Begun { good: false, order };
-    }
-    let setting = octets::word(d, 2) as u32;
-    let placed = place(order, setting);
-    Begun {
-        good: placed.good,
-        order: Order {
-            again: setting + 256,
-            coming: octets::peek(d, 4) as u32,
-            taken: placed.taken,
-            own: placed.own,
-        },
-    }
-}
-
-// An endpoint's attributes, size and interval, by a speed's limits.
-fn good_kind_by(limits: Limits, attributes: u8, size: u16, interval: u8) -> bool
-    ensures { λ r. ⌜ r ≡ goodKind limits attributes size interval ⌝ }
-{
-    if attributes == 3 {
-        return is_sized(limits, limits.interrupt, size)
-            & is_within(limits.polling, interval as u16);
-    }
-    if attributes == 2 {
-        return is_doubled(limits.bulk, size);
-    }
-    if attributes % 4 == 1 {
-        return (attributes <= 63)
-            & is_sized(limits, limits.isochronous, size)
-            & is_within(limits.period, interval as u16);
-    }
-    false
-}
-
-// The same at a speed. The limits of both are known here: a compiler then compares with constants.
+// An endpoint's attributes, size and interval at a speed. The limits of both are known here: a compiler then compares with constants.
 fn good_kind(high: bool, attributes: u8, size: u16, interval: u8) -> bool
     ensures { λ r. ⌜ r ≡ goodKind (limitsAt high) attributes size interval ⌝ }
 {
     if high {
-        return good_kind_by(descriptors::high_speed(), attributes, size, interval);
+        return sequence::good_kind_in(descriptors::high_ranges(), attributes, size, interval);
     }
-    good_kind_by(descriptors::full_speed(), attributes, size, interval)
+    sequence::good_kind_in(descriptors::full_ranges(), attributes, size, interval)
 }
 
 // An endpoint descriptor may come; every speed allows its type.
 fn may_list(d: &[u8], order: Order, high: bool) -> bool
     ensures { λ r. ⌜ r ≡ listable (limitsAt high) order (now (d .entry)) ⌝ }
 {
-    if d.len() < 7 {
-        return false;
-    }
-    if order.coming == 0 {
-        return false;
-    }
-    let address = octets::peek(d, 2);
-    if good_address(address) {
-        if good_kind(
+    if sequence::may_come(d, order) {
+        return good_kind(
             high,
             octets::peek(d, 3),
             octets::word(d, 4),
             octets::peek(d, 6),
-        ) {
-            return !octets::test_bit(order.taken, bit_of(address));
-        }
-        return false;
+        );
     }
     false
-}
-
-// The order after it.
-fn listed_in(d: &[u8], order: Order) -> Order
-    requires { ⌜ 1 ≤ order .coming ⌝ }
-    ensures { λ r. ⌜ r ≡ listedIn order (now (d .entry)) ⌝ }
-{
-    let e = bit_of(octets::peek(d, 2));
-    Order {
-        again: order.again,
-        coming: order.coming - 1,
-        taken: octets::set_bit(order.taken, e),
-        own: octets::set_bit(order.own, e),
-    }
 }
 
 // Whether every reference is in `names`, after one more: number 0 is, and is the most frequent.
@@ -373,7 +244,7 @@ fn list(d: &[u8], course: Course, high: bool, wanted: Wanted) -> Turned
         return Turned {
             good: true,
             course: Course {
-                order: listed_in(d, order),
+                order: sequence::list(d, order),
                 finds: with_endpoint(finds, d, order.again, course.role, wanted),
                 role: course.role,
                 refers: course.refers,
@@ -395,11 +266,11 @@ fn start(
     wanted: Wanted,
 ) -> Turned
     requires { ⌜ Low (course .order .again) × (has (now names) 0 ≡ true) ⌝ }
-    ensures { λ r. ⌜ ((high : Bool) → Starts (limitsAt high) (now (names .entry)) (now (alternates .entry)) wanted course (now (d .entry)) r) ⌝ }
+    ensures { λ r. ⌜ Starts (now (names .entry)) (now (alternates .entry)) wanted course (now (d .entry)) r ⌝ }
 {
     let order = course.order;
     let finds = course.finds;
-    let begun = begin(d, order);
+    let begun = sequence::begin(d, order);
     if begun.good {
         let next = begun.order;
         let role = role_of(d, alternates, wanted);
@@ -439,7 +310,7 @@ fn turn(
         return start(d, course, names, alternates, wanted);
     }
     Turned {
-        good: !is_named(0xCE, t),
+        good: !is_refused(t),
         course,
     }
 }
@@ -483,7 +354,7 @@ pub fn rest(
         }
         let end = at + size;
         if 8 <= t {
-            at = descriptors::behind(body, at, end);
+            at = descriptors::behind(body, end);
             continue;
         }
         if body.len() < end {
@@ -500,7 +371,7 @@ pub fn rest(
     }
     let order = course.order;
     let ends = (at == body.len())
-        & (next_of(order.again) == interfaces as u32)
+        & (sequence::next_of(order.again) == interfaces as u32)
         & (order.coming == 0);
     told(course, ends)
 }

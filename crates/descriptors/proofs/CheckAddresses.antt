@@ -19,8 +19,7 @@ use Rattle.descriptors.specs.declared.Setting.{Setting}
 use Rattle.descriptors.specs.declared.Endpoint.{Endpoint}
 use Rattle.descriptors.specs.declared.Stand.{Stand}
 use Rattle.descriptors.specs.declared.check.Progress.{Progress}
-use Rattle.descriptors.specs.Limits.{named}
-use Rattle.descriptors.specs.Descriptor.{bDescriptorType, isInterface, isEndpoint, bInterfaceNumber, bEndpointAddress, bmAttributes, wMaxPacketSize, bInterval, transferType, goodAddress, goodAttributes, goodSize, goodInterval, goodEndpoint, goodDescriptor}
+use Rattle.descriptors.specs.Descriptor.{bDescriptorType, isInterface, isEndpoint, bInterfaceNumber, bEndpointAddress, bmAttributes, wMaxPacketSize, bInterval, transferType, goodAddress, goodAttributes, goodSize, goodInterval, typeAllowed, goodEndpoint, goodDescriptor}
 use Rattle.descriptors.specs.Interfaces.{Group, Groups, grouped, begunBy, settingOf, endpointOf, endpointsOf, follows, apart}
 use Rattle.descriptors.specs.Configuration.{bitOf}
 use Rattle.descriptors.specs.Walk.{before}
@@ -50,7 +49,7 @@ own-bit a b p q e = by-bit a p ∙ ap (λ (x : ℕ). x % 16 + 128 * (x / 16)) e 
 
 good-address : (limits : Limits) (d : List ℕ) → goodDescriptor limits d ≡ true → isEndpoint d ≡ true → goodAddress (bEndpointAddress d) ≡ true
 good-address limits d p q =
-    let e = if-then (isEndpoint d) (goodEndpoint limits d) (conjunct 2 (not (named (limits .refused) (bDescriptorType d)) ∷ (isInterface d ⇒ leb 9 (length d)) ∷ (isEndpoint d ⇒ goodEndpoint limits d) ∷ []) p) q in
+    let e = if-then (isEndpoint d) (goodEndpoint limits d) (conjunct 2 (typeAllowed (bDescriptorType d) ∷ (isInterface d ⇒ leb 9 (length d)) ∷ (isEndpoint d ⇒ goodEndpoint limits d) ∷ []) p) q in
     let transfer = transferType (bmAttributes d) in
     conjunct 1 (leb 7 (length d) ∷ goodAddress (bEndpointAddress d) ∷ goodAttributes (bmAttributes d) ∷ goodSize limits transfer (wMaxPacketSize d) ∷ goodInterval limits transfer (bInterval d) ∷ []) e
 

@@ -82,14 +82,16 @@ module _ (f : ℕ → Bool) (body : List ℕ) (stand : Stand) (at : ℕ) (sofar 
 pub refused : {good : Bool} (refers : Bool) → false ≡ good → verdict false false ≡ verdict good refers
 refused refers p = ap (λ good. verdict good refers) p
 
--- a good one with one reference more
-pub with-more : (v : Verdict) (good refers more : Bool) → v ≡ verdict good refers → record { good = v .good; refers = v .refers && more } ≡ verdict good (more && refers)
-with-more v good refers more p = rw p (ap (λ b. record { good = good; refers = b }) (go good refers more))
+-- a good one with one reference more, if companions stand where they are to
+pub with-more : (v : Verdict) (good refers companions more : Bool) → v ≡ verdict good refers
+    → record { good = v .good && companions; refers = v .good && companions && v .refers && more } ≡ verdict (good && companions) (more && refers)
+with-more v good refers companions more p = rw p (ap (λ b. record { good = good && companions; refers = b }) (go good companions refers more))
   where
-    go : (a b c : Bool) → (a && b && c) ≡ (a && (c && b))
-    go true true c = sym (and-true c)
-    go true false c = sym (and-false c)
-    go false b c = refl
+    go : (a b c d : Bool) → (a && b && (a && c) && d) ≡ (a && b && (d && c))
+    go true true true d = sym (and-true d)
+    go true true false d = sym (and-false d)
+    go true false c d = refl
+    go false b c d = refl
 
 -- what a good one tells
 pub told : (v : Verdict) (good refers : Bool) → v ≡ verdict good refers → v .good ≡ true → v .refers ≡ refers

@@ -8,7 +8,7 @@ use mathlib.Core.Bool.{Bool, true, false, _&&_, and-true, and-false}
 use mathlib.Core.Option.{some, none}
 use lib.ListN.{length, take, drop}
 use lib.Dec.{eqb, leb, ltb}
-use borrow.Author.Tests.{eqb-true, le-ltb, ltb-true, ltb-false}
+use borrow.Author.Tests.{eqb-true, leb-true, le-ltb, ltb-true, ltb-false}
 use Rattle.octets.specs.Octets.{byte}
 use Rattle.octets.specs.Sentences.{pick, _⇒_, every, pairs, isEmpty}
 use Rattle.octets.proofs.Sentences.{cases, conjunct}
@@ -22,7 +22,8 @@ use Rattle.descriptors.specs.Interfaces.{grouped, settingOf, endpointsOf
 use Rattle.descriptors.specs.Companion.{goodCompanions}
 use Rattle.descriptors.specs.Configuration.{bNumInterfaces, wTotalLength, configurationAttributes, bMaxPower, goodHead, goodDescriptors, goodConfiguration}
 use Rattle.descriptors.specs.Walk.{before, standOf, stepOf, orElse, walked}
-use Rattle.descriptors.specs.Check.{inOrder, unshared, allowed, onward, accompanied, ended, beginning, Course, starting, passing, checking}
+use Rattle.descriptors.specs.Check.{inOrder, unshared, allowed, onward, accompanied, ended, beginning, Course, starting, passing, checking, accompanying}
+use Rattle.descriptors.specs.Sequence.{unaccompanied}
 use Rattle.descriptors.proofs.CheckOrder.{ordered, passed, order-same, from-beginning}
 use Rattle.descriptors.proofs.CheckAddresses.{unsharedAll, addresses-same}
 use Rattle.descriptors.proofs.CheckCompanions.{after, after-one, companions-same}
@@ -69,26 +70,42 @@ rest-same limits n cs =
     ∙ ap (λ (b : Bool). wellCut cs && (b && (limits .companions ⇒ after false ds))) (regrouped (every (goodDescriptor limits) ds) (goodSettings n (map settingOf (gs .groups))) (isEmpty (gs .loose)) (every counted (gs .groups)) (pairs apart (endpointsOf (gs .groups)))
     (λ g s e. addresses-same limits n ds g e (from-beginning n (map settingOf (gs .groups)) ∙ s)))
 
+-- ---- companions by themselves
+companions-rules : (due : Bool) (last : Stand) (cs : Cutting) → walked accompanying due last cs ≡ (wellCut cs && after due (descriptorsOf cs))
+unfolding walked wellCut descriptorsOf after
+companions-rules due last whole = refl
+companions-rules due last broken = refl
+companions-rules due last (descriptor d ds) = rw (companions-rules (isEndpoint d) (standOf last d) ds) (go (accompanied due d) (wellCut ds) (after (isEndpoint d) (descriptorsOf ds)))
+  where
+    go : (a b c : Bool) → orElse (pick a none (some false)) (b && c) ≡ (b && (a && c))
+    go true b c = refl
+    go false b c = sym (and-false b)
+
+pub companions-apart : (limits : Limits) (n : ℕ) (cs : Cutting)
+    → walked (checking limits n) starting before cs ≡ (walked (checking (unaccompanied limits) n) starting before cs && (limits .companions ⇒ walked accompanying false before cs))
+companions-apart limits n cs =
+    let good = every (goodDescriptor limits) (descriptorsOf cs) && goodInterfaces n (grouped (descriptorsOf cs)) in
+    rw (rest-same limits n cs, rest-same (unaccompanied limits) n cs, companions-rules false before cs) (go (wellCut cs) good (limits .companions) (after false (descriptorsOf cs)))
+  where
+    go : (w x c a : Bool) → (w && (x && (c ⇒ a))) ≡ ((w && (x && true)) && (c ⇒ (w && a)))
+    go true x c a = rw (and-true x)
+    go false x c a = refl
+
+pub companions-stuck : {body : List ℕ} {total due : Bool} {last : Stand} {at : ℕ} → Walking accompanying body total due last at
+    → {step : Step} → step ≡ stepOf body at last → at < length body → step .end ≤ at → false ≡ total
+companions-stuck {body} {total} {due} {last} {at} walking e h m =
+    sym (walking .rest ∙ companions-rules due last (cut (drop at body)) ∙ rw (stuck body at last h (rw e at m)))
+
 -- ---- a turn of the loop: what is asked of one descriptor, and what is known after it
 pub unasked : {a : Bool} (b : Bool) → a ≡ false → (a ⇒ b) ≡ true
 unasked b p = rw p
-
-pub asked-of : {a b c : Bool} → a ≡ true → b ≡ c → (a ⇒ b) ≡ c
-asked-of p q = rw (p, q)
 
 module _ (limits : Limits) (n : ℕ) (c : Course) (last stand : Stand) (d : List ℕ) where
   pub pass-on : allowed limits (c .progress) last stand d ≡ true → (limits .companions ⇒ accompanied (c .due) d) ≡ true → checking limits n .stop c last stand d ≡ none
   pass-on p q = rw (p, q)
 
-  pub pass-not : allowed limits (c .progress) last stand d ≡ true → (limits .companions ⇒ accompanied (c .due) d) ≡ false → checking limits n .stop c last stand d ≡ some false
-  pass-not p q = rw (p, q)
-
   pub pass-none : allowed limits (c .progress) last stand d ≡ false → checking limits n .stop c last stand d ≡ some false
   pass-none p = rw p
-
-  pub passed-with : (progress : Progress) (due : Bool) → progress ≡ onward (c .progress) last stand d → limits .companions ≡ true → due ≡ isEndpoint d
-      → record { progress = progress; due = due } ≡ passing limits c last stand d
-  passed-with progress due p q r = rw (p, q, r)
 
   pub passed-without : (progress : Progress) → progress ≡ onward (c .progress) last stand d → limits .companions ≡ false → record { progress = progress; due = c .due } ≡ passing limits c last stand d
   passed-without progress p q = rw (p, q)
@@ -111,6 +128,13 @@ headed : (size : ℕ) (d : List ℕ) → goodHead size d ≡ true → bDescripto
 headed size d p =
     let rules = eqb (bDescriptorType d) 2 ∷ leb 9 (length d) ∷ eqb (wTotalLength d) size ∷ eqb (configurationAttributes d / 128) 1 ∷ eqb (configurationAttributes d % 32) 0 ∷ leb (bMaxPower d) 250 ∷ leb 1 (bNumInterfaces d) ∷ leb (bNumInterfaces d) 16 ∷ [] in
     eqb-true (bDescriptorType d) 2 (conjunct 0 rules p)
+
+-- what a good head says of the call that walks
+pub head-short : (size : ℕ) (d : List ℕ) → goodHead size d ≡ true → ((k : ℕ) → byte d k < 256) → (size ≤ 65535) × (1 ≤ bNumInterfaces d) × (bNumInterfaces d ≤ 16)
+head-short size d p f =
+    let rules = eqb (bDescriptorType d) 2 ∷ leb 9 (length d) ∷ eqb (wTotalLength d) size ∷ eqb (configurationAttributes d / 128) 1 ∷ eqb (configurationAttributes d % 32) 0 ∷ leb (bMaxPower d) 250 ∷ leb 1 (bNumInterfaces d) ∷ leb (bNumInterfaces d) 16 ∷ [] in
+    let t = eqb-true (wTotalLength d) size (conjunct 2 rules p) in
+    (omega (arith, f 2, f 3), leb-true 1 (bNumInterfaces d) (conjunct 6 rules p), leb-true (bNumInterfaces d) 16 (conjunct 7 rules p))
 
 module _ (body : List ℕ) (step : Step) (e : step ≡ stepOf body 0 before) where
   nothing : length body ≤ 0 → step .end ≡ 0

@@ -9,7 +9,7 @@ use borrow.Author.Tests.{eqb-true, ne-eqb, leb-true, le-leb, ltb-true, ltb-false
 use Rattle.octets.specs.Sentences.{pick, every, any, below, member}
 use Rattle.octets.proofs.Sentences.{cases, same-test, both, joined, below-at}
 use Rattle.octets.proofs.Bits.{bit-past}
-use Rattle.descriptors.specs.Limits.{fullSpeed, doubled, named}
+use Rattle.descriptors.specs.Limits.{refusedTypes, fullSpeed, doubled, named}
 use Rattle.descriptors.specs.Descriptor.{goodSize, goodInterval}
 
 -- "8, 16, 32 or 64" of bMaxPacketSize0 and of bulk
@@ -95,6 +95,6 @@ unfolding every any below alike
 entry-types = these 8 14 (1 ∷ 2 ∷ 3 ∷ []) (omega arith) refl refl
 
 -- "After it, types 1, 2, 3, 6 and 7 are refused"
-pub refused-types : (t : ℕ) → named (fullSpeed .refused) t ≡ member t (1 ∷ 2 ∷ 3 ∷ 6 ∷ 7 ∷ [])
+pub refused-types : (t : ℕ) → named refusedTypes t ≡ member t (1 ∷ 2 ∷ 3 ∷ 6 ∷ 7 ∷ [])
 unfolding every any below alike
 refused-types = these 8 206 (1 ∷ 2 ∷ 3 ∷ 6 ∷ 7 ∷ []) (omega arith) refl refl

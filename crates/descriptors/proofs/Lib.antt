@@ -6,7 +6,10 @@ pub mod CheckWhole
 pub mod GoodBody
 pub mod Ahead
 pub mod CheckReferences
-pub mod Alike
+pub mod Plains
+pub mod SequenceRules
+pub mod Models
+pub mod Reaching
 pub mod EndpointBits
 pub mod Alternates
 pub mod Surveying

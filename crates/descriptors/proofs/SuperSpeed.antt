@@ -35,11 +35,7 @@ isochronous-intervals interval = refl
 pub bulk-intervals : (interval : ℕ) → goodInterval superSpeed 2 interval ≡ true
 bulk-intervals interval = refl
 
--- entries of types 1, 2, 3 and 15; in a configuration body types 1, 2, 3, 6 and 7 are refused, as ever
+-- entries of types 1, 2, 3 and 15
 pub entry-types : (t : ℕ) → named (superSpeed .entries) t ≡ member t (1 ∷ 2 ∷ 3 ∷ 15 ∷ [])
 unfolding every any below alike
 entry-types = these 16 32782 (1 ∷ 2 ∷ 3 ∷ 15 ∷ []) (omega arith) refl refl
-
-pub refused-types : (t : ℕ) → named (superSpeed .refused) t ≡ member t (1 ∷ 2 ∷ 3 ∷ 6 ∷ 7 ∷ [])
-unfolding every any below alike
-refused-types = these 8 206 (1 ∷ 2 ∷ 3 ∷ 6 ∷ 7 ∷ []) (omega arith) refl refl

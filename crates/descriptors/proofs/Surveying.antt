@@ -1,14 +1,16 @@
 -- A survey of a body: what each descriptor adds to it, and what it tells once the walk is over. No axiom.
-use Prim.Native.Nat.{ℕ, _<_}
+use Prim.Native.Nat.{ℕ, _+_, _<_}
+use native.Mathlib.Nat.{add-sub-cancel-left}
 use native.Mathlib.Omega.{arith}
 use mathlib.Core.Path.{_≡_, refl, sym, ap, _∙_}
-use mathlib.Core.List.{List, [], _∷_}
+use mathlib.Core.List.{List, _∷_}
 use mathlib.Core.Bool.{Bool, true, false, _&&_, _||_, or-assoc, or-false, and-true, and-false}
 use mathlib.Core.Option.{Option, some}
-use lib.ListN.{getD, drop}
+use lib.ListN.{length, getD, drop}
 use lib.Dec.{eqb, ltb}
 use borrow.Author.Tests.{eqb-true, ne-eqb, ltb-false}
 use Rattle.octets.specs.Bit.{bit}
+use Rattle.octets.specs.Octets.{byte}
 use Rattle.octets.specs.Sentences.{pick, any, only, first}
 use Rattle.octets.proofs.Sentences.{cases, first-only, only-only}
 use Rattle.octets.proofs.Bits.{bit-zero}
@@ -16,6 +18,7 @@ use Rattle.octets.proofs.Words.{set-digit}
 use Rattle.descriptors.specs.declared.Setting.{Setting}
 use Rattle.descriptors.specs.declared.Endpoint.{Endpoint}
 use Rattle.descriptors.specs.declared.Stand.{Stand}
+use Rattle.descriptors.specs.declared.Step.{Step}
 use Rattle.descriptors.specs.declared.lookup.EndpointFound.{EndpointFound}
 use Rattle.descriptors.specs.declared.lookup.EndpointFound.the-variants.{At, Nothing}
 use Rattle.descriptors.specs.declared.survey.Asked.{Asked}
@@ -24,11 +27,12 @@ use Rattle.descriptors.specs.Cut.{Cutting, cut, descriptorsOf}
 use Rattle.descriptors.specs.Descriptor.{bDescriptorType, isInterface, isEndpoint}
 use Rattle.descriptors.specs.Interfaces.{begunBy}
 use Rattle.descriptors.specs.Configuration.{configurationOf, isCurrent, canHalt}
-use Rattle.descriptors.specs.Walk.{before, standOf, walked}
+use Rattle.descriptors.specs.Walk.{before, standOf, stepOf, Plain, Plains, walked}
 use Rattle.descriptors.specs.Lookup.{found, beginsOne, lists, listed, listsOne, withBit, bitsFrom, bitsOf}
 use Rattle.descriptors.specs.Survey.{isSetting, currentAt, currentHalting, changing, noting, earlier, foundHere, nothingSeen, onward, atCurrent, atOther, surveying, Surveys}
-use Rattle.descriptors.proofs.Walk.{gathers}
-use Rattle.descriptors.proofs.Ahead.{Begun, settings-begin, endpointsUnder, endpoints-begin}
+use Rattle.descriptors.proofs.Walk.{spanned, Walking, walk-on, gathers}
+use Rattle.descriptors.proofs.Ahead.{Place, steps, turn, Begun, settings-begin, endpointsUnder, endpoints-begin}
+use Rattle.descriptors.proofs.Plains.{plains-through, no-interface, no-endpoint}
 
 -- ---- the words of interfaces
 noting-digit : (w n k : ℕ) → k < 32 → bit (noting w n) k ≡ (bit w k || eqb n k)
@@ -173,3 +177,23 @@ module _ (alternates : List ℕ) (asked : Asked) where
         bits = tells-bits (changing alternates asked) (λ s. s .bits) (λ s stand d. refl) nothingSeen before cs
             ∙ sym (ap bitsOf (ap (only (changing alternates asked)) (endpoints-begin b)));
       })
+
+-- ---- descriptors of types that no walk looks at: a survey stays as it is behind them
+pub adds-nothing : (alternates : List ℕ) (asked : Asked) (s : Survey) (stand : Stand) (d : List ℕ) → isInterface d ≡ false → isEndpoint d ≡ false → onward alternates asked s stand d ≡ s
+adds-nothing alternates asked s stand d i k = rw (i, k, earlier-none (s .endpoint), or-false (s .there))
+
+module _ (alternates : List ℕ) (asked : Asked) (body : List ℕ) (total s : Survey) (stand : Stand) where
+  abbrev Stays : ℕ → Type 0
+  Stays r = Place body r × Walking (surveying alternates asked) body total s stand r
+
+  stays : (r : ℕ) → Plain body r → Place body r → Walking (surveying alternates asked) body total s stand r → Stays (r + byte body r)
+  stays r d p w =
+      let h : r < length body = omega (arith, d .inside) in
+      let i = no-interface body r d in
+      let span = spanned body r (r + byte body r) in
+      let e : _≡_ {A = Step} (record { end = r + byte body r; stand = standOf stand (spanned body r (r + byte body r)) }) (stepOf body r stand) = rw (steps body r p h, add-sub-cancel-left) in
+      let t = turn body r stand p h _ e in
+      (t .place, rw i at (walk-on w e h (t .on) refl (sym (adds-nothing alternates asked s (standOf stand span) span i (no-endpoint body r d)))))
+
+  pub survey-behind : {from r : ℕ} → Plains body from r → Stays from → Stays r
+  survey-behind ds p = plains-through Stays (λ r d q. stays r d (q .0) (q .1)) ds p

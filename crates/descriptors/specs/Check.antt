@@ -56,10 +56,10 @@ allowed limits w last stand d = goodDescriptor limits d && inOrder w last stand 
 
 -- the same of an interface descriptor, and of an endpoint descriptor
 abbrev pub mayBegin : Limits → Progress → Stand → Stand → List ℕ → Bool
-mayBegin limits w last stand d = interfaceLongEnough d && (typeAllowed limits 4 && allCame w && placed last (settingAt stand))
+mayBegin limits w last stand d = interfaceLongEnough d && (typeAllowed 4 && allCame w && placed last (settingAt stand))
 
 abbrev pub mayList : Limits → Progress → List ℕ → Bool
-mayList limits w d = typeAllowed limits 5 && goodEndpoint limits d && oneMayCome w && fresh w (bEndpointAddress d)
+mayList limits w d = typeAllowed 5 && goodEndpoint limits d && oneMayCome w && fresh w (bEndpointAddress d)
 
 -- what is known after it: after an interface descriptor, after an endpoint descriptor, and after either, or another
 abbrev pub atInterface : Progress → Stand → Stand → List ℕ → Progress
@@ -113,6 +113,10 @@ checking limits n = testing
     (λ c last stand d. allowed limits (c .progress) last stand d && (limits .companions ⇒ accompanied (c .due) d))
     (passing limits)
     (λ c last. ended n (c .progress) last && (limits .companions ⇒ not (c .due)))
+
+-- as to companions alone: whether one is due
+abbrev pub accompanying : Walk Bool Bool
+accompanying = testing (λ due last stand d. accompanied due d) (λ due last stand d. isEndpoint d) (λ due last. not due)
 
 -- the string reference of a descriptor, if it has one; the walk that collects those behind the first
 abbrev pub referenceOf : List ℕ → List ℕ

@@ -6,8 +6,10 @@ use lib.ListN.{length}
 use lib.Dec.{eqb, leb}
 use Rattle.octets.specs.Octets.{byte, word}
 use Rattle.octets.specs.Sentences.{_⇒_}
+use Rattle.descriptors.specs.declared.Range.{Range}
+use Rattle.descriptors.specs.declared.Ranges.{Ranges}
 use Rattle.descriptors.specs.declared.Limits.{Limits}
-use Rattle.descriptors.specs.Limits.{within, doubled, named}
+use Rattle.descriptors.specs.Limits.{rangesOf, refusedTypes, within, doubled, named}
 
 abbrev pub bDescriptorType : List ℕ → ℕ
 bDescriptorType d = byte d 1
@@ -74,32 +76,35 @@ middleBitsZero attributes = leb attributes 3 || eqb (transferType attributes) 1
 abbrev pub goodAttributes : ℕ → Bool
 goodAttributes attributes = highBitsZero attributes && notControl attributes && middleBitsZero attributes
 
+abbrev pub ranges : Limits → Ranges
+ranges limits = rangesOf (limits .speed)
+
 -- a size of interrupt or isochronous: its bits 10–0 in the range, its bits 15–11 at most the speed's
-abbrev pub sized : Limits → ℕ → ℕ → ℕ → Bool
-sized limits least most size = leb least (size % 2048) && leb (size % 2048) most && leb (size / 2048) (limits .bursts)
+abbrev pub sized : ℕ → Range → ℕ → Bool
+sized bursts range size = leb (range .least) (size % 2048) && leb (size % 2048) (range .most) && leb (size / 2048) bursts
 
 -- "wMaxPacketSize: bulk 8, 16, 32 or 64"
 abbrev pub bulkSize : Limits → ℕ → ℕ → Bool
-bulkSize limits transfer size = eqb transfer 2 ⇒ doubled (limits .bulk) size
+bulkSize limits transfer size = eqb transfer 2 ⇒ doubled (ranges limits .bulk) size
 
 -- "interrupt 0–64"
 abbrev pub interruptSize : Limits → ℕ → ℕ → Bool
-interruptSize limits transfer size = eqb transfer 3 ⇒ sized limits (limits .interrupt .least) (limits .interrupt .most) size
+interruptSize limits transfer size = eqb transfer 3 ⇒ sized (ranges limits .bursts) (ranges limits .interrupt) size
 
 -- "isochronous 0–1,023"
 abbrev pub isochronousSize : Limits → ℕ → ℕ → Bool
-isochronousSize limits transfer size = eqb transfer 1 ⇒ sized limits (limits .isochronous .least) (limits .isochronous .most) size
+isochronousSize limits transfer size = eqb transfer 1 ⇒ sized (ranges limits .bursts) (ranges limits .isochronous) size
 
 abbrev pub goodSize : Limits → ℕ → ℕ → Bool
 goodSize limits transfer size = bulkSize limits transfer size && interruptSize limits transfer size && isochronousSize limits transfer size
 
 -- "bInterval: interrupt 1–255"
 abbrev pub interruptInterval : Limits → ℕ → ℕ → Bool
-interruptInterval limits transfer interval = eqb transfer 3 ⇒ within (limits .polling) interval
+interruptInterval limits transfer interval = eqb transfer 3 ⇒ within (ranges limits .polling) interval
 
 -- "isochronous 1–16, bulk free"
 abbrev pub isochronousInterval : Limits → ℕ → ℕ → Bool
-isochronousInterval limits transfer interval = eqb transfer 1 ⇒ within (limits .period) interval
+isochronousInterval limits transfer interval = eqb transfer 1 ⇒ within (ranges limits .period) interval
 
 abbrev pub goodInterval : Limits → ℕ → ℕ → Bool
 goodInterval limits transfer interval = interruptInterval limits transfer interval && isochronousInterval limits transfer interval
@@ -117,8 +122,8 @@ goodEndpoint limits d =
     goodInterval limits (transferType (bmAttributes d)) (bInterval d)
 
 -- "After it, types 1, 2, 3, 6 and 7 are refused"
-abbrev pub typeAllowed : Limits → ℕ → Bool
-typeAllowed limits t = not (named (limits .refused) t)
+abbrev pub typeAllowed : ℕ → Bool
+typeAllowed t = not (named refusedTypes t)
 
 -- "4 needs at least 9 bytes"
 abbrev pub interfaceLongEnough : List ℕ → Bool
@@ -127,6 +132,6 @@ interfaceLongEnough d = leb 9 (length d)
 -- "any other type is stepped over"
 abbrev pub goodDescriptor : Limits → List ℕ → Bool
 goodDescriptor limits d =
-    typeAllowed limits (bDescriptorType d) &&
+    typeAllowed (bDescriptorType d) &&
     (isInterface d ⇒ interfaceLongEnough d) &&
     (isEndpoint d ⇒ goodEndpoint limits d)

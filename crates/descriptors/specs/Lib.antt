@@ -6,6 +6,7 @@ pub mod Companion
 pub mod Configuration
 pub mod Walk
 pub mod Check
+pub mod Sequence
 pub mod Lookup
 pub mod Survey
 pub mod Endpoints

@@ -4,41 +4,73 @@ use mathlib.Core.Bool.{Bool, true, false, _&&_, _||_}
 use lib.Dec.{eqb, leb}
 use Rattle.octets.specs.Bit.{bit}
 use Rattle.descriptors.specs.declared.Range.{Range}
+use Rattle.descriptors.specs.declared.Ranges.{Ranges}
+use Rattle.descriptors.specs.declared.Speed.{Speed}
+use Rattle.descriptors.specs.declared.Speed.the-variants.{Full, High, Super}
 use Rattle.descriptors.specs.declared.Limits.{Limits}
 
 abbrev pub range : ℕ → ℕ → Range
 range a b = record { least = a; most = b }
 
--- 8, 16, 32 or 64 for bMaxPacketSize0 and for bulk; interrupt 0–64, bInterval 1–255; isochronous 0–1,023, bInterval 1–16;
--- entries of types 1, 2 and 3; in a configuration body, after its first descriptor, types 1, 2, 3, 6 and 7 are refused.
--- proofs/FullSpeed says each field so, for every number
-abbrev pub fullSpeed : Limits
-fullSpeed = record {
-  control = range 8 64;
+-- ---- what a speed allows of endpoints
+-- Document 01: "bulk 8, 16, 32 or 64; interrupt 0–64; isochronous 0–1,023"; bInterval "interrupt 1–255, isochronous 1–16". proofs/FullSpeed says each field so, for every number
+abbrev pub fullRanges : Ranges
+fullRanges = record {
   bulk = range 8 64;
   interrupt = range 0 64;
   polling = range 1 255;
   isochronous = range 0 1023;
   period = range 1 16;
   bursts = 0;
-  entries = 2 ^ 1 + 2 ^ 2 + 2 ^ 3;
-  refused = 2 ^ 1 + 2 ^ 2 + 2 ^ 3 + 2 ^ 6 + 2 ^ 7;
-  companions = false;
 }
 
--- Document 02, L13: "bMaxPacketSize0 is 9; a companion .. stands directly after every endpoint and nowhere else; there is one BOS entry (type 15 ..);
--- bulk size is 1,024, interrupt 1–1,024, isochronous 0–1,024, both with bInterval 1–16." proofs/SuperSpeed says each field so, for every number
-abbrev pub superSpeed : Limits
-superSpeed = record {
-  control = range 9 9;
+-- Document 02, L7: "At high speed bulk size is 512, interrupt and isochronous sizes go to 1,024 with bits 12–11 at most 2 and 15–13 zero, their bInterval is 1–16"
+abbrev pub highRanges : Ranges
+highRanges = record {
+  bulk = range 512 512;
+  interrupt = range 0 1024;
+  polling = range 1 16;
+  isochronous = range 0 1024;
+  period = range 1 16;
+  bursts = 2;
+}
+
+-- Document 02, L13: "bulk size is 1,024, interrupt 1–1,024, isochronous 0–1,024, both with bInterval 1–16". proofs/SuperSpeed says each field so, for every number
+abbrev pub superRanges : Ranges
+superRanges = record {
   bulk = range 1024 1024;
   interrupt = range 1 1024;
   polling = range 1 16;
   isochronous = range 0 1024;
   period = range 1 16;
   bursts = 0;
+}
+
+abbrev pub rangesOf : Speed → Ranges
+rangesOf Full = fullRanges
+rangesOf High = highRanges
+rangesOf Super = superRanges
+
+-- ---- "After it, types 1, 2, 3, 6 and 7 are refused": in a configuration body, whatever the speed. proofs/FullSpeed says it so
+abbrev pub refusedTypes : ℕ
+refusedTypes = 2 ^ 1 + 2 ^ 2 + 2 ^ 3 + 2 ^ 6 + 2 ^ 7
+
+-- ---- the rows
+-- 8, 16, 32 or 64 for bMaxPacketSize0; entries of types 1, 2 and 3. proofs/FullSpeed says each field so, for every number
+abbrev pub fullSpeed : Limits
+fullSpeed = record {
+  control = range 8 64;
+  speed = Full;
+  entries = 2 ^ 1 + 2 ^ 2 + 2 ^ 3;
+  companions = false;
+}
+
+-- Document 02, L13: "bMaxPacketSize0 is 9; a companion .. stands directly after every endpoint and nowhere else; there is one BOS entry (type 15 ..)"
+abbrev pub superSpeed : Limits
+superSpeed = record {
+  control = range 9 9;
+  speed = Super;
   entries = 2 ^ 1 + 2 ^ 2 + 2 ^ 3 + 2 ^ 15;
-  refused = 2 ^ 1 + 2 ^ 2 + 2 ^ 3 + 2 ^ 6 + 2 ^ 7;
   companions = true;
 }
 
@@ -50,30 +82,17 @@ pairedEntries = 2 ^ 1 + 2 ^ 2 + 2 ^ 3 + 2 ^ 6 + 2 ^ 7
 abbrev pub pairedFull : Limits
 pairedFull = record {
   control = fullSpeed .control;
-  bulk = fullSpeed .bulk;
-  interrupt = fullSpeed .interrupt;
-  polling = fullSpeed .polling;
-  isochronous = fullSpeed .isochronous;
-  period = fullSpeed .period;
-  bursts = fullSpeed .bursts;
+  speed = fullSpeed .speed;
   entries = pairedEntries;
-  refused = fullSpeed .refused;
   companions = false;
 }
 
--- "At high speed bulk size is 512, interrupt and isochronous sizes go to 1,024 with bits 12–11 at most 2 and 15–13 zero,
--- their bInterval is 1–16 and bMaxPacketSize0 is 64."
+-- "bMaxPacketSize0 is 64" at high speed
 abbrev pub highSpeed : Limits
 highSpeed = record {
   control = range 64 64;
-  bulk = range 512 512;
-  interrupt = range 0 1024;
-  polling = range 1 16;
-  isochronous = range 0 1024;
-  period = range 1 16;
-  bursts = 2;
+  speed = High;
   entries = pairedEntries;
-  refused = fullSpeed .refused;
   companions = false;
 }
 

@@ -34,23 +34,16 @@ abbrev pub stepOf : List ℕ → ℕ → Stand → Step
 stepOf body at last =
     pick (stepsOn body at) (record { end = at + byte body at; stand = standOf last (part body at (byte body at)) }) (record { end = at; stand = last })
 
--- a descriptor from `at` to `end` of a type that no walk looks at
-pub record Unseen (body : List ℕ) (at end : ℕ) : Type 0 where
-  pub two : at + 2 ≤ end
+-- a descriptor begins at `at`, of a type that no walk looks at; it may end past the body
+pub record Plain (body : List ℕ) (at : ℕ) : Type 0 where
   pub inside : at + 1 < length body
+  pub two : 2 ≤ byte body at
   pub plain : 8 ≤ byte body (at + 1)
 
--- a whole descriptor at `r` that begins with the same two bytes
-pub record AlikeAt (body : List ℕ) (at end r : ℕ) : Type 0 where
-  pub ends : r + (end - at) ≤ length body
-  pub size : byte body r ≡ byte body at
-  pub kind : byte body (r + 1) ≡ byte body (at + 1)
-  pub plain : 8 ≤ byte body (at + 1)
-
--- a run of them from `end` on, and where it ends
-pub data Alike (body : List ℕ) (at end : ℕ) : ℕ → Type 0 where
-  alone : Alike body at end end
-  onward : {r : ℕ} → Alike body at end r → AlikeAt body at end r → Alike body at end (r + (end - at))
+-- such descriptors one behind the other, from `from` on, and where the last of them ends
+pub data Plains (body : List ℕ) (from : ℕ) : ℕ → Type 0 where
+  nothing : Plains body from from
+  onward : {r : ℕ} → Plains body from r → Plain body r → Plains body from (r + byte body r)
 
 -- a walk over a body: what is known (W) when a descriptor comes, which stands at the second stand, the one before it at the first; the answer that
 -- it may give at once, or what is known after it; the answer at the body's end, where the last descriptor stands there, and where the body is broken

@@ -1,21 +1,23 @@
 // The check of a configuration body, a descriptor at a time.
 use crate::Limits;
 use crate::Range;
-use crate::Setting;
 use crate::Stand;
 use crate::lookup::bit_of;
+use crate::sequence;
+use crate::sequence::Order;
 use octets::table::holds;
 ghost use mathlib.Core.Path.{_≡_};
 ghost use mathlib.Core.Bool.{false, _&&_};
-ghost use Rattle.descriptors.specs.Limits.{within, doubled, named};
-ghost use Rattle.descriptors.specs.Descriptor.{goodAddress, goodAttributes, sized, goodSize, goodInterval, goodEndpoint};
+ghost use Rattle.descriptors.specs.Limits.{within, doubled, named, refusedTypes};
+ghost use Rattle.descriptors.specs.Descriptor.{goodAddress, sized};
 ghost use Rattle.descriptors.specs.Configuration.{goodHead, goodConfiguration};
 ghost use Rattle.descriptors.specs.Cut.{cut};
 ghost use Rattle.descriptors.specs.Walk.{before, walked, collected};
-ghost use Rattle.descriptors.specs.Check.{placed, fresh, mayBegin, mayList, allowed, accompanied, atInterface, atEndpoint, onward, ended, beginning, starting, checking, referenceOf, referring, configurationRefers, verdict};
+ghost use Rattle.descriptors.specs.Check.{accompanied, accompanying, atInterface, atEndpoint, onward, beginning, starting, checking, referring, configurationRefers, verdict};
+ghost use Rattle.descriptors.specs.Sequence.{listable, Turns, Ready, unaccompanied};
 ghost use lib.ListN.{drop};
 ghost use Prim.Native.Nat.{_-_};
-ghost use Rattle.octets.specs.Sentences.{pick, every};
+ghost use Rattle.octets.specs.Sentences.{pick, _⇒_, every};
 ghost use Rattle.octets.specs.Table.{has};
 
 // How far the check of a body is: how many endpoints of this setting are still to come; and, a bit for each address, the addresses of
@@ -60,6 +62,13 @@ pub fn is_named(types: u16, t: u8) -> bool
     false
 }
 
+// Whether a type is refused behind a body's first descriptor.
+pub fn is_refused(t: u8) -> bool
+    ensures { λ r. ⌜ r ≡ named refusedTypes t ⌝ }
+{
+    is_named(0xCE, t)
+}
+
 // ---- one descriptor by itself
 pub fn good_address(address: u8) -> bool
     ensures { λ r. ⌜ r ≡ goodAddress address ⌝ }
@@ -67,58 +76,10 @@ pub fn good_address(address: u8) -> bool
     (address / 16 % 8 == 0) & (1 <= address % 16)
 }
 
-fn good_attributes(attributes: u8) -> bool
-    ensures { λ r. ⌜ r ≡ goodAttributes attributes ⌝ }
+pub fn is_sized(bursts: u16, range: Range, size: u16) -> bool
+    ensures { λ r. ⌜ r ≡ sized bursts range size ⌝ }
 {
-    (attributes <= 63) & (1 <= attributes % 4) & ((attributes <= 3) | (attributes % 4 == 1))
-}
-
-pub fn is_sized(limits: Limits, range: Range, size: u16) -> bool
-    ensures { λ r. ⌜ r ≡ sized limits (range .least) (range .most) size ⌝ }
-{
-    (range.least <= size % 2048) & (size % 2048 <= range.most) & (size / 2048 <= limits.bursts)
-}
-
-fn good_size(limits: Limits, transfer: u8, size: u16) -> bool
-    ensures { λ r. ⌜ r ≡ goodSize limits transfer size ⌝ }
-{
-    if transfer == 2 {
-        return is_doubled(limits.bulk, size);
-    }
-    if transfer == 3 {
-        return is_sized(limits, limits.interrupt, size);
-    }
-    if transfer == 1 {
-        return is_sized(limits, limits.isochronous, size);
-    }
-    true
-}
-
-fn good_interval(limits: Limits, transfer: u8, interval: u8) -> bool
-    ensures { λ r. ⌜ r ≡ goodInterval limits transfer interval ⌝ }
-{
-    if transfer == 3 {
-        return is_within(limits.polling, interval as u16);
-    }
-    if transfer == 1 {
-        return is_within(limits.period, interval as u16);
-    }
-    true
-}
-
-fn good_endpoint(d: &[u8], limits: Limits) -> bool
-    ensures { λ r. ⌜ r ≡ goodEndpoint limits (now (d .entry)) ⌝ }
-{
-    if d.len() < 7 {
-        return false;
-    }
-    let attributes = octets::peek(d, 3);
-    let transfer = attributes % 4;
-    let size = octets::word(d, 4);
-    good_address(octets::peek(d, 2))
-        & good_attributes(attributes)
-        & good_size(limits, transfer, size)
-        & good_interval(limits, transfer, octets::peek(d, 6))
+    (range.least <= size % 2048) & (size % 2048 <= range.most) & (size / 2048 <= bursts)
 }
 
 // The first descriptor of a body of so many bytes.
@@ -147,63 +108,6 @@ pub fn start() -> Progress
         interface: 0,
         seen: 0,
     }
-}
-
-// Whether setting `t` may come after a descriptor that stands at `last`.
-fn is_placed(last: Stand, t: Setting) -> bool
-    ensures { λ r. ⌜ r ≡ placed last t ⌝ }
-{
-    let again = (t.interface == last.interface) & (t.alternate as u16 == last.alternate as u16 + 1);
-    let next = (t.interface as u16 == last.interface as u16 + 1) & (t.alternate == 0);
-    let first = !last.inside & (t.interface == 0) & (t.alternate == 0);
-    ((last.inside & (again | next)) | first) & (t.alternate <= 15)
-}
-
-// An address that was seen before may come again in another setting of this interface only.
-fn is_fresh(progress: Progress, address: u8) -> bool
-    ensures { λ r. ⌜ r ≡ fresh progress address ⌝ }
-{
-    let e = bit_of(address);
-    !octets::test_bit(progress.seen, e)
-        | (octets::test_bit(progress.interface, e) & !octets::test_bit(progress.setting, e))
-}
-
-// An interface descriptor, which stands at `stand`, may come after a descriptor that stands at `last`.
-fn may_begin(d: &[u8], progress: Progress, last: Stand, stand: Stand, limits: Limits) -> bool
-    ensures { λ r. ⌜ r ≡ mayBegin limits progress last stand (now (d .entry)) ⌝ }
-{
-    if d.len() < 9 {
-        return false;
-    }
-    let begun = Setting {
-        interface: stand.interface,
-        alternate: stand.alternate,
-    };
-    !is_named(limits.refused, 4) & (progress.coming == 0) & is_placed(last, begun)
-}
-
-// An endpoint descriptor may come.
-fn may_list(d: &[u8], progress: Progress, limits: Limits) -> bool
-    ensures { λ r. ⌜ r ≡ mayList limits progress (now (d .entry)) ⌝ }
-{
-    !is_named(limits.refused, 5)
-        & good_endpoint(d, limits)
-        & (1 <= progress.coming)
-        & is_fresh(progress, octets::peek(d, 2))
-}
-
-// A descriptor is asked what its type asks and no more, so that many small ones cost little.
-fn is_allowed(d: &[u8], progress: Progress, last: Stand, stand: Stand, limits: Limits) -> bool
-    ensures { λ r. ⌜ r ≡ allowed limits progress last stand (now (d .entry)) ⌝ }
-{
-    let t = octets::peek(d, 1);
-    if t == 4 {
-        return may_begin(d, progress, last, stand, limits);
-    }
-    if t == 5 {
-        return may_list(d, progress, limits);
-    }
-    !is_named(limits.refused, t)
 }
 
 // Of a kind with companions: one comes where it is due, just behind an endpoint, and nowhere else.
@@ -275,12 +179,6 @@ pub fn move_on(d: &[u8], progress: Progress, last: Stand, stand: Stand) -> Progr
     progress
 }
 
-fn may_end(progress: Progress, last: Stand, interfaces: u8) -> bool
-    ensures { λ r. ⌜ r ≡ ended interfaces progress last ⌝ }
-{
-    last.inside & (last.interface as u16 + 1 == interfaces as u16) & (progress.coming == 0)
-}
-
 // Not good.
 pub fn refuse() -> Verdict
     ensures { λ r. ⌜ r ≡ verdict false false ⌝ }
@@ -291,57 +189,153 @@ pub fn refuse() -> Verdict
     }
 }
 
-// Whether every reference is in `names`, after one more descriptor; only an interface's has one, so that others cost nothing.
-fn still_refers(d: &[u8], refers: bool, names: &[u32; 8]) -> bool
-    ensures { λ r. ⌜ r ≡ (refers && every (has (now (names .entry))) (referenceOf (now (d .entry)))) ⌝ }
-{
-    if octets::peek(d, 1) == 4 {
-        return refers & holds(names, octets::peek(d, 8));
-    }
-    refers
+// ---- the same in few numbers
+// One more descriptor: whether it may come, and if so the order and the references then.
+struct Turned {
+    good: bool,
+    order: Order,
+    refers: bool,
 }
 
-// The descriptors from `from` on, for so many interfaces.
-fn good_rest(body: &[u8], from: usize, interfaces: u8, limits: Limits, names: &[u32; 8]) -> Verdict
-    ensures { λ r. ⌜ r ≡ verdict (walked (checking limits interfaces) starting before (cut (drop from (now (body .entry))))) (every (has (now (names .entry))) (collected referring (now (body .entry)) before from)) ⌝ }
+// An endpoint descriptor may come.
+pub fn may_list(d: &[u8], order: Order, limits: Limits) -> bool
+    ensures { λ r. ⌜ r ≡ listable limits order (now (d .entry)) ⌝ }
 {
-    let mut progress = start();
-    let mut refers = true;
-    let mut last = crate::outside();
-    let mut due = false;
-    let mut at = from;
-    while at < body.len() {
-        let step = crate::advance(body, at, last);
-        let end = step.end;
-        if end <= at {
-            return refuse();
-        }
-        if is_allowed(&body[at..end], progress, last, step.stand, limits) {
-            progress = move_on(&body[at..end], progress, last, step.stand);
-            refers = still_refers(&body[at..end], refers, names);
-            last = step.stand;
-            // Last, so that a kind without companions pays one test a descriptor.
-            if limits.companions {
-                if !is_accompanied(&body[at..end], due) {
-                    return refuse();
-                }
-                due = octets::peek(&body[at..end], 1) == 5;
-                at = end;
-            } else {
-                at = crate::behind(body, at, end);
-            }
-        } else {
-            return refuse();
-        }
+    if sequence::may_come(d, order) {
+        return sequence::good_kind(
+            limits,
+            octets::peek(d, 3),
+            octets::word(d, 4),
+            octets::peek(d, 6),
+        );
     }
-    let good = may_end(progress, last, interfaces) & (!limits.companions | !due);
+    false
+}
+
+// Whether every reference is in `names`, after one more.
+fn still_refers(refers: bool, k: u8, names: &[u32; 8]) -> bool
+    ensures { λ r. ⌜ r ≡ (refers && has (now (names .entry)) k) ⌝ }
+{
+    if holds(names, k) {
+        return refers;
+    }
+    false
+}
+
+fn stop() -> Turned
+    ensures { λ r. ⌜ r .good ≡ false ⌝ }
+{
+    Turned {
+        good: false,
+        order: sequence::set_out(),
+        refers: false,
+    }
+}
+
+// A descriptor of any type.
+fn turn(d: &[u8], order: Order, refers: bool, limits: Limits, names: &[u32; 8]) -> Turned
+    ensures { λ r. ⌜ Turns limits (now (names .entry)) order refers (now (d .entry)) r ⌝ }
+{
+    let t = octets::peek(d, 1);
+    if t == 5 {
+        if may_list(d, order, limits) {
+            return Turned {
+                good: true,
+                order: sequence::list(d, order),
+                refers,
+            };
+        }
+        return stop();
+    }
+    if t == 4 {
+        let begun = sequence::begin(d, order);
+        if begun.good {
+            let next = begun.order;
+            return Turned {
+                good: true,
+                order: next,
+                refers: still_refers(refers, octets::peek(d, 8), names),
+            };
+        }
+        return stop();
+    }
+    Turned {
+        good: !is_refused(t),
+        order,
+        refers,
+    }
+}
+
+// The descriptors from `from` on, for so many interfaces, but for companions. A refusal is told by the place alone, which then is no body's end.
+fn good_rest(body: &[u8], from: usize, interfaces: u8, limits: Limits, names: &[u32; 8]) -> Verdict
+    requires { ⌜ Ready (now body) interfaces from ⌝ }
+    ensures { λ r. ⌜ r ≡ verdict (walked (checking (unaccompanied limits) interfaces) starting before (cut (drop from (now (body .entry))))) (every (has (now (names .entry))) (collected referring (now (body .entry)) before from)) ⌝ }
+{
+    let mut order = sequence::set_out();
+    let mut refers = true;
+    let mut at = from;
+    let last = body.len() - 1;
+    while at < last {
+        let size = body[at] as usize;
+        let t = body[at + 1];
+        if size < 2 {
+            at = last;
+            break;
+        }
+        let end = at + size;
+        if 8 <= t {
+            at = crate::behind(body, end);
+            continue;
+        }
+        if body.len() < end {
+            at = last;
+            break;
+        }
+        let turned = turn(&body[at..end], order, refers, limits, names);
+        if !turned.good {
+            at = last;
+            break;
+        }
+        order = turned.order;
+        refers = turned.refers;
+        at = end;
+    }
+    let good = (at == body.len())
+        & (sequence::next_of(order.again) == interfaces as u32)
+        & (order.coming == 0);
     Verdict {
         good,
         refers: good & refers,
     }
 }
 
-// The check of a configuration body: one walk, a few words. `names` are the numbers that a string reference may be.
+// Whether companions stand where they are to, from `from` on; of a kind without them nothing is asked.
+fn good_companions(body: &[u8], from: usize, limits: Limits) -> bool
+    ensures { λ r. ⌜ r ≡ (limits .companions ⇒ walked accompanying false before (cut (drop from (now (body .entry))))) ⌝ }
+{
+    if !limits.companions {
+        return true;
+    }
+    let mut due = false;
+    let mut last = crate::outside();
+    let mut at = from;
+    while at < body.len() {
+        let step = crate::advance(body, at, last);
+        let end = step.end;
+        if end <= at {
+            return false;
+        }
+        if !is_accompanied(&body[at..end], due) {
+            return false;
+        }
+        due = octets::peek(&body[at..end], 1) == 5;
+        last = step.stand;
+        at = end;
+    }
+    !due
+}
+
+// The check of a configuration body, in few words. `names` are the numbers that a string reference may be.
 pub fn good_configuration(body: &[u8], limits: Limits, names: &[u32; 8]) -> Verdict
     ensures { λ r. ⌜ r ≡ verdict (goodConfiguration limits (now (body .entry))) (configurationRefers (now (names .entry)) (now (body .entry))) ⌝ }
 {
@@ -351,12 +345,13 @@ pub fn good_configuration(body: &[u8], limits: Limits, names: &[u32; 8]) -> Verd
         return refuse();
     }
     let head = &body[..end];
-    if good_head(head, body.len()) {
-        let rest = good_rest(body, end, octets::peek(head, 4), limits, names);
-        return Verdict {
-            good: rest.good,
-            refers: rest.refers & holds(names, octets::peek(body, 6)),
-        };
+    if !good_head(head, body.len()) {
+        return refuse();
     }
-    refuse()
+    let rest = good_rest(body, end, octets::peek(head, 4), limits, names);
+    let good = rest.good & good_companions(body, end, limits);
+    Verdict {
+        good,
+        refers: good & rest.refers & holds(names, octets::peek(body, 6)),
+    }
 }

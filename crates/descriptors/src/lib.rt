@@ -2,15 +2,15 @@
 pub mod check;
 pub mod endpoints;
 pub mod lookup;
+pub mod sequence;
 pub mod survey;
 
 ghost use mathlib.Core.Path.{_≡_};
 ghost use mathlib.Core.Bool.{true};
-ghost use Rattle.descriptors.specs.Limits.{fullSpeed, pairedFull, highSpeed, superSpeed};
-ghost use Prim.Native.Nat.{_<_, _≤_, _+_};
+ghost use Rattle.descriptors.specs.Limits.{fullRanges, highRanges, superRanges, rangesOf, fullSpeed, pairedFull, highSpeed, superSpeed};
+ghost use Prim.Native.Nat.{_≤_};
 ghost use lib.ListN.{length};
-ghost use Rattle.octets.specs.Octets.{word};
-ghost use Rattle.descriptors.specs.Walk.{before, standOf, stepsOn, stepOf, Unseen, Alike};
+ghost use Rattle.descriptors.specs.Walk.{before, standOf, stepsOn, stepOf, Plains};
 
 // A range of numbers, both ends in it.
 pub struct Range {
@@ -18,28 +18,37 @@ pub struct Range {
     pub most: u16,
 }
 
-// What a kind of set allows. `control` is bMaxPacketSize0; `polling` and `period` are the bInterval of interrupt and isochronous endpoints;
-// `bursts` is the largest number in wMaxPacketSize's bits 15-11; bit t of `entries` and of `refused` stands for descriptor type t;
-// `companions` asks for one after every endpoint.
-pub struct Limits {
-    pub control: Range,
+// What a speed allows of endpoints. `polling` and `period` are the bInterval of interrupt and isochronous endpoints; `bursts` is the largest number in
+// wMaxPacketSize's bits 15-11.
+pub struct Ranges {
     pub bulk: Range,
     pub interrupt: Range,
     pub polling: Range,
     pub isochronous: Range,
     pub period: Range,
     pub bursts: u16,
+}
+
+// The speeds. Each has its ranges.
+pub enum Speed {
+    Full,
+    High,
+    Super,
+}
+
+// What a kind of set allows. `control` is bMaxPacketSize0; bit t of `entries` stands for descriptor type t; `companions` asks for one after every
+// endpoint.
+pub struct Limits {
+    pub control: Range,
+    pub speed: Speed,
     pub entries: u16,
-    pub refused: u16,
     pub companions: bool,
 }
 
-// The limits of full speed.
-pub fn full_speed() -> Limits
-    ensures { λ r. ⌜ r ≡ fullSpeed ⌝ }
+pub fn full_ranges() -> Ranges
+    ensures { λ r. ⌜ r ≡ fullRanges ⌝ }
 {
-    Limits {
-        control: Range { least: 8, most: 64 },
+    Ranges {
         bulk: Range { least: 8, most: 64 },
         interrupt: Range { least: 0, most: 64 },
         polling: Range {
@@ -52,72 +61,13 @@ pub fn full_speed() -> Limits
         },
         period: Range { least: 1, most: 16 },
         bursts: 0,
-        entries: 0x0E,
-        refused: 0xCE,
-        companions: false,
     }
 }
 
-// The limits of SuperSpeed.
-pub fn super_speed() -> Limits
-    ensures { λ r. ⌜ r ≡ superSpeed ⌝ }
+pub fn high_ranges() -> Ranges
+    ensures { λ r. ⌜ r ≡ highRanges ⌝ }
 {
-    Limits {
-        control: Range { least: 9, most: 9 },
-        bulk: Range {
-            least: 1024,
-            most: 1024,
-        },
-        interrupt: Range {
-            least: 1,
-            most: 1024,
-        },
-        polling: Range { least: 1, most: 16 },
-        isochronous: Range {
-            least: 0,
-            most: 1024,
-        },
-        period: Range { least: 1, most: 16 },
-        bursts: 0,
-        entries: 0x800E,
-        refused: 0xCE,
-        companions: true,
-    }
-}
-
-// The limits of the full-speed set of a pair.
-pub fn paired_full() -> Limits
-    ensures { λ r. ⌜ r ≡ pairedFull ⌝ }
-{
-    Limits {
-        control: Range { least: 8, most: 64 },
-        bulk: Range { least: 8, most: 64 },
-        interrupt: Range { least: 0, most: 64 },
-        polling: Range {
-            least: 1,
-            most: 255,
-        },
-        isochronous: Range {
-            least: 0,
-            most: 1023,
-        },
-        period: Range { least: 1, most: 16 },
-        bursts: 0,
-        entries: 0xCE,
-        refused: 0xCE,
-        companions: false,
-    }
-}
-
-// The limits of the high-speed set.
-pub fn high_speed() -> Limits
-    ensures { λ r. ⌜ r ≡ highSpeed ⌝ }
-{
-    Limits {
-        control: Range {
-            least: 64,
-            most: 64,
-        },
+    Ranges {
         bulk: Range {
             least: 512,
             most: 512,
@@ -133,8 +83,89 @@ pub fn high_speed() -> Limits
         },
         period: Range { least: 1, most: 16 },
         bursts: 2,
+    }
+}
+
+pub fn super_ranges() -> Ranges
+    ensures { λ r. ⌜ r ≡ superRanges ⌝ }
+{
+    Ranges {
+        bulk: Range {
+            least: 1024,
+            most: 1024,
+        },
+        interrupt: Range {
+            least: 1,
+            most: 1024,
+        },
+        polling: Range { least: 1, most: 16 },
+        isochronous: Range {
+            least: 0,
+            most: 1024,
+        },
+        period: Range { least: 1, most: 16 },
+        bursts: 0,
+    }
+}
+
+// The ranges of a speed.
+pub fn ranges_of(speed: Speed) -> Ranges
+    ensures { λ r. ⌜ r ≡ rangesOf speed ⌝ }
+{
+    match speed {
+        Speed::Full => full_ranges(),
+        Speed::High => high_ranges(),
+        Speed::Super => super_ranges(),
+    }
+}
+
+// The limits of full speed.
+pub fn full_speed() -> Limits
+    ensures { λ r. ⌜ r ≡ fullSpeed ⌝ }
+{
+    Limits {
+        control: Range { least: 8, most: 64 },
+        speed: Speed::Full,
+        entries: 0x0E,
+        companions: false,
+    }
+}
+
+// The limits of SuperSpeed.
+pub fn super_speed() -> Limits
+    ensures { λ r. ⌜ r ≡ superSpeed ⌝ }
+{
+    Limits {
+        control: Range { least: 9, most: 9 },
+        speed: Speed::Super,
+        entries: 0x800E,
+        companions: true,
+    }
+}
+
+// The limits of the full-speed set of a pair.
+pub fn paired_full() -> Limits
+    ensures { λ r. ⌜ r ≡ pairedFull ⌝ }
+{
+    Limits {
+        control: Range { least: 8, most: 64 },
+        speed: Speed::Full,
         entries: 0xCE,
-        refused: 0xCE,
+        companions: false,
+    }
+}
+
+// The limits of the high-speed set.
+pub fn high_speed() -> Limits
+    ensures { λ r. ⌜ r ≡ highSpeed ⌝ }
+{
+    Limits {
+        control: Range {
+            least: 64,
+            most: 64,
+        },
+        speed: Speed::High,
+        entries: 0xCE,
         companions: false,
     }
 }
@@ -237,28 +268,22 @@ pub fn advance(body: &[u8], at: usize, last: Stand) -> Step
     step_over(body, at, last)
 }
 
-// The first two bytes of a descriptor, its length and its type, as one number.
-fn first_two(body: &[u8], at: usize) -> u16
-    requires { ⌜ at + 1 < length (now body) ⌝ }
-    ensures { λ r. ⌜ r ≡ word (now (body .entry)) at ⌝ }
+// Past the descriptors from `from` on that have this length. Where the next one is looked for does not wait for a byte to be read.
+fn pass_run(body: &[u8], size: usize, from: usize) -> usize
+    requires { ⌜ (1 ≤ length (now body)) × (2 ≤ size) ⌝ }
+    ensures { λ r. ⌜ Plains (now (body .entry)) from r ⌝ }
 {
-    body[at] as u16 + 256 * (body[at + 1] as u16)
-}
-
-// Past the descriptors behind the one from `at` to `end` that begin with the same two bytes. Where the next one is looked for does not wait for a byte to be read.
-fn pass_alike(body: &[u8], at: usize, end: usize) -> usize
-    requires { ⌜ Unseen (now body) at end ⌝ }
-    ensures { λ r. ⌜ Alike (now (body .entry)) at end r ⌝ }
-{
-    let size = end - at;
     if body.len() < size {
-        return end;
+        return from;
     }
-    let first = first_two(body, at);
+    let kinds = &body[1..];
     let most = body.len() - size;
-    let mut place = end;
+    let mut place = from;
     while place <= most {
-        if first_two(body, place) != first {
+        if body[place] as usize != size {
+            return place;
+        }
+        if kinds[place] < 8 {
             return place;
         }
         place += size;
@@ -266,20 +291,39 @@ fn pass_alike(body: &[u8], at: usize, end: usize) -> usize
     place
 }
 
-// Where a walk goes on behind the descriptor from `at` to `end`: class descriptors often stand in runs, which are passed at once. No walk looks at a type from 8 on. Most stand alone, and
-// are told by a test ahead of the loop.
-pub fn behind(body: &[u8], at: usize, end: usize) -> usize
-    requires { ⌜ (at + 1 < length (now body)) × (at + 2 ≤ end) ⌝ }
-    ensures { λ r. ⌜ Alike (now (body .entry)) at end r ⌝ }
+// Where a walk goes on that comes to `from`: no walk looks at a type from 8 on, and class descriptors often stand in runs of one length. Two are passed in a turn, so that a run is asked for
+// half as often; the types are read from a slice of their own, so that a length is read without an address being worked out.
+pub fn behind(body: &[u8], from: usize) -> usize
+    requires { ⌜ 1 ≤ length (now body) ⌝ }
+    ensures { λ r. ⌜ Plains (now (body .entry)) from r ⌝ }
 {
-    if body[at + 1] < 8 {
-        return end;
-    }
+    let kinds = &body[1..];
     let last = body.len() - 1;
-    if end < last {
-        if first_two(body, end) == first_two(body, at) {
-            return pass_alike(body, at, end);
+    let mut place = from;
+    while place < last {
+        let first = body[place] as usize;
+        if kinds[place] < 8 {
+            return place;
+        }
+        if first < 2 {
+            return place;
+        }
+        let next = place + first;
+        if last <= next {
+            return next;
+        }
+        let second = body[next] as usize;
+        if kinds[next] < 8 {
+            return next;
+        }
+        if second < 2 {
+            return next;
+        }
+        if second == first {
+            place = pass_run(body, first, next);
+        } else {
+            place = next + second;
         }
     }
-    end
+    place
 }

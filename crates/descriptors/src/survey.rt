@@ -187,7 +187,7 @@ pub fn walk(body: &[u8], alternates: [u8; 16], asked: Asked) -> Survey
         let end = step.end;
         stand = step.stand;
         seen = move_on(seen, &body[at..end], stand, &alternates[..], asked);
-        at = end;
+        at = crate::behind(body, end);
     }
     seen
 }

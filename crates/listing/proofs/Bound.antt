@@ -11,7 +11,7 @@ use Rattle.octets.specs.Octets.{byte}
 use Rattle.octets.specs.Sentences.{pick, _⇒_, every, only, neighbours}
 use Rattle.octets.proofs.Sentences.{both, conjunct, if-then}
 use Rattle.descriptors.specs.declared.Limits.{Limits}
-use Rattle.descriptors.specs.Limits.{named}
+use Rattle.descriptors.specs.Limits.{named, refusedTypes}
 use Rattle.descriptors.specs.Cut.{broken, descriptor, cut, cutAfter, descriptorsOf}
 use Rattle.descriptors.specs.Descriptor.{bDescriptorType, isInterface, isEndpoint, bEndpointAddress, bmAttributes, bInterval, wMaxPacketSize, transferType, goodAddress, goodAttributes, goodSize, goodInterval, goodEndpoint, goodDescriptor}
 use Rattle.descriptors.specs.Configuration.{bConfigurationValue, bNumInterfaces, bMaxPower, configurationAttributes, wTotalLength, behind, goodConfiguration}
@@ -71,12 +71,12 @@ cut-lengths zero (b ∷ bs) = go (leb 2 b) refl (cut-lengths (b - 1) bs)
 module _ (limits : Limits) where
   interface-size : (d : List ℕ) → goodDescriptor limits d ≡ true → isInterface d ≡ true → 9 ≤ length d
   interface-size d p q =
-      let rules = not (named (limits .refused) (bDescriptorType d)) ∷ (isInterface d ⇒ leb 9 (length d)) ∷ (isEndpoint d ⇒ goodEndpoint limits d) ∷ [] in
+      let rules = not (named refusedTypes (bDescriptorType d)) ∷ (isInterface d ⇒ leb 9 (length d)) ∷ (isEndpoint d ⇒ goodEndpoint limits d) ∷ [] in
       leb-true 9 (length d) (if-then (isInterface d) (leb 9 (length d)) (conjunct 1 rules p) q)
 
   endpoint-size : (d : List ℕ) → goodDescriptor limits d ≡ true → isEndpoint d ≡ true → 7 ≤ length d
   endpoint-size d p q =
-      let rules = not (named (limits .refused) (bDescriptorType d)) ∷ (isInterface d ⇒ leb 9 (length d)) ∷ (isEndpoint d ⇒ goodEndpoint limits d) ∷ [] in
+      let rules = not (named refusedTypes (bDescriptorType d)) ∷ (isInterface d ⇒ leb 9 (length d)) ∷ (isEndpoint d ⇒ goodEndpoint limits d) ∷ [] in
       let transfer = transferType (bmAttributes d) in
       let parts = leb 7 (length d) ∷ goodAddress (bEndpointAddress d) ∷ goodAttributes (bmAttributes d) ∷ goodSize limits transfer (wMaxPacketSize d) ∷ goodInterval limits transfer (bInterval d) ∷ [] in
       leb-true 7 (length d) (conjunct 0 parts (if-then (isEndpoint d) (goodEndpoint limits d) (conjunct 2 rules p) q))

@@ -93,8 +93,8 @@ module _ (limits : Limits) (start at head : ℕ) (w : Progress) (last stand : St
   unfolding every Same
   interface i e =
       rw (p, i, e)
-      (ap (λ b. typeAllowed limits (bDescriptorType d) && (allCame w && (interfaceLongEnough d && b))) (place-same (last .inside) start at (settingAt last) (settingAt stand) (asked 420 (byteAt start at 3) (alternateWithin (settingAt stand))))
-      ∙ interface-row (typeAllowed limits (bDescriptorType d)) (interfaceLongEnough d) (allCame w) (placed last (settingAt stand)))
+      (ap (λ b. typeAllowed (bDescriptorType d) && (allCame w && (interfaceLongEnough d && b))) (place-same (last .inside) start at (settingAt last) (settingAt stand) (asked 420 (byteAt start at 3) (alternateWithin (settingAt stand))))
+      ∙ interface-row (typeAllowed (bDescriptorType d)) (interfaceLongEnough d) (allCame w) (placed last (settingAt stand)))
 
   endpoint : isInterface d ≡ false → isEndpoint d ≡ true → Same
   unfolding every Same
@@ -104,7 +104,7 @@ module _ (limits : Limits) (start at head : ℕ) (w : Progress) (last stand : St
       let address = bEndpointAddress d in
       let size = wMaxPacketSize d in
       rw (p, i, e, surplus-same (last .inside) start at head w)
-      (endpoint-row (typeAllowed limits (bDescriptorType d)) (endpointLongEnough d) (oneMayCome w) (addressBitsZero address) (numberNotZero address) (highBitsZero a) (notControl a) (middleBitsZero a)
+      (endpoint-row (typeAllowed (bDescriptorType d)) (endpointLongEnough d) (oneMayCome w) (addressBitsZero address) (numberNotZero address) (highBitsZero a) (notControl a) (middleBitsZero a)
       (bulkSize limits t size) (interruptSize limits t size) (isochronousSize limits t size) (interruptInterval limits t (bInterval d)) (isochronousInterval limits t (bInterval d))
       (onceInSetting w address) (inNoSecondInterface w address))
 

@@ -116,7 +116,7 @@ typeFindings limits start at head w last stand d =
 abbrev pub descriptorFindings : Limits → ℕ → ℕ → ℕ → Progress → Stand → Stand → List ℕ → List Finding
 descriptorFindings limits start at head w last stand d =
     asked 404 (byteAt start at 0) (isWhole d) ∷
-    asked 411 (byteAt start at 1) (typeAllowed limits (bDescriptorType d)) ∷
+    asked 411 (byteAt start at 1) (typeAllowed (bDescriptorType d)) ∷
     typeFindings limits start at head w last stand d
 
 -- ---- a body, which begins at `start`

@@ -124,9 +124,11 @@ fn numbers_fault(found: Fault, start: u16, at: u16, address: u8, attributes: u8)
 fn size_fault(found: Fault, start: u16, at: u16, transfer: u8, size: u16, limits: Limits) -> Fault
     ensures { λ r. ⌜ r ≡ after found (sizeFindings limits start at transfer size) ⌝ }
 {
-    let bulk = descriptors::check::is_doubled(limits.bulk, size);
-    let interrupt = descriptors::check::is_sized(limits, limits.interrupt, size);
-    let isochronous = descriptors::check::is_sized(limits, limits.isochronous, size);
+    let speed = limits.speed;
+    let ranges = descriptors::ranges_of(speed);
+    let bulk = descriptors::check::is_doubled(ranges.bulk, size);
+    let interrupt = descriptors::check::is_sized(ranges.bursts, ranges.interrupt, size);
+    let isochronous = descriptors::check::is_sized(ranges.bursts, ranges.isochronous, size);
     let found = ask(found, 428, start, at, 4, !(transfer == 2) | bulk);
     let found = ask(found, 429, start, at, 4, !(transfer == 3) | interrupt);
     ask(found, 430, start, at, 4, !(transfer == 1) | isochronous)
@@ -142,8 +144,10 @@ fn interval_fault(
 ) -> Fault
     ensures { λ r. ⌜ r ≡ after found (intervalFindings limits start at transfer interval) ⌝ }
 {
-    let polling = descriptors::check::is_within(limits.polling, interval as u16);
-    let period = descriptors::check::is_within(limits.period, interval as u16);
+    let speed = limits.speed;
+    let ranges = descriptors::ranges_of(speed);
+    let polling = descriptors::check::is_within(ranges.polling, interval as u16);
+    let period = descriptors::check::is_within(ranges.period, interval as u16);
     let found = ask(found, 431, start, at, 6, !(transfer == 3) | polling);
     ask(found, 432, start, at, 6, !(transfer == 1) | period)
 }
@@ -239,7 +243,7 @@ fn descriptor_fault(
 ) -> Fault
     ensures { λ r. ⌜ r ≡ after found (descriptorFindings limits start at head progress last stand (now (d .entry))) ⌝ }
 {
-    let refused = descriptors::check::is_named(limits.refused, octets::peek(d, 1));
+    let refused = descriptors::check::is_refused(octets::peek(d, 1));
     let found = ask(
         found,
         404,

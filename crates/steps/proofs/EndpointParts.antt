@@ -15,7 +15,7 @@ use Rattle.octets.proofs.Sentences.{cases, if-then, conjunct, every-map, every-
 use Rattle.octets.proofs.Counting.{at-member}
 use Rattle.descriptors.specs.declared.Limits.{Limits}
 use Rattle.descriptors.specs.Cut.{cut, descriptorsOf, wellCut}
-use Rattle.descriptors.specs.Limits.{named}
+use Rattle.descriptors.specs.Limits.{named, refusedTypes}
 use Rattle.descriptors.specs.Descriptor.{bDescriptorType, isInterface, isEndpoint, goodEndpoint, goodDescriptor}
 use Rattle.descriptors.specs.declared.survey.Asked.{Asked}
 use Rattle.descriptors.specs.declared.survey.Survey.{Survey}
@@ -166,7 +166,7 @@ module _ (limits : Limits) (b : Board) (opens : opening limits b ≡ 0) (d : Dev
         shown = sym (part-part set (e .offset) (e .length) (q .offset) (length l) (omega (arith, lie .inside, size))) ∙ lie .shown;
         long = lie .long;
         kind = t;
-        good = if-then (isEndpoint l) (goodEndpoint limits l) (conjunct 2 (not (named (limits .refused) (bDescriptorType l)) ∷ (isInterface l ⇒ leb 9 (length l)) ∷ (isEndpoint l ⇒ goodEndpoint limits l) ∷ []) each) t;
+        good = if-then (isEndpoint l) (goodEndpoint limits l) (conjunct 2 (not (named refusedTypes (bDescriptorType l)) ∷ (isInterface l ⇒ leb 9 (length l)) ∷ (isEndpoint l ⇒ goodEndpoint limits l) ∷ []) each) t;
       }
 
   pub stands : (p : DescriptorAt) → List·Memᴰ p (endpointDescriptors (b .set) d) → Stands limits (b .set) p

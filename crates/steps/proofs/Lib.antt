@@ -1,3 +1,4 @@
 pub mod Configurations
 pub mod Steps
+pub mod Images
 pub mod EndpointParts

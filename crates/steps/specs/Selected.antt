@@ -10,8 +10,6 @@ use Rattle.descriptors.specs.Survey.{nothingSeen, Surveys}
 use Rattle.sets.specs.Contents.{bodies, entriesOf}
 use Rattle.sets.specs.Found.{found, valued, canWake, isFound}
 use Rattle.steps.specs.declared.facts.Selected.{Selected}
-use Rattle.steps.specs.declared.facts.Given.{Given}
-use Rattle.steps.specs.declared.facts.Given.the-variants.{Nothing, Collected}
 use Rattle.steps.specs.Gathering.{selectedBody}
 
 -- before anything is known
@@ -23,8 +21,3 @@ pub record Knows (set : List ℕ) (value : ℕ) (alternates : List ℕ) (asked :
   pub configured : k .configured ≡ isFound (found (first (valued set value) (entriesOf 2 set)))
   pub waking : k .waking ≡ any canWake (bodies 2 set)
   pub surveyed : Surveys (configurationOf (selectedBody set value)) alternates asked (k .survey)
-
--- what is given is known, if anything is given
-abbrev pub KnowsIf : List ℕ → ℕ → List ℕ → Asked → Given → Type 0
-KnowsIf set value alternates asked Nothing = Unit {0}
-KnowsIf set value alternates asked (Collected k) = Knows set value alternates asked k

@@ -24,9 +24,10 @@ ghost use Rattle.sets.specs.Found.{isFound};
 ghost use Rattle.sets.specs.View.{hasValue};
 ghost use Rattle.events.specs.Requests.{languageFor, locateString, locate};
 ghost use Rattle.records.specs.declared.Device.{Device};
+ghost use Rattle.records.specs.Change.{recordIn};
 ghost use Rattle.events.specs.Facts.{naming, questionOf, askedBy, Tells};
 ghost use Rattle.steps.specs.Gathering.{configurationsIn, Openable, viewIn, bodyFound, located};
-ghost use Rattle.steps.specs.Selected.{nothingKnown, Knows, KnowsIf};
+ghost use Rattle.steps.specs.Selected.{nothingKnown, Knows};
 
 // The question of a function event, or of one that asks nothing.
 fn naming(address: u8) -> Setup
@@ -180,12 +181,6 @@ pub struct Selected {
     pub survey: Survey,
 }
 
-// What is given of it to a reaction: what was collected, or nothing.
-pub enum Given {
-    Nothing,
-    Collected(Selected),
-}
-
 // Before anything is known.
 pub fn nothing_known() -> Selected
     ensures { λ r. ⌜ r ≡ nothingKnown ⌝ }
@@ -220,15 +215,15 @@ fn look_up(set: &[u8], serial: &[u8], device: Device, event: Event) -> Selected
     }
 }
 
-// What was collected while the set was checked, or else what is looked up.
-pub fn learn(set: &[u8], serial: &[u8], device: Device, event: Event, given: Given) -> Selected
-    requires { ⌜ Openable (now set) (now serial) × KnowsIf (now set) (device .configuration) (device .alternates) (askedBy (questionOf event)) given ⌝ }
-    ensures { λ r. ⌜ Knows (now (set .entry)) (device .configuration) (device .alternates) (askedBy (questionOf event)) r ⌝ }
+// What an event has to know of the configuration that the record selects; nothing where the set does not open. It is asked beside the reaction, to spare the stack.
+pub fn learn(number: u8, set: &[u8], serial: &[u8], image: &[u8], event: Event) -> Selected
+    requires { ⌜ (number ≡ 0 → Openable (now set) (now serial)) ⌝ }
+    ensures { λ r. ⌜ (number ≡ 0 → Knows (now (set .entry)) (recordIn (now (image .entry)) .configuration) (recordIn (now (image .entry)) .alternates) (askedBy (questionOf event)) r) ⌝ }
 {
-    match given {
-        Given::Collected(known) => known,
-        Given::Nothing => look_up(set, serial, device, event),
+    if number != 0 {
+        return nothing_known();
     }
+    look_up(set, serial, records::read(image), event)
 }
 
 // The facts of the set in use, one of two or lent alone, from what is known of its configurations; what only one request asks is looked up for it alone.

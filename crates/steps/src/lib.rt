@@ -1,5 +1,5 @@
 // The step of a device: the set or the two sets and the serial block that are lent are checked, then the record, and then the event is answered.
-use crate::facts::Given;
+use crate::facts::Selected;
 use events::Answer;
 use events::Event;
 use events::Outcome;
@@ -9,14 +9,17 @@ use records::Device;
 ghost use mathlib.Core.Path.{_≡_};
 ghost use mathlib.Core.Bool.{false};
 ghost use lib.Dec.{eqb};
+ghost use lib.ListN.{length};
 ghost use Rattle.octets.specs.Sentences.{pick};
 ghost use Rattle.sets.specs.Opening.{lent};
 ghost use Rattle.sets.specs.View.{openingOf};
+ghost use Rattle.records.specs.Image.{deviceOf};
+ghost use Rattle.records.specs.Change.{recordIn};
 ghost use Rattle.events.specs.Answer.{gives};
 ghost use Rattle.events.specs.Facts.{outcomeOf, questionOf, askedBy};
 ghost use Rattle.events.specs.Step.{step};
 ghost use Rattle.steps.specs.Gathering.{Openable, viewIn, stepIn};
-ghost use Rattle.steps.specs.Selected.{KnowsIf};
+ghost use Rattle.steps.specs.Selected.{Knows};
 
 pub mod endpoint;
 pub mod facts;
@@ -40,24 +43,24 @@ pub fn in_use<'a>(full: &'a [u8], high: &'a [u8], speed: u8) -> &'a [u8]
     high
 }
 
-// The reaction to an event on a board that was checked: `number` is what opening gives, `set` is the set in use, one of two if `paired`, and `given` what opening collected of it,
-// if it did. Opening is asked before this frame stands, to spare the stack.
+// The reaction to an event on a board that was checked: `number` is what opening gives, `set` is the set in use, one of two if `paired`, and `known` what was collected or
+// learned of it for the record in the image. Opening and learning are asked before this frame stands, to spare the stack.
 pub fn react(
     number: u8,
     paired: bool,
     set: &[u8],
     serial: &[u8],
-    device: Device,
+    image: &[u8],
     event: Event,
-    given: Given,
+    known: Selected,
 ) -> Reaction
-    requires { ⌜ (number ≡ 0 → Openable (now set) (now serial) × KnowsIf (now set) (device .configuration) (device .alternates) (askedBy (questionOf event)) given) ⌝ }
-    ensures { λ r. ⌜ outcomeOf r device ≡ stepIn number (viewIn paired (now (set .entry)) (now (serial .entry))) device event ⌝ }
+    requires { ⌜ (number ≡ 0 → Openable (now set) (now serial) × Knows (now set) (recordIn (now image) .configuration) (recordIn (now image) .alternates) (askedBy (questionOf event)) known) ⌝ }
+    ensures { λ r. ⌜ outcomeOf r (recordIn (now (image .entry))) ≡ stepIn number (viewIn paired (now (set .entry)) (now (serial .entry))) (recordIn (now (image .entry))) event ⌝ }
 {
     if number != 0 {
         return reaction::refused(7);
     }
-    let known = facts::learn(set, serial, device, event, given);
+    let device = records::read(image);
     let facts = facts::gather(paired, set, serial, event, known);
     let survey = facts.survey;
     if !records::fits(survey, facts.configured, facts.waking, paired, device) {
@@ -71,12 +74,12 @@ pub fn step_opened(number: u8, set: &[u8], serial: &[u8], device: Device, event:
     requires { ⌜ number ≡ openingOf (lent (now set) (now serial)) ⌝ }
     ensures { λ r. ⌜ r ≡ step (lent (now (set .entry)) (now (serial .entry))) device event ⌝ }
 {
-    let reaction = react(number, false, set, serial, device, event, Given::Nothing);
-    let answer = reaction.answer;
-    let next = reaction.next;
+    let mut image = [0u8; 32];
+    records::store(device, &mut image[..]);
+    let answer = reply(number, set, serial, &mut image[..], event);
     Outcome {
         answer,
-        device: records::after(reaction.settles, next, device),
+        device: records::load(&image[..]),
     }
 }
 
@@ -88,69 +91,77 @@ pub fn step(set: &[u8], serial: &[u8], device: Device, event: Event) -> Outcome
     step_opened(number, set, serial, device, event)
 }
 
-// What an event leaves of a record that is lent: its answer, the record, and whether a setting of it is another.
-pub struct Left {
-    pub answer: Answer,
-    pub device: Device,
-    pub moved: bool,
+// An event on an image of 32 bytes. It is a caller of `learn` beside the board's, so that `learn` stays a function of its own on x86-64.
+fn reply(number: u8, set: &[u8], serial: &[u8], image: &mut [u8], event: Event) -> Answer
+    requires { ⌜ (number ≡ openingOf (lent (now set) (now serial))) × (length (now image) ≡ 32) ⌝ }
+    ensures { λ r. ⌜ gives r (deviceOf (now (image .exit))) ≡ step (lent (now (set .entry)) (now (serial .entry))) (deviceOf (now (image .entry))) event ⌝ }
+{
+    let known = facts::learn(number, set, serial, image, event);
+    let reaction = react(number, false, set, serial, image, event, known);
+    let change = reaction.next;
+    records::renewal::renew(image, reaction.settles, change);
+    reaction.answer
 }
 
-fn step_left(number: u8, set: &[u8], serial: &[u8], device: Device, event: Event) -> Left
-    requires { ⌜ number ≡ openingOf (lent (now set) (now serial)) ⌝ }
-    ensures { λ r. ⌜ (gives (r .answer) (r .device) ≡ step (lent (now (set .entry)) (now (serial .entry))) device event) × (r .moved ≡ false → device .alternates ≡ r .device .alternates) ⌝ }
+// Whether a setting of the record becomes another.
+fn moved(was: Device, next: Device) -> bool
+    ensures { λ r. ⌜ (r ≡ false → was .alternates ≡ next .alternates) × (was .alternates ≡ next .alternates → r ≡ false) ⌝ }
 {
-    let reaction = react(number, false, set, serial, device, event, Given::Nothing);
-    let answer = reaction.answer;
-    let next = reaction.next;
-    let after = records::after(reaction.settles, next, device);
-    let were = device.alternates;
-    let are = after.alternates;
-    Left {
-        answer,
-        device: after,
-        moved: !records::same(&were[..], &are[..]),
+    let were = was.alternates;
+    let are = next.alternates;
+    !records::same(&were[..], &are[..])
+}
+
+// The record becomes that of an image of 32 bytes: a field that becomes another is stored where it stands.
+fn keep(device: &mut Device, image: &[u8])
+    requires { ⌜ length (now image) ≡ 32 ⌝ }
+    ensures { λ _. ⌜ now (device .exit) ≡ deviceOf (now (image .entry)) ⌝ }
+{
+    let was = *device;
+    let next = records::load(image);
+    if was.state != next.state {
+        device.state = next.state;
+    }
+    if was.address != next.address {
+        device.address = next.address;
+    }
+    if was.waiting != next.waiting {
+        device.waiting = next.waiting;
+    }
+    if was.configuration != next.configuration {
+        device.configuration = next.configuration;
+    }
+    if was.wakeup != next.wakeup {
+        device.wakeup = next.wakeup;
+    }
+    if was.power != next.power {
+        device.power = next.power;
+    }
+    if was.suspended != next.suspended {
+        device.suspended = next.suspended;
+    }
+    if was.speed != next.speed {
+        device.speed = next.speed;
+    }
+    if was.halts != next.halts {
+        device.halts = next.halts;
+    }
+    if was.toggles != next.toggles {
+        device.toggles = next.toggles;
+    }
+    if moved(was, next) {
+        device.alternates = next.alternates;
     }
 }
 
-// The step on a record that is lent: a field that becomes another is stored where it stands.
+// The step on a record that is lent, by its image.
 pub fn step_lent(number: u8, device: &mut Device, set: &[u8], serial: &[u8], event: Event) -> Answer
     requires { ⌜ number ≡ openingOf (lent (now set) (now serial)) ⌝ }
     ensures { λ r. ⌜ gives r (now (device .exit)) ≡ step (lent (now (set .entry)) (now (serial .entry))) (now (device .entry)) event ⌝ }
 {
-    let was = *device;
-    let next = step_left(number, set, serial, was, event);
-    if was.state != next.device.state {
-        device.state = next.device.state;
-    }
-    if was.address != next.device.address {
-        device.address = next.device.address;
-    }
-    if was.waiting != next.device.waiting {
-        device.waiting = next.device.waiting;
-    }
-    if was.configuration != next.device.configuration {
-        device.configuration = next.device.configuration;
-    }
-    if was.wakeup != next.device.wakeup {
-        device.wakeup = next.device.wakeup;
-    }
-    if was.power != next.device.power {
-        device.power = next.device.power;
-    }
-    if was.suspended != next.device.suspended {
-        device.suspended = next.device.suspended;
-    }
-    if was.speed != next.device.speed {
-        device.speed = next.device.speed;
-    }
-    if was.halts != next.device.halts {
-        device.halts = next.device.halts;
-    }
-    if was.toggles != next.device.toggles {
-        device.toggles = next.device.toggles;
-    }
-    if next.moved {
-        device.alternates = next.device.alternates;
-    }
-    next.answer
+    let mut image = [0u8; 32];
+    records::store(*device, &mut image[..]);
+    let answer = reply(number, set, serial, &mut image[..], event);
+    keep(device, &image[..]);
+    answer
 }

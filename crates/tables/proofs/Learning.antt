@@ -77,7 +77,7 @@ module _ (set : List ℕ) (value : ℕ) (alternates : List ℕ) (asked : Asked) 
   pub learnt-start : Learnt set value alternates asked nothingKnown (entriesOf 2 set)
   learnt-start = record { entry = none; ahead = refl; waking = refl; configured = refl; surveyed = none-surveyed alternates asked }
 
-  module _ (e : Entry) (es : List Entry) (survey : Survey) (s : Surveys (configurationOf (bodyOf set e)) alternates asked survey) where
+  module _ (e : Entry) (es : List Entry) (survey : Survey) where
     more : (w : Bool) → any canWake (bodies 2 set) ≡ (w || any canWake (map (bodyOf set) (e ∷ es)))
         → any canWake (bodies 2 set) ≡ ((w || canWake (bodyOf set e)) || any canWake (map (bodyOf set) es))
     more w p = p ∙ ap (λ b. w || b) (any-cons canWake (bodyOf set e) (map (bodyOf set) es)) ∙ sym (or-assoc w _ _)
@@ -86,16 +86,18 @@ module _ (set : List ℕ) (value : ℕ) (alternates : List ℕ) (asked : Asked) 
         → first (valued set value) (entriesOf 2 set) ≡ orLater o (first (valued set value) (e ∷ es))
         → any canWake (bodies 2 set) ≡ (w || any canWake (map (bodyOf set) (e ∷ es)))
         → Surveys (configurationOf (bodyFound set (found o))) alternates asked t
+        → ((v && not (isSome o)) ≡ true → Surveys (configurationOf (bodyOf set e)) alternates asked survey)
         → Learnt set value alternates asked (learned (record { configured = isSome o; waking = w; survey = t }) (canWake (bodyOf set e)) v survey) es
-    next none w t true p a q u = record { entry = some e; ahead = a ∙ first-here (valued set value) e es p; waking = more w q; configured = refl; surveyed = s }
-    next none w t false p a q u = record { entry = none; ahead = a ∙ first-later (valued set value) e es p; waking = more w q; configured = refl; surveyed = u }
-    next (some x) w t true p a q u = record { entry = some x; ahead = a; waking = more w q; configured = refl; surveyed = u }
-    next (some x) w t false p a q u = record { entry = some x; ahead = a; waking = more w q; configured = refl; surveyed = u }
+    next none w t true p a q u s = record { entry = some e; ahead = a ∙ first-here (valued set value) e es p; waking = more w q; configured = refl; surveyed = s refl }
+    next none w t false p a q u s = record { entry = none; ahead = a ∙ first-later (valued set value) e es p; waking = more w q; configured = refl; surveyed = u }
+    next (some x) w t true p a q u s = record { entry = some x; ahead = a; waking = more w q; configured = refl; surveyed = u }
+    next (some x) w t false p a q u s = record { entry = some x; ahead = a; waking = more w q; configured = refl; surveyed = u }
 
-    pub learnt-more : {k : Selected} → Learnt set value alternates asked k (e ∷ es)
+    pub learnt-more : {k : Selected} → ((valued set value e && not (k .configured)) ≡ true → Surveys (configurationOf (bodyOf set e)) alternates asked survey)
+        → Learnt set value alternates asked k (e ∷ es)
         → Learnt set value alternates asked (learned k (canWake (bodyOf set e)) (valued set value e) survey) es
-    learnt-more {k} l =
-        rw (l .configured) (next (l .entry) (k .waking) (k .survey) (valued set value e) refl (l .ahead) (l .waking) (l .surveyed))
+    learnt-more {k} s l =
+        rw (l .configured) (next (l .entry) (k .waking) (k .survey) (valued set value e) refl (l .ahead) (l .waking) (l .surveyed) (rw (l .configured) at s))
 
   pub learnt-end : {k : Selected} → Learnt set value alternates asked k [] → Knows set value alternates asked k
   learnt-end {k} l =

@@ -8,7 +8,9 @@ use Rattle.octets.specs.Sentences.{every}
 use Rattle.descriptors.specs.declared.Limits.{Limits}
 use Rattle.descriptors.specs.declared.survey.Asked.{Asked}
 use Rattle.descriptors.specs.Check.{verdict, configurationRefers}
-use Rattle.descriptors.specs.Configuration.{goodConfiguration}
+use Rattle.descriptors.specs.Configuration.{configurationOf, goodConfiguration}
+use Rattle.descriptors.specs.Survey.{Surveys}
+use Rattle.collecting.specs.declared.Collected.{Collected}
 use Rattle.collecting.specs.Course.{limitsAt}
 use Rattle.sets.specs.declared.Entry.{Entry}
 use Rattle.sets.specs.Contents.{bodies}
@@ -26,9 +28,14 @@ numbered e n value seen = eqb (e .index) n && eqb (e .language) 0 && leb 1 value
 abbrev pub AtSpeed : Limits → Bool → Type 0
 AtSpeed limits high = (body : List ℕ) → goodConfiguration limits body ≡ goodConfiguration (limitsAt high) body
 
--- the pass over the configurations at a speed: the verdict of the check, and if it is good what is known
-pub record Passes (high : Bool) (set names : List ℕ) (value : ℕ) (alternates : List ℕ) (asked : Asked) (r : Passed) : Type 0 where
-  pub verdict : r .verdict ≡ verdict (goodConfigurations (limitsAt high) (piecesIn set)) (every (configurationRefers names) (bodies 2 set))
+-- one walk through a body: the verdict of the check, and of a good body that is selected what is asked of it
+pub record Walks (selected : Bool) (limits : Limits) (names alternates : List ℕ) (asked : Asked) (body : List ℕ) (r : Collected) : Type 0 where
+  pub verdict : r .verdict ≡ verdict (goodConfiguration limits body) (configurationRefers names body)
+  pub surveyed : selected ≡ true → r .verdict .good ≡ true → Surveys (configurationOf body) alternates asked (r .survey)
+
+-- the pass over the configurations: the verdict of the check, and if it is good what is known
+pub record Passes (limits : Limits) (set names : List ℕ) (value : ℕ) (alternates : List ℕ) (asked : Asked) (r : Passed) : Type 0 where
+  pub verdict : r .verdict ≡ verdict (goodConfigurations limits (piecesIn set)) (every (configurationRefers names) (bodies 2 set))
   pub known : r .verdict .good ≡ true → Knows set value alternates asked (r .known)
 
 -- opening: its number, and if that is 0 what is known of the set

@@ -8,9 +8,7 @@ use descriptors::check::Verdict;
 use descriptors::survey::Asked;
 use events::Event;
 use events::reaction::Reaction;
-use records::Device;
 use steps::facts;
-use steps::facts::Given;
 use steps::facts::Selected;
 ghost use mathlib.Core.Path.{_≡_};
 ghost use mathlib.Core.List.{List};
@@ -26,6 +24,7 @@ ghost use Rattle.sets.specs.Strings.{languages};
 ghost use Rattle.sets.specs.Opening.{lent, goodConfigurations, opening};
 ghost use Rattle.sets.specs.Pair.{openingTwo};
 ghost use Rattle.sets.specs.View.{openingOf};
+ghost use Rattle.records.specs.Change.{recordIn};
 ghost use Rattle.events.specs.Facts.{outcomeOf};
 ghost use Rattle.steps.specs.Gathering.{viewIn, stepIn};
 ghost use Rattle.tables.specs.Tables.{AtSpeed, Tells};
@@ -86,7 +85,7 @@ pub fn open_set(
     }
     let mut names = [0u32; 8];
     let strings = read_strings(set, &mut names);
-    let passed = pass::configurations(set, high, &names, value, alternates, asked);
+    let passed = pass::configurations(set, limits, high, &names, value, alternates, asked);
     let verdict = passed.verdict;
     let known = passed.known;
     Opened {
@@ -96,9 +95,10 @@ pub fn open_set(
 }
 
 // The reaction to an event on a board that lends one set.
-pub fn react(set: &[u8], serial: &[u8], device: Device, event: Event) -> Reaction
-    ensures { λ r. ⌜ outcomeOf r device ≡ stepIn (openingOf (lent (now (set .entry)) (now (serial .entry)))) (viewIn false (now (set .entry)) (now (serial .entry))) device event ⌝ }
+pub fn react(set: &[u8], serial: &[u8], image: &[u8], event: Event) -> Reaction
+    ensures { λ r. ⌜ outcomeOf r (recordIn (now (image .entry))) ≡ stepIn (openingOf (lent (now (set .entry)) (now (serial .entry)))) (viewIn false (now (set .entry)) (now (serial .entry))) (recordIn (now (image .entry))) event ⌝ }
 {
+    let device = records::read(image);
     let alternates = device.alternates;
     let value = ConfigurationValue(device.configuration);
     let asked = facts::asked_of(event);
@@ -112,15 +112,7 @@ pub fn react(set: &[u8], serial: &[u8], device: Device, event: Event) -> Reactio
         asked,
     );
     let known = opened.known;
-    steps::react(
-        opened.number,
-        false,
-        set,
-        serial,
-        device,
-        event,
-        Given::Collected(known),
-    )
+    steps::react(opened.number, false, set, serial, image, event, known)
 }
 
 // The full-speed set of two, and the high-speed one.
@@ -185,24 +177,17 @@ pub fn react_two<'a>(
     high: &'a [u8],
     serial: &[u8],
     speed: u8,
-    device: Device,
+    image: &[u8],
     event: Event,
 ) -> Reaction
-    ensures { λ r. ⌜ outcomeOf r device ≡ stepIn (openingTwo (now (full .entry)) (now (high .entry)) (now (serial .entry))) (viewIn true (pick (eqb speed 0) (now (full .entry)) (now (high .entry))) (now (serial .entry))) device event ⌝ }
+    ensures { λ r. ⌜ outcomeOf r (recordIn (now (image .entry))) ≡ stepIn (openingTwo (now (full .entry)) (now (high .entry)) (now (serial .entry))) (viewIn true (pick (eqb speed 0) (now (full .entry)) (now (high .entry))) (now (serial .entry))) (recordIn (now (image .entry))) event ⌝ }
 {
+    let device = records::read(image);
     let alternates = device.alternates;
     let value = ConfigurationValue(device.configuration);
     let asked = facts::asked_of(event);
     let opened = open_two(full, high, serial, speed, value, &alternates, asked);
     let set = steps::in_use(full, high, speed);
     let known = opened.known;
-    steps::react(
-        opened.number,
-        true,
-        set,
-        serial,
-        device,
-        event,
-        Given::Collected(known),
-    )
+    steps::react(opened.number, true, set, serial, image, event, known)
 }

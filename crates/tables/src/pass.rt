@@ -1,5 +1,7 @@
 // Group 4, with what is asked of the selected configuration: one pass over the entries, and one walk through each body.
+use collecting::Collected;
 use descriptors::ConfigurationValue;
+use descriptors::Limits;
 use descriptors::check::Verdict;
 use descriptors::survey::Asked;
 use octets::table::holds;
@@ -14,7 +16,7 @@ ghost use mathlib.Core.Bool.{true, false, _&&_, not};
 ghost use lib.Dec.{eqb, leb};
 ghost use Rattle.octets.specs.Table.{has};
 ghost use Rattle.sets.specs.Found.{canWake};
-ghost use Rattle.tables.specs.Tables.{numbered, Passes};
+ghost use Rattle.tables.specs.Tables.{AtSpeed, numbered, Walks, Passes};
 
 // Whether the configurations are good and refer to strings that are there, and what is known of them if they are good.
 pub struct Passed {
@@ -45,17 +47,40 @@ fn refuse() -> Passed
     }
 }
 
-// The pass at a speed, with the index that is next and the values that were there; `value` selects, and the first that is selected counts.
+// A body, walked through once: of the selected one what is asked is collected, the others are checked.
+fn walk_once(
+    body: &[u8],
+    selected: bool,
+    limits: Limits,
+    high: bool,
+    names: &[u32; 8],
+    alternates: &[u8; 16],
+    asked: Asked,
+) -> Collected
+    requires { ⌜ AtSpeed limits high × (has (now names) 0 ≡ true) ⌝ }
+    ensures { λ r. ⌜ Walks selected limits (now (names .entry)) (now (alternates .entry)) asked (now (body .entry)) r ⌝ }
+{
+    if selected {
+        return collecting::collect(body, high, names, alternates, asked);
+    }
+    let verdict = descriptors::check::good_configuration(body, limits, names);
+    let nothing = nothing_known();
+    let survey = nothing.survey;
+    Collected { verdict, survey }
+}
+
+// The pass by limits of a speed, with the index that is next and the values that were there; `value` selects, and the first that is selected counts.
 pub fn configurations(
     set: &[u8],
+    limits: Limits,
     high: bool,
     names: &[u32; 8],
     value: ConfigurationValue,
     alternates: &[u8; 16],
     asked: Asked,
 ) -> Passed
-    requires { ⌜ has (now names) 0 ≡ true ⌝ }
-    ensures { λ r. ⌜ Passes high (now (set .entry)) (now (names .entry)) (value .0) (now (alternates .entry)) asked r ⌝ }
+    requires { ⌜ AtSpeed limits high × (has (now names) 0 ≡ true) ⌝ }
+    ensures { λ r. ⌜ Passes limits (now (set .entry)) (now (names .entry)) (value .0) (now (alternates .entry)) asked r ⌝ }
 {
     let count = octets::peek(set, 2);
     let mut index: u8 = 0;
@@ -73,13 +98,14 @@ pub fn configurations(
             let body = body_of(set, e);
             let here = octets::peek(body, 5);
             let again = holds(&seen, here);
-            let collected = collecting::collect(body, high, names, alternates, asked);
+            let selected = (here == value.0) & !configured;
+            let collected = walk_once(body, selected, limits, high, names, alternates, asked);
             let verdict = collected.verdict;
             if !(is_numbered(e, index, here, again) & verdict.good) {
                 return refuse();
             }
             waking = waking | can_wake(body);
-            if (here == value.0) & !configured {
+            if selected {
                 configured = true;
                 survey = collected.survey;
             }

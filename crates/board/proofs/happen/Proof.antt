@@ -1,4 +1,4 @@
--- `board::happen` meets its contract: the reaction at the record that is read, and the image renewed. No axiom.
+-- `board::happen` meets its contract: the reaction at the record of the image, and the image renewed. No axiom.
 use mathlib.Core.Path.{_∙_}
 use borrow.Author.Needs.{needs}
 use Rattle.steps.specs.Gathering.{viewIn}
@@ -6,11 +6,11 @@ use Rattle.board.proofs.Lengths.{answered, left-behind}
 use Rattle.board.proofs.happen.Statement.{statement}
 use Rattle.board.proofs.happen.Tie as tie
 
-read-requires : tie.Need-read-requires
-read-requires c κs = search needs
+learn-requires : tie.Need-learn-requires
+learn-requires c κs = c .before .before .before .before .pre
 
 react-requires : tie.Need-react-requires
-react-requires c κs = λ z. (c .before .before .before .before .before .pre z, tt)
+react-requires c κs = λ z. (c .before .before .before .before .before .before .pre z, c .before .learn .ensures z)
 
 renew-requires : tie.Need-renew-requires
 renew-requires c κs = search needs
@@ -20,11 +20,11 @@ same-length c = search needs
 
 returns : tie.Need-returns
 returns c =
-    let a = c .before .before .before .before .before .before .before .before .before .before .args in
+    let a = c .before .before .before .before .before .before .before .before .before .before .before .args in
     let v = viewIn (a .paired) (a .set .now) (a .serial .now) in
     let r = c .before .before .before .before .react .result in
-    let s = rw (c .before .before .before .before .before .read .ensures) at (c .before .before .before .before .react .ensures) in
+    let s = c .before .before .before .before .react .ensures in
     (answered (a .number) v (a .image .now) (a .what) r s, c .before .before .renew .ensures ∙ left-behind (a .number) v (a .image .now) (a .what) r s)
 
 pub happen-spec : {M : Type 1} → statement M
-happen-spec = tie.close (tie.spec read-requires react-requires renew-requires same-length returns)
+happen-spec = tie.close (tie.spec learn-requires react-requires renew-requires same-length returns)

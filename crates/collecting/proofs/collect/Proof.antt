@@ -12,12 +12,12 @@ use Rattle.descriptors.specs.Check.{starting, checking}
 use Rattle.descriptors.specs.Configuration.{bNumInterfaces, goodConfiguration}
 use Rattle.descriptors.proofs.Ahead.{at-first}
 use Rattle.descriptors.proofs.GoodBody.{good-cut}
-use Rattle.descriptors.proofs.CheckWhole.{check-none, head-inside, check-head}
+use Rattle.descriptors.proofs.CheckWhole.{check-none, head-inside, check-head, head-short}
 use Rattle.descriptors.proofs.CheckReferences.{references-behind}
 use Rattle.descriptors.proofs.Surveying.{surveys}
 use Rattle.collecting.specs.Course.{limitsAt}
-use Rattle.collecting.proofs.Rules.{part-bytes}
-use Rattle.collecting.proofs.Whole.{head-short, first-ends, collects-refused, same-verdict, surveys-found}
+use Rattle.descriptors.proofs.SequenceRules.{part-bytes}
+use Rattle.collecting.proofs.Whole.{first-ends, collects-refused, same-verdict, surveys-found}
 use borrow.Author.Needs.{needs}
 use Rattle.collecting.proofs.collect.Statement.{statement}
 use Rattle.collecting.proofs.collect.Tie as tie

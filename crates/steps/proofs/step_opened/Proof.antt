@@ -1,27 +1,43 @@
--- `steps::step_opened` meets its contract: the record after the change. No axiom.
-use Prim.Native.Nat.{ℕ}
-use mathlib.Core.Path.{sym, ap, _∙_}
-use mathlib.Core.Bool.{false}
+-- `steps::step_opened` meets its contract: the record by its image. No axiom.
 use borrow.Author.Needs.{needs}
-use Rattle.descriptors.specs.Limits.{fullSpeed}
-use Rattle.sets.specs.Opening.{lent}
-use Rattle.steps.specs.Gathering.{viewIn, stepIn}
-use Rattle.steps.proofs.Steps.{step-in}
-use Rattle.steps.proofs.step_opened.Tie as tie
+use Rattle.records.proofs.Image.{device-image}
+use Rattle.steps.proofs.Images.{is-sized}
 use Rattle.steps.proofs.step_opened.Statement.{statement}
+use Rattle.steps.proofs.step_opened.Tie as tie
 
-react-requires : tie.Need-react-requires
-react-requires c κs = λ z. ((fullSpeed, sym (c .before .before .pre) ∙ z), tt)
+slice-aggregate-store : tie.Need-slice-aggregate-store
+slice-aggregate-store c = search needs
 
-after-requires : tie.Need-after-requires
-after-requires c κs = search needs
+store-requires : tie.Need-store-requires
+store-requires c κs = search needs
+
+slice-aggregate-reply : tie.Need-slice-aggregate-reply
+slice-aggregate-reply c = search needs
+
+reply-requires : tie.Need-reply-requires
+reply-requires c κs = search needs
+
+slice-aggregate-load : tie.Need-slice-aggregate-load
+slice-aggregate-load c = search needs
+
+load-requires : tie.Need-load-requires
+load-requires c κs = search needs
 
 returns : tie.Need-returns
 returns c =
-    let start = c .before .before .before .before in
+    let start = c .before .before .before .before .before .before .before .before .before .before in
     let a = start .args in
-    let b = lent (a .set .now) (a .serial .now) in
-    rw (c .after .ensures) (c .before .react .ensures ∙ ap (λ (n : ℕ). stepIn n (viewIn false (a .set .now) (a .serial .now)) (a .device) (a .event)) (start .pre) ∙ sym (step-in b (a .device) (a .event)))
+    let sized = is-sized (a .device) _ (start .good .1 .1 .1 .0) in
+    rw (c .load .ensures) (rw (c .before .before .before .before .before .before .store .ensures, device-image (a .device) sized) at (c .before .before .before .reply .ensures))
 
 pub step-opened-spec : {M : Type 1} → statement M
-step-opened-spec = tie.close (tie.spec react-requires after-requires returns)
+step-opened-spec =
+    tie.close
+    (tie.spec
+    slice-aggregate-store
+    store-requires
+    slice-aggregate-reply
+    reply-requires
+    slice-aggregate-load
+    load-requires
+    returns)

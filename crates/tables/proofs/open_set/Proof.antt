@@ -3,10 +3,8 @@ use mathlib.Core.Path.{sym, ap, _∙_}
 use borrow.Author.Needs.{needs}
 use Rattle.descriptors.proofs.CheckReferences.{told}
 use Rattle.sets.specs.Opening.{lent}
-use Rattle.sets.specs.Pieces.{piecesIn}
 use Rattle.sets.proofs.Groups.{groups}
 use Rattle.sets.proofs.Passing.{ordered}
-use Rattle.tables.proofs.AtSpeed.{configurations-at}
 use Rattle.tables.proofs.open_set.Statement.{statement}
 use Rattle.tables.proofs.open_set.Tie as tie
 
@@ -26,7 +24,7 @@ read-strings-requires : tie.Need-read-strings-requires
 read-strings-requires c κs = let b = c .before .before .begin .ensures .0 (c .before .if1 .left) in ordered _ _ (b .frame) (b .contents)
 
 configurations-requires : tie.Need-configurations-requires
-configurations-requires c κs = c .before .read-strings .ensures .zero
+configurations-requires c κs = (c .before .before .before .before .before .before .before .pre, c .before .read-strings .ensures .zero)
 
 finish-requires : tie.Need-finish-requires
 finish-requires c κs =
@@ -38,7 +36,7 @@ returns-2 : tie.Need-returns-2
 returns-2 c =
     let a = c .before .before .before .before .before .before .before .before .before .before .before .before .args in
     let v = c .before .before .before .before .configurations in
-    let good = ap (λ v. v .good) (v .ensures .verdict) ∙ sym (configurations-at (a .limits) (a .high) (piecesIn (a .set .now)) (c .before .before .before .before .before .before .before .before .before .before .before .before .pre)) in
+    let good = ap (λ v. v .good) (v .ensures .verdict) in
     let number = c .finish .ensures (a .limits) (c .before .before .before .before .before .before .before .before .before .begin .ensures .0 (c .before .before .before .before .before .before .before .before .if1 .left)) good in
     record {
       number = number;

@@ -1,4 +1,4 @@
--- `board::table::happen` meets its contract: the reaction at the record that is read, and the image renewed. No axiom.
+-- `board::table::happen` meets its contract: the reaction at the record of the image, and the image renewed. No axiom.
 use mathlib.Core.Path.{sym, ap, _∙_}
 use mathlib.Core.Bool.{false}
 use borrow.Author.Needs.{needs}
@@ -11,9 +11,6 @@ use Rattle.board.proofs.Lengths.{answered, left-behind}
 use Rattle.board.proofs.table.happen.Statement.{statement}
 use Rattle.board.proofs.table.happen.Tie as tie
 
-read-requires : tie.Need-read-requires
-read-requires c κs = search needs
-
 react-requires : tie.Need-react-requires
 react-requires c κs = search needs
 
@@ -25,15 +22,15 @@ same-length c = search needs
 
 returns : tie.Need-returns
 returns c =
-    let a = c .before .before .before .before .before .before .before .before .before .before .args in
+    let a = c .before .before .before .before .before .before .before .before .before .args in
     let b = lent (a .set .now) (a .serial .now) in
     let v = viewIn false (a .set .now) (a .serial .now) in
     let r = c .before .before .before .before .react .result in
-    let s = rw (c .before .before .before .before .before .read .ensures) at (c .before .before .before .before .react .ensures) in
+    let s = c .before .before .before .before .react .ensures in
     let q = sym (event-in b (a .image .now) (a .what)) in (
       answered (openingOf b) v (a .image .now) (a .what) r s ∙ ap (λ (r : Reply). r .answer) q,
       c .before .before .renew .ensures ∙ left-behind (openingOf b) v (a .image .now) (a .what) r s ∙ ap (λ (r : Reply). r .image) q,
     )
 
 pub happen-spec : {M : Type 1} → statement M
-happen-spec = tie.close (tie.spec read-requires react-requires renew-requires same-length returns)
+happen-spec = tie.close (tie.spec react-requires renew-requires same-length returns)

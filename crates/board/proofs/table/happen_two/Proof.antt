@@ -1,4 +1,4 @@
--- `board::table::happen_two` meets its contract: the reaction of the set in use at the record that is read, and the image renewed. No axiom.
+-- `board::table::happen_two` meets its contract: the reaction of the set in use at the record of the image, and the image renewed. No axiom.
 use mathlib.Core.Path.{_≡_, refl, ap, _∙_}
 use mathlib.Core.Bool.{true}
 use lib.Dec.{eqb}
@@ -15,9 +15,6 @@ use Rattle.board.proofs.table.happen_two.Tie as tie
 peek-requires : tie.Need-peek-requires
 peek-requires c κs = search needs
 
-read-requires : tie.Need-read-requires
-read-requires c κs = search needs
-
 react-two-requires : tie.Need-react-two-requires
 react-two-requires c κs = search needs
 
@@ -29,13 +26,13 @@ same-length c = search needs
 
 returns : tie.Need-returns
 returns c =
-    let a = c .before .before .before .before .before .before .before .before .before .before .before .before .before .args in
+    let a = c .before .before .before .before .before .before .before .before .before .before .before .before .args in
     let n = openingTwo (a .full .now) (a .high .now) (a .serial .now) in
-    let set = pick (eqb (c .before .before .before .before .before .before .before .peek .result) 0) (a .full .now) (a .high .now) in
+    let set = pick (eqb (c .before .before .before .before .before .before .peek .result) 0) (a .full .now) (a .high .now) in
     let v = viewIn true set (a .serial .now) in
     let r = c .before .before .before .before .react-two .result in
-    let s = rw (c .before .before .before .before .before .read .ensures) at (c .before .before .before .before .react-two .ensures) in
-    let u : set ≡ used (a .full .now) (a .high .now) (a .serial .now) (a .image .now) = chosen (a .full .now) (a .high .now) (a .serial .now) (a .image .now) (c .before .before .before .before .before .before .before .peek .ensures) refl in
+    let s = c .before .before .before .before .react-two .ensures in
+    let u : set ≡ used (a .full .now) (a .high .now) (a .serial .now) (a .image .now) = chosen (a .full .now) (a .high .now) (a .serial .now) (a .image .now) (c .before .before .before .before .before .before .peek .ensures) refl in
     let q = event-two (a .full .now) (a .high .now) (a .serial .now) (a .image .now) u {n = n} refl (a .what) in (
       answered n v (a .image .now) (a .what) r s ∙ ap (λ (r : Reply). r .answer) q,
       c .before .before .renew .ensures ∙ left-behind n v (a .image .now) (a .what) r s ∙ ap (λ (r : Reply). r .image) q,
@@ -43,4 +40,4 @@ returns c =
 
 pub happen-two-spec : {M : Type 1} → statement M
 happen-two-spec =
-    tie.close (tie.spec peek-requires read-requires react-two-requires renew-requires same-length returns)
+    tie.close (tie.spec peek-requires react-two-requires renew-requires same-length returns)

@@ -1,5 +1,5 @@
 -- `collecting::walk::rest` meets its contract: what the whole walk says, the walk from each place says, and what was found beside it. No axiom.
-use Prim.Native.Nat.{ℕ, _+_, _-_, _<_, _≤_}
+use Prim.Native.Nat.{ℕ, _+_, _-_, _<_}
 use mathlib.Core.List.{List}
 use native.Mathlib.Omega.{arith}
 use mathlib.Core.Path.{_≡_, refl, sym, _∙_}
@@ -9,17 +9,20 @@ use borrow.Author.Tests.{not-true, not-false}
 use borrow.Author.Needs.{needs}
 use Rattle.octets.specs.Octets.{byte}
 use Rattle.descriptors.specs.declared.survey.Asked.{Asked}
+use Rattle.descriptors.specs.Walk.{Plain}
 use Rattle.collecting.specs.Course.{limitsAt, wantedOf}
-use Rattle.descriptors.proofs.Alike.{alike-on}
-use Rattle.collecting.proofs.Rules.{no-companions, part-bytes}
-use Rattle.collecting.proofs.Models.{models-low}
-use Rattle.collecting.proofs.Reaching.{Reached, reached-begin, reached-small, reached-long, reached-run, reached-turn, reached-refused, rests-stopped, rests-end}
+use Rattle.descriptors.proofs.Plains.{plains-on}
+use Rattle.descriptors.proofs.SequenceRules.{part-bytes}
+use Rattle.descriptors.proofs.Models.{models-low}
+use Rattle.descriptors.proofs.Reaching.{reached-small, reached-long, reached-refused}
+use Rattle.collecting.proofs.Rules.{no-companions}
+use Rattle.collecting.proofs.Reaching.{Gathered, gathered-begin, gathered-behind, gathered-turn, rests-stopped, rests-end}
 use Rattle.collecting.proofs.walk.rest.Statement.{statement}
 use Rattle.collecting.proofs.walk.rest.Tie as tie
 
 abbrev Inv-loop : tie.InvT-loop
 Inv-loop body from interfaces high names alternates wanted course₀ at₀ last course at =
-    (asked : Asked) → wanted ≡ wantedOf asked → Reached (limitsAt high) interfaces names alternates asked body from course at
+    (asked : Asked) → wanted ≡ wantedOf asked → Gathered (limitsAt high) interfaces names alternates asked body from course at
 
 abbrev μ-loop : tie.MeasureT-loop
 μ-loop body from interfaces high names alternates wanted course₀ at₀ last course at = length body + 256 - at
@@ -41,7 +44,7 @@ sub-last : tie.Need-sub-last Inv-loop μ-loop
 sub-last c = omega (arith, c .before .before .before .pre .some-bytes)
 
 loop-holds : tie.Need-loop-holds Inv-loop μ-loop
-loop-holds c = λ asked e. rw (c .set-out .ensures) (reached-begin (c .before .before .before .args .alternates .now) asked (c .before .before .before .pre .inside))
+loop-holds c = λ asked e. rw (c .set-out .ensures) (gathered-begin (c .before .before .before .args .alternates .now) asked (c .before .before .before .pre .inside))
 
 shared-slice-read-size : tie.Need-shared-slice-read-size Inv-loop μ-loop
 shared-slice-read-size c = omega (arith, c .before .loop-test .taken)
@@ -58,22 +61,21 @@ shared-slice-read-t c = omega (arith, c .before .before .loop-test .taken, c .be
 add-end : tie.Need-add-end Inv-loop μ-loop
 add-end c = let m = more c in omega (arith, c .before .before .shared-slice-known2 .given (c .before .before .before .before .loop .at), c .before .before .before .before .before .before .before .before .pre .short)
 
--- a descriptor that is stepped over, and those behind it that begin as it does
-plain : (c : tie.Then2 Inv-loop μ-loop) → 8 ≤ byte (c .before .before .before .before .before .before .before .before .before .args .body .now) (c .before .before .before .before .before .loop .at + 1)
-plain c = c .if2 .taken
+-- a descriptor that is stepped over, and those behind it
+plain : (c : tie.Then2 Inv-loop μ-loop) → Plain (c .before .before .before .before .before .before .before .before .before .args .body .now) (c .before .before .before .before .before .loop .at)
+plain c = record { inside = more (c .before); two = c .before .if1 .left; plain = c .if2 .taken }
 
 behind-requires : tie.Need-behind-requires Inv-loop μ-loop
-behind-requires c κs = (more (c .before), omega (arith, c .before .if1 .left))
+behind-requires c κs = c .before .before .before .before .before .before .before .before .before .pre .some-bytes
 
 loop-less : tie.Need-loop-less Inv-loop μ-loop
-loop-less c = let m = more (c .before .before) in omega (arith, alike-on (c .behind .ensures), c .before .before .if1 .left)
+loop-less c = let m = more (c .before .before) in omega (arith, plains-on (c .behind .ensures), c .before .before .if1 .left)
 
 loop-again : tie.Need-loop-again Inv-loop μ-loop
 loop-again c =
-    let m = more (c .before .before) in
     let l = c .before .before .before .before .before .before .loop in
     let a = c .before .before .before .before .before .before .before .before .before .before .args in
-    λ asked e. reached-run (a .high) (l .inv asked e) m (c .before .before .if1 .left) (omega (arith, c .before .before .before .before .shared-slice-known2 .given (l .at))) (plain (c .before)) (c .behind .ensures)
+    λ asked e. gathered-behind (no-companions (a .high)) (λ k. omega (arith, c .before .before .before .before .shared-slice-known2 .given k)) (l .inv asked e) (plain (c .before)) (c .behind .ensures)
 
 sub-turn : tie.Need-sub-turn Inv-loop μ-loop
 sub-turn c = omega (arith, c .before .before .if1 .left)
@@ -85,7 +87,7 @@ part-turn-end : tie.Need-part-turn-end Inv-loop μ-loop
 part-turn-end c = omega (arith, c .if3 .left)
 
 turn-requires : tie.Need-turn-requires Inv-loop μ-loop
-turn-requires c κs = (models-low (c .before .before .before .before .before .before .before .loop .inv (c .before .before .before .before .before .before .before .before .before .before .before .args .asked) (c .before .before .before .before .before .before .before .before .before .wanted-of .ensures) .models), c .before .before .before .before .before .before .before .before .before .before .before .pre .zero)
+turn-requires c κs = (models-low (c .before .before .before .before .before .before .before .loop .inv (c .before .before .before .before .before .before .before .before .before .before .before .args .asked) (c .before .before .before .before .before .before .before .before .before .wanted-of .ensures) .reached .models), c .before .before .before .before .before .before .before .before .before .before .before .pre .zero)
 
 loop-less-2 : tie.Need-loop-less-2 Inv-loop μ-loop
 loop-less-2 c = let m = more (c .before .before .before .before .before .before .before) in omega (arith, c .before .before .before .before .before .before .before .if1 .left)
@@ -96,7 +98,7 @@ loop-again-2 c =
     let l = c .before .before .before .before .before .before .before .before .before .before .before .loop in
     let h : l .at < length (a .body .now) = omega (arith, c .before .before .before .before .before .before .before .before .before .before .loop-test .taken) in
     let bytes = part-bytes (a .body .now) (λ k. omega (arith, c .before .before .before .before .before .before .before .before .before .shared-slice-known2 .given k)) (l .at) (l .at + byte (a .body .now) (l .at) - l .at) in
-    λ asked e. reached-turn (no-companions (c .before .before .before .before .before .before .before .before .before .before .before .before .before .before .before .args .high)) (l .inv asked e) h (c .before .before .before .before .before .before .before .if1 .left) _ refl (c .before .before .before .before .before .if3 .left) (bytes 2) (bytes 3) (rw e at (c .before .before .before .turn .ensures)) (not-false _ (c .before .if4 .left))
+    λ asked e. gathered-turn (no-companions (a .high)) (l .inv asked e) h (c .before .before .before .before .before .before .before .if1 .left) _ refl (c .before .before .before .before .before .if3 .left) (bytes 2) (bytes 3) (rw e at (c .before .before .before .turn .ensures)) (not-false _ (c .before .if4 .left))
 
 next-of-requires : tie.Need-next-of-requires Inv-loop μ-loop
 next-of-requires c κs = search needs
@@ -110,18 +112,19 @@ returns c =
     let pre = c .before .before .before .before .before .before .before .before .before .pre in
     let l = c .before .before .before .before .before .loop in
     let body = a .body .now in
+    let alone = no-companions (a .high) in
     let r = l .inv (a .asked) (c .before .before .before .before .before .before .before .wanted-of .ensures) in
     let good = rw (c .before .before .next-of .ensures) at (c .told .ensures .0) in
     ⊎-elim
-    (λ p. rests-end (no-companions (a .high)) r _ (pre .one) (omega (arith, p .0 .left)) (rw (p .1) at good) (c .told .ensures .1) (c .told .ensures .2))
+    (λ p. rests-end alone r _ (pre .one) (omega (arith, p .0 .left)) (rw (p .1) at good) (c .told .ensures .1) (c .told .ensures .2))
     (⊎-elim
-    (λ p. rests-stopped _ _ _ (pre .some-bytes) (p .4) good (reached-small (no-companions (a .high)) r (before-end body (p .0 .taken)) (p .3 .taken)))
+    (λ p. rests-stopped _ _ _ (pre .some-bytes) (p .4) good (reached-small alone (r .reached) (before-end body (p .0 .taken)) (p .3 .taken)))
     (⊎-elim
-    (λ p. rests-stopped _ _ _ (pre .some-bytes) (p .6) good (reached-long (no-companions (a .high)) r (before-end body (p .0 .taken)) (p .5 .taken)))
+    (λ p. rests-stopped _ _ _ (pre .some-bytes) (p .6) good (reached-long alone (r .reached) (before-end body (p .0 .taken)) (p .5 .taken)))
     (λ p.
     let bytes = part-bytes body (λ k. omega (arith, p .1 .given k)) (l .at) (l .at + byte body (l .at) - l .at) in
     rests-stopped _ _ _ (pre .some-bytes) (p .10) good
-    (reached-refused (no-companions (a .high)) r (before-end body (p .0 .taken)) (p .3 .left) _ refl (p .5 .left) (bytes 2) (bytes 3) (rw (c .before .before .before .before .before .before .before .wanted-of .ensures) at (p .7 .ensures)) (pre .few) (not-true _ (p .9 .taken))))))
+    (reached-refused alone (r .reached) (before-end body (p .0 .taken)) (p .3 .left) _ refl (p .5 .left) (bytes 2) (bytes 3) (pre .few) (sym (p .7 .ensures .may) ∙ not-true _ (p .9 .taken))))))
     (c .before .before .before .before .loop-test .came)
 
 pub rest-spec : {M : Type 1} → statement M

@@ -4,14 +4,12 @@ use Rattle.descriptors.specs.Descriptor.{bInterfaceNumber}
 use native.Mathlib.Omega.{arith}
 use mathlib.Core.Path.{refl, sym, _∙_}
 use mathlib.Core.List.{[], _∷_}
-use mathlib.Core.Bool.{false, not}
 use lib.ListN.{length}
 use lib.Dec.{eqb, leb}
 use Rattle.octets.specs.Octets.{word}
 use Rattle.octets.proofs.Sentences.{never, conjunct}
-use Rattle.descriptors.specs.Limits.{named}
-use Rattle.collecting.specs.Course.{limitsAt, settles}
-use Rattle.collecting.proofs.Models.{low-number}
+use Rattle.descriptors.specs.Sequence.{settles}
+use Rattle.descriptors.proofs.Models.{low-number}
 use borrow.Author.Needs.{needs}
 use Rattle.collecting.proofs.walk.start.Statement.{statement}
 use Rattle.collecting.proofs.walk.start.Tie as tie
@@ -25,7 +23,7 @@ low c =
     let a = c .before .before .before .before .before .before .args in
     let d = a .d .now in
     let o = a .course .order in
-    let s = conjunct 3 (leb 9 (length d) ∷ not (named (limitsAt false .refused) 4) ∷ eqb (o .coming) 0 ∷ settles (o .again) (word d 2) ∷ []) (sym (c .before .before .begin .ensures false .may) ∙ c .before .if1 .taken) in
+    let s = conjunct 2 (leb 9 (length d) ∷ eqb (o .coming) 0 ∷ settles (o .again) (word d 2) ∷ []) (sym (c .before .before .begin .ensures .may) ∙ c .before .if1 .taken) in
     omega (arith, low-number (o .again) (word d 2) (c .before .before .before .before .before .before .pre .0) s, c .before .before .before .before .before .shared-slice-known .given 2)
 
 role-of-requires : tie.Need-role-of-requires
@@ -41,11 +39,13 @@ still-refers-requires : tie.Need-still-refers-requires
 still-refers-requires c κs = search needs
 
 returns : tie.Need-returns
-returns c = λ high.
+returns c =
+    let b = c .before .before .before .before .before .before .begin .ensures in
+    let good = c .before .before .before .before .before .if1 .taken in
     record {
-      may = sym (c .before .before .before .before .before .if1 .taken) ∙ c .before .before .before .before .before .before .begin .ensures high .may;
+      may = sym good ∙ b .may;
       on = λ _. record {
-        order = c .before .before .before .before .before .before .begin .ensures high .on (c .before .before .before .before .before .if1 .taken);
+        order = b .on good;
         role = c .before .before .before .role-of .ensures;
         finds = c .before .before .with-setting .ensures ∙ rw (c .before .before .before .role-of .ensures);
         refers = rw (c .still-refers .ensures, c .before .peek .ensures);
@@ -53,7 +53,7 @@ returns c = λ high.
     }
 
 returns-2 : tie.Need-returns-2
-returns-2 c = λ high. record { may = sym (c .if1 .left) ∙ c .before .begin .ensures high .may; on = λ e. never e refl }
+returns-2 c = record { may = sym (c .if1 .left) ∙ c .before .begin .ensures .may; on = λ e. never e refl }
 
 pub start-spec : {M : Type 1} → statement M
 start-spec =

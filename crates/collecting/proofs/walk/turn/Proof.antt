@@ -4,7 +4,6 @@ use mathlib.Core.Bool.{not}
 use borrow.Author.Tests.{ne-eqb}
 use Rattle.octets.proofs.Sentences.{never}
 use borrow.Author.Needs.{needs}
-use Rattle.collecting.proofs.Rules.{refused-at}
 use Rattle.collecting.proofs.walk.turn.Statement.{statement}
 use Rattle.collecting.proofs.walk.turn.Tie as tie
 
@@ -31,14 +30,14 @@ returns-2 : tie.Need-returns-2
 returns-2 c =
     let p = sym (c .before .before .before .peek .ensures) ∙ c .before .if2 .taken in
     record {
-      may = rw p (c .start .ensures (c .before .before .before .before .before .args .high) .may);
+      may = rw p (c .start .ensures .may);
       lists = λ k _. never k (rw p);
-      starts = λ _. c .start .ensures (c .before .before .before .before .before .args .high) .on;
+      starts = λ _. c .start .ensures .on;
       passes = λ i _. never (rw p) i;
     }
 
-is-named-requires : tie.Need-is-named-requires
-is-named-requires c κs = search needs
+is-refused-requires : tie.Need-is-refused-requires
+is-refused-requires c κs = search needs
 
 returns-3 : tie.Need-returns-3
 returns-3 c =
@@ -46,7 +45,7 @@ returns-3 c =
     let k = ne-eqb _ _ (λ q. c .before .before .if1 .left (e ∙ q)) in
     let i = ne-eqb _ _ (λ q. c .before .if2 .left (e ∙ q)) in
     record {
-      may = ap not (c .is-named .ensures) ∙ rw (e, i, k, refused-at (c .before .before .before .before .before .args .high));
+      may = ap not (c .is-refused .ensures) ∙ rw (e, i, k);
       lists = λ p _. never p k;
       starts = λ p _. never p i;
       passes = λ _ _. refl;
@@ -61,5 +60,5 @@ turn-spec =
     returns
     start-requires
     returns-2
-    is-named-requires
+    is-refused-requires
     returns-3)

@@ -1,18 +1,21 @@
 -- `descriptors::check::good_configuration` meets its contract. No axiom.
-use Prim.Native.Nat.{_<_}
+use Prim.Native.Nat.{_<_, _≤_}
 use native.Mathlib.Omega.{arith}
-use mathlib.Core.Bool.{Bool, _&&_}
+use mathlib.Core.Bool.{Bool, true, false, _&&_}
 use mathlib.Core.Path.{_≡_, sym, _∙_}
-use lib.ListN.{take, drop}
+use lib.ListN.{length, take, drop}
 use lib.Seq.{length-take-le}
-use Rattle.octets.specs.Sentences.{every}
+use borrow.Author.Tests.{not-true, not-false}
+use Rattle.octets.specs.Sentences.{_⇒_, every}
 use Rattle.octets.specs.Table.{has}
 use Rattle.descriptors.specs.Cut.{cut}
 use Rattle.descriptors.specs.Walk.{before, stepOf, walked, collected}
-use Rattle.descriptors.specs.Check.{starting, checking, referring}
+use Rattle.descriptors.specs.Check.{starting, checking, accompanying, referring}
+use Rattle.descriptors.specs.Sequence.{unaccompanied}
 use Rattle.descriptors.specs.Configuration.{bNumInterfaces, iConfiguration, goodConfiguration}
-use Rattle.descriptors.proofs.CheckWhole.{check-none, head-inside, check-head}
+use Rattle.descriptors.proofs.CheckWhole.{check-none, head-inside, check-head, head-short, companions-apart}
 use Rattle.descriptors.proofs.CheckReferences.{references-behind, refused, with-more}
+use Rattle.descriptors.proofs.SequenceRules.{part-bytes}
 use borrow.Author.Needs.{needs}
 use Rattle.descriptors.proofs.check.good_configuration.Statement.{statement}
 use Rattle.descriptors.proofs.check.good_configuration.Tie as tie
@@ -34,6 +37,15 @@ checked c p =
     let a = c .before .before .before .before .before .before .args in
     check-head (a .limits) (a .body .now) _ (stepped (c .before .before .before)) (went (c .before .before)) ∙ rw (sym (c .good-head .ensures) ∙ p)
 
+head-small : (c : tie.After-good-head) → c .good-head .result ≡ true
+    → let body = c .before .before .before .before .before .before .args .body .now in
+    let d = take (c .before .before .before .advance .result .end) body in
+    (length body ≤ 65535) × (1 ≤ bNumInterfaces d) × (bNumInterfaces d ≤ 16)
+head-small c p =
+    let body = c .before .before .before .before .before .before .args .body .now in
+    let end = c .before .before .before .advance .result .end in
+    head-short (length body) (take end body) (sym (c .good-head .ensures) ∙ p) (part-bytes body (λ k. omega (arith, c .before .before .before .before .before .shared-slice-known .given k)) 0 end)
+
 outside-requires : tie.Need-outside-requires
 outside-requires c κs = search needs
 
@@ -52,11 +64,31 @@ slice-aggregate-head c = sym (length-take-le _ _ (head-inside (c .before .before
 good-head-requires : tie.Need-good-head-requires
 good-head-requires c κs = search needs
 
+refuse-requires-2 : tie.Need-refuse-requires-2
+refuse-requires-2 c κs = search needs
+
+returns-2 : tie.Need-returns-2
+returns-2 c = c .refuse2 .ensures ∙ refused _ (sym (checked (c .before .before) (not-true _ (c .before .if2 .taken))))
+
 peek-requires : tie.Need-peek-requires
 peek-requires c κs = search needs
 
 good-rest-requires : tie.Need-good-rest-requires
-good-rest-requires c κs = search needs
+good-rest-requires c κs =
+    let w = c .before .before in
+    let body = w .before .before .before .before .before .before .args .body .now in
+    let inside = head-inside body _ (stepped (w .before .before .before)) (went (w .before .before)) in
+    let small = head-small w (not-false _ (c .before .if2 .left)) in
+    record {
+      short = small .0;
+      some-bytes = omega (arith, inside, went (w .before .before));
+      inside = inside;
+      one = rw (c .peek .ensures) (small .1);
+      few = rw (c .peek .ensures) (small .2);
+    }
+
+good-companions-requires : tie.Need-good-companions-requires
+good-companions-requires c κs = search needs
 
 peek-requires-2 : tie.Need-peek-requires-2
 peek-requires-2 c κs = search needs
@@ -64,26 +96,24 @@ peek-requires-2 c κs = search needs
 holds-requires : tie.Need-holds-requires
 holds-requires c κs = search needs
 
-returns-2 : tie.Need-returns-2
-returns-2 c =
-    let w = c .before .before .before .before .before .before .before .before in
-    let a = w .before .before .before .before .args in
-    let body = a .body .now in
-    let end = w .before .advance .result .end in
-    rw (
-      c .before .holds .ensures,
-      c .before .before .peek2 .ensures,
-      checked (c .before .before .before .before .before .before) (c .before .before .before .before .before .if2 .taken),
-      references-behind (has (a .names .now)) body _ (stepped (w .before)) (went w),
-    )
-    (with-more (c .before .before .before .good-rest .result) (walked (checking (a .limits) (bNumInterfaces (take end body))) starting before (cut (drop end body)))
-    (every (has (a .names .now)) (collected referring body before end)) (has (a .names .now) (iConfiguration body)) (rw (c .before .before .before .before .peek .ensures) at (c .before .before .before .good-rest .ensures)))
-
-refuse-requires-2 : tie.Need-refuse-requires-2
-refuse-requires-2 c κs = search needs
-
 returns-3 : tie.Need-returns-3
-returns-3 c = c .refuse2 .ensures ∙ refused _ (sym (checked (c .before .before) (c .before .if2 .left)))
+returns-3 c =
+    let w = c .before .before .before .before .before .before .before .before in
+    let a = w .before .before .before .before .before .before .args in
+    let body = a .body .now in
+    let end = w .before .before .before .advance .result .end in
+    let cs = cut (drop end body) in
+    let n = bNumInterfaces (take end body) in
+    rw (
+      c .holds .ensures,
+      c .before .peek2 .ensures,
+      c .before .before .before .before .good-companions .ensures,
+      checked w (not-false _ (c .before .before .before .before .before .before .before .if2 .left)),
+      companions-apart (a .limits) n cs,
+      references-behind (has (a .names .now)) body _ (stepped (w .before .before .before)) (went (w .before .before)),
+    )
+    (with-more (c .before .before .before .before .before .good-rest .result) (walked (checking (unaccompanied (a .limits)) n) starting before cs) (every (has (a .names .now)) (collected referring body before end))
+    (a .limits .companions ⇒ walked accompanying false before cs) (has (a .names .now) (iConfiguration body)) (rw (c .before .before .before .before .before .before .peek .ensures) at (c .before .before .before .before .before .good-rest .ensures)))
 
 pub good-configuration-spec : {M : Type 1} → statement M
 good-configuration-spec =
@@ -95,10 +125,11 @@ good-configuration-spec =
     returns
     slice-aggregate-head
     good-head-requires
+    refuse-requires-2
+    returns-2
     peek-requires
     good-rest-requires
+    good-companions-requires
     peek-requires-2
     holds-requires
-    returns-2
-    refuse-requires-2
     returns-3)

@@ -1,24 +1,44 @@
--- `descriptors::check::may_list` meets its contract. No axiom.
+-- `descriptors::check::may_list` meets its contract: each rule that fails. No axiom.
+use mathlib.Core.Path.{sym, _∙_}
+use Rattle.descriptors.proofs.SequenceRules.{by-kind}
 use borrow.Author.Needs.{needs}
 use Rattle.descriptors.proofs.check.may_list.Statement.{statement}
 use Rattle.descriptors.proofs.check.may_list.Tie as tie
 
-is-named-requires : tie.Need-is-named-requires
-is-named-requires c κs = search needs
-
-good-endpoint-requires : tie.Need-good-endpoint-requires
-good-endpoint-requires c κs = search needs
+may-come-requires : tie.Need-may-come-requires
+may-come-requires c κs = search needs
 
 peek-requires : tie.Need-peek-requires
 peek-requires c κs = search needs
 
-is-fresh-requires : tie.Need-is-fresh-requires
-is-fresh-requires c κs = search needs
+word-requires : tie.Need-word-requires
+word-requires c κs = search needs
+
+peek-requires-2 : tie.Need-peek-requires-2
+peek-requires-2 c κs = search needs
+
+good-kind-requires : tie.Need-good-kind-requires
+good-kind-requires c κs = search needs
 
 returns : tie.Need-returns
-returns c = cc
+returns c =
+    let a = c .before .before .before .before .before .before .before .args in
+    let kind = rw (c .before .before .before .peek .ensures, c .before .before .word .ensures, c .before .peek2 .ensures) at (c .good-kind .ensures) in
+    kind ∙ sym (by-kind (a .limits) (a .order) (a .d .now) ∙ rw (sym (c .before .before .before .before .before .may-come .ensures) ∙ c .before .before .before .before .if1 .taken))
+
+returns-2 : tie.Need-returns-2
+returns-2 c =
+    let a = c .before .before .before .args in
+    sym (by-kind (a .limits) (a .order) (a .d .now) ∙ rw (sym (c .before .may-come .ensures) ∙ c .if1 .left))
 
 pub may-list-spec : {M : Type 1} → statement M
 may-list-spec =
     tie.close
-    (tie.spec is-named-requires good-endpoint-requires peek-requires is-fresh-requires returns)
+    (tie.spec
+    may-come-requires
+    peek-requires
+    word-requires
+    peek-requires-2
+    good-kind-requires
+    returns
+    returns-2)

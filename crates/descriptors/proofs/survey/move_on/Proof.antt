@@ -1,9 +1,8 @@
 -- `descriptors::survey::move_on` meets its contract: by the descriptor's type; one of another type adds nothing. No axiom.
 use mathlib.Core.Path.{sym, _∙_}
-use mathlib.Core.Bool.{or-false}
 use borrow.Author.Tests.{eq-eqb, ne-eqb}
 use borrow.Author.Needs.{needs}
-use Rattle.descriptors.proofs.Surveying.{earlier-none}
+use Rattle.descriptors.proofs.Surveying.{adds-nothing}
 use Rattle.descriptors.proofs.survey.move_on.Statement.{statement}
 use Rattle.descriptors.proofs.survey.move_on.Tie as tie
 
@@ -24,12 +23,10 @@ returns-2 c = search needs
 
 returns-3 : tie.Need-returns-3
 returns-3 c =
-    rw (
-      ne-eqb _ _ (λ e. c .before .if1 .left (c .before .before .peek .ensures ∙ e)),
-      ne-eqb _ _ (λ e. c .if2 .left (c .before .before .peek .ensures ∙ e)),
-      earlier-none (c .before .before .before .before .before .args .seen .endpoint),
-      or-false (c .before .before .before .before .before .args .seen .there),
-    )
+    let a = c .before .before .before .before .before .args in
+    sym (adds-nothing (a .alternates .now) (a .asked) (a .seen) (a .stand) (a .d .now)
+    (ne-eqb _ _ (λ e. c .before .if1 .left (c .before .before .peek .ensures ∙ e)))
+    (ne-eqb _ _ (λ e. c .if2 .left (c .before .before .peek .ensures ∙ e))))
 
 pub move-on-spec : {M : Type 1} → statement M
 move-on-spec =

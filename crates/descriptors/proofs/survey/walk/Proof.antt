@@ -9,7 +9,8 @@ use Rattle.descriptors.specs.Walk.{before, walked}
 use Rattle.descriptors.specs.Survey.{nothingSeen, surveying}
 use Rattle.descriptors.proofs.Walk.{Walking, walk-on, walk-end}
 use Rattle.descriptors.proofs.Ahead.{Place, at-first, steps, turn}
-use Rattle.descriptors.proofs.Surveying.{surveys}
+use Rattle.descriptors.proofs.Plains.{plains-on}
+use Rattle.descriptors.proofs.Surveying.{surveys, survey-behind}
 use Rattle.descriptors.proofs.survey.walk.Statement.{statement}
 use Rattle.descriptors.proofs.survey.walk.Tie as tie
 
@@ -55,16 +56,23 @@ slice-aggregate-move-on c = search needs
 move-on-requires : tie.Need-move-on-requires Inv-loop μ-loop
 move-on-requires c κs = search needs
 
+behind-requires : tie.Need-behind-requires Inv-loop μ-loop
+behind-requires c κs = omega (arith, c .before .before .before .before .before .loop-test .taken)
+
 loop-less : tie.Need-loop-less Inv-loop μ-loop
-loop-less c = let t = turn _ _ _ (c .before .before .before .before .before .before .loop .inv .0) (c .before .before .before .before .before .loop-test .taken) _ (c .before .before .before .before .step-over .ensures) in omega (arith, t .place .inside)
+loop-less c =
+    let h = c .before .before .before .before .before .before .loop-test .taken in
+    let t = turn _ _ _ (c .before .before .before .before .before .before .before .loop .inv .0) h _ (c .before .before .before .before .before .step-over .ensures) in
+    omega (arith, t .on, plains-on (c .behind .ensures))
 
 loop-again : tie.Need-loop-again Inv-loop μ-loop
 loop-again c =
-    let l = c .before .before .before .before .before .before .loop in
-    let h = c .before .before .before .before .before .loop-test .taken in
-    let s = c .before .before .before .before .step-over in
+    let a = c .before .before .before .before .before .before .before .before .before .before .before .before .args in
+    let l = c .before .before .before .before .before .before .before .loop in
+    let h = c .before .before .before .before .before .before .loop-test .taken in
+    let s = c .before .before .before .before .before .step-over in
     let t = turn _ _ _ (l .inv .0) h _ (s .ensures) in
-    (t .place, walk-on (l .inv .1) (s .ensures) h (t .on) refl (c .move-on .ensures))
+    survey-behind (a .t2) (a .asked) _ _ _ _ (c .behind .ensures) (t .place, walk-on (l .inv .1) (s .ensures) h (t .on) refl (c .before .move-on .ensures))
 
 returns : tie.Need-returns Inv-loop μ-loop
 returns c =
@@ -89,6 +97,7 @@ walk-spec =
     part-move-on-end
     slice-aggregate-move-on
     move-on-requires
+    behind-requires
     loop-less
     loop-again
     returns)

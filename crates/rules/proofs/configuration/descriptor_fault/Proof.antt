@@ -7,8 +7,8 @@ use Rattle.rules.proofs.configuration.descriptor_fault.Tie as tie
 peek-requires : tie.Need-peek-requires
 peek-requires c κs = search needs
 
-is-named-requires : tie.Need-is-named-requires
-is-named-requires c κs = search needs
+is-refused-requires : tie.Need-is-refused-requires
+is-refused-requires c κs = search needs
 
 peek-requires-2 : tie.Need-peek-requires-2
 peek-requires-2 c κs = search needs
@@ -26,14 +26,14 @@ type-fault-requires : tie.Need-type-fault-requires
 type-fault-requires c κs = search needs
 
 returns : tie.Need-returns
-returns c = asks _ _ _ (rw (c .before .before .before .peek2 .ensures) at (c .before .before .ask .ensures)) (asks _ _ _ (rw (c .before .before .before .before .is-named .ensures, c .before .before .before .before .before .peek .ensures) at (c .before .ask2 .ensures)) (c .type-fault .ensures))
+returns c = asks _ _ _ (rw (c .before .before .before .peek2 .ensures) at (c .before .before .ask .ensures)) (asks _ _ _ (rw (c .before .before .before .before .is-refused .ensures, c .before .before .before .before .before .peek .ensures) at (c .before .ask2 .ensures)) (c .type-fault .ensures))
 
 pub descriptor-fault-spec : {M : Type 1} → statement M
 descriptor-fault-spec =
     tie.close
     (tie.spec
     peek-requires
-    is-named-requires
+    is-refused-requires
     peek-requires-2
     cast-ask
     ask-requires

@@ -4,6 +4,9 @@ use borrow.Author.Needs.{needs}
 use Rattle.rules.proofs.configuration.interval_fault.Statement.{statement}
 use Rattle.rules.proofs.configuration.interval_fault.Tie as tie
 
+ranges-of-requires : tie.Need-ranges-of-requires
+ranges-of-requires c κs = search needs
+
 is-within-requires : tie.Need-is-within-requires
 is-within-requires c κs = search needs
 
@@ -24,6 +27,7 @@ pub interval-fault-spec : {M : Type 1} → statement M
 interval-fault-spec =
     tie.close
     (tie.spec
+    ranges-of-requires
     is-within-requires
     is-within-requires-2
     ask-requires

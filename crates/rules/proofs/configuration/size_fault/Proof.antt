@@ -4,6 +4,9 @@ use borrow.Author.Needs.{needs}
 use Rattle.rules.proofs.configuration.size_fault.Statement.{statement}
 use Rattle.rules.proofs.configuration.size_fault.Tie as tie
 
+ranges-of-requires : tie.Need-ranges-of-requires
+ranges-of-requires c κs = search needs
+
 is-doubled-requires : tie.Need-is-doubled-requires
 is-doubled-requires c κs = search needs
 
@@ -30,6 +33,7 @@ pub size-fault-spec : {M : Type 1} → statement M
 size-fault-spec =
     tie.close
     (tie.spec
+    ranges-of-requires
     is-doubled-requires
     is-sized-requires
     is-sized-requires-2

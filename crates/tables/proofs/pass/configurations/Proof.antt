@@ -16,7 +16,6 @@ use Rattle.octets.proofs.Tables.{allOf, with-long}
 use Rattle.descriptors.specs.Check.{verdict, configurationRefers}
 use Rattle.descriptors.specs.Configuration.{bConfigurationValue, goodConfiguration}
 use Rattle.descriptors.proofs.CheckReferences.{refused, told}
-use Rattle.collecting.specs.Course.{limitsAt}
 use Rattle.sets.specs.Contents.{bodyOf, bodies, isKind}
 use Rattle.sets.specs.Checks.{goodNumbered}
 use Rattle.sets.specs.Pieces.{pieceFor, piecesIn}
@@ -29,13 +28,13 @@ use Rattle.tables.proofs.pass.configurations.Statement.{statement}
 use Rattle.tables.proofs.pass.configurations.Tie as tie
 
 abbrev Inv-loop : tie.InvT-loop
-Inv-loop set high names value alternates asked count index₀ seen₀ refers₀ survey₀ configured₀ waking₀ i₀ index seen refers survey configured waking i =
-    (index ≤ i) × (length seen ≡ 8) × (goodConfigurations (limitsAt high) (piecesIn set) ≡ goodFrom (limitsAt high) index seen (map (pieceFor set) (restOf 2 set i)))
+Inv-loop set limits high names value alternates asked count index₀ seen₀ refers₀ survey₀ configured₀ waking₀ i₀ index seen refers survey configured waking i =
+    (index ≤ i) × (length seen ≡ 8) × (goodConfigurations limits (piecesIn set) ≡ goodFrom limits index seen (map (pieceFor set) (restOf 2 set i)))
     × (every (configurationRefers names) (bodies 2 set) ≡ (refers && every (configurationRefers names) (map (bodyOf set) (restOf 2 set i))))
     × Learnt set (value .0) alternates asked (record { configured = configured; waking = waking; survey = survey }) (restOf 2 set i)
 
 abbrev μ-loop : tie.MeasureT-loop
-μ-loop set high names value alternates asked count index₀ seen₀ refers₀ survey₀ configured₀ waking₀ i₀ index seen refers survey configured waking i = count - i
+μ-loop set limits high names value alternates asked count index₀ seen₀ refers₀ survey₀ configured₀ waking₀ i₀ index seen refers survey configured waking i = count - i
 
 -- a value is a byte
 small : (c : tie.After-peek2 Inv-loop μ-loop) → bConfigurationValue (bodyOf (c .before .before .before .before .before .before .before .before .before .before .before .args .set .now) (c .before .before .before .before .entry-at .result)) < 256
@@ -43,18 +42,18 @@ small c = rw (← c .before .body-of .ensures, ← c .peek2 .ensures) (search ne
 
 -- what was asked of the entry, of the set's own bytes
 judged : (c : tie.After-is-numbered Inv-loop μ-loop)
-    → let a = c .before .before .before .before .before .before .before .before .before .before .before .before .before .before .before .before .args in
-    let l = c .before .before .before .before .before .before .before .before .before .before .before .loop in
-    let e = c .before .before .before .before .before .before .before .before .before .entry-at .result in
+    → let a = c .before .before .before .before .before .before .before .before .before .before .before .before .before .before .before .before .before .args in
+    let l = c .before .before .before .before .before .before .before .before .before .before .before .before .loop in
+    let e = c .before .before .before .before .before .before .before .before .before .before .entry-at .result in
     let body = bodyOf (a .set .now) e in
-    (c .is-numbered .result && c .before .before .collect .result .verdict .good) ≡ goodNumbered (limitsAt (a .high)) e (l .index) body (has (l .seen) (bConfigurationValue body))
+    (c .is-numbered .result && c .before .before .walk-once .result .verdict .good) ≡ goodNumbered (a .limits) e (l .index) body (has (l .seen) (bConfigurationValue body))
 judged c =
-    let a = c .before .before .before .before .before .before .before .before .before .before .before .before .before .before .before .before .args in
-    let l = c .before .before .before .before .before .before .before .before .before .before .before .loop in
-    let e = c .before .before .before .before .before .before .before .before .before .entry-at .result in
-    let n = rw (c .before .before .before .holds .ensures, c .before .before .before .before .before .peek2 .ensures, c .before .before .before .before .before .before .body-of .ensures) at (c .is-numbered .ensures) in
-    let g = ap (λ v. v .good) (c .before .before .collect .ensures .verdict) ∙ ap (goodConfiguration (limitsAt (a .high))) (c .before .before .before .before .before .before .body-of .ensures) in
-    rw (n, g) (taken-apart (limitsAt (a .high)) e (l .index) (bodyOf (a .set .now) e) (has (l .seen) (bConfigurationValue (bodyOf (a .set .now) e))))
+    let a = c .before .before .before .before .before .before .before .before .before .before .before .before .before .before .before .before .before .args in
+    let l = c .before .before .before .before .before .before .before .before .before .before .before .before .loop in
+    let e = c .before .before .before .before .before .before .before .before .before .before .entry-at .result in
+    let n = rw (c .before .before .before .before .holds .ensures, c .before .before .before .before .before .before .peek2 .ensures, c .before .before .before .before .before .before .before .body-of .ensures) at (c .is-numbered .ensures) in
+    let g = ap (λ v. v .good) (c .before .before .walk-once .ensures .verdict) ∙ ap (goodConfiguration (a .limits)) (c .before .before .before .before .before .before .before .body-of .ensures) in
+    rw (n, g) (taken-apart (a .limits) e (l .index) (bodyOf (a .set .now) e) (has (l .seen) (bConfigurationValue (bodyOf (a .set .now) e))))
 
 peek-requires : tie.Need-peek-requires Inv-loop μ-loop
 peek-requires c κs = search needs
@@ -67,7 +66,7 @@ loop-holds c =
     let a = c .before .before .before .before .args in (
       omega arith,
       refl,
-      good-start (limitsAt (a .high)) (a .set .now) ∙ ap (λ es. goodFrom (limitsAt (a .high)) 0 (allOf 0) (map (pieceFor (a .set .now)) (only (isKind 2) es))) (rest-start (a .set .now)),
+      good-start (a .limits) (a .set .now) ∙ ap (λ es. goodFrom (a .limits) 0 (allOf 0) (map (pieceFor (a .set .now)) (only (isKind 2) es))) (rest-start (a .set .now)),
       ap (λ es. every (configurationRefers (a .names .now)) (map (bodyOf (a .set .now)) (only (isKind 2) es))) (rest-start (a .set .now)),
       rw (c .before .nothing-known .ensures, sym (rest-start (a .set .now))) (learnt-start (a .set .now) (a .value .0) (a .alternates .now) (a .asked)),
     )
@@ -87,8 +86,8 @@ peek-requires-2 c κs = search needs
 holds-requires : tie.Need-holds-requires Inv-loop μ-loop
 holds-requires c κs = search needs
 
-collect-requires : tie.Need-collect-requires Inv-loop μ-loop
-collect-requires c κs = c .before .before .before .before .before .before .before .before .before .before .before .before .before .pre
+walk-once-requires : tie.Need-walk-once-requires Inv-loop μ-loop
+walk-once-requires c κs = c .before .before .before .before .before .before .before .before .before .before .before .before .before .before .pre
 
 is-numbered-requires : tie.Need-is-numbered-requires Inv-loop μ-loop
 is-numbered-requires c κs = search needs
@@ -99,16 +98,16 @@ refuse-requires c κs = search needs
 returns : tie.Need-returns Inv-loop μ-loop
 returns c =
     let v = c .before .before .before in
-    let s = c .before .before .before .before .before .before .before .before .before .before .before .before in
-    let a = c .before .before .before .before .before .before .before .before .before .before .before .before .before .before .before .before .before .before .before .args in
-    let l = c .before .before .before .before .before .before .before .before .before .before .before .before .before .before .loop in
+    let s = c .before .before .before .before .before .before .before .before .before .before .before .before .before in
+    let a = c .before .before .before .before .before .before .before .before .before .before .before .before .before .before .before .before .before .before .before .before .args in
+    let l = c .before .before .before .before .before .before .before .before .before .before .before .before .before .before .before .loop in
     record {
       verdict = c .refuse .ensures
           ∙ refused _
           (sym
-          (asked-here 2 (λ es. goodFrom (limitsAt (a .high)) (l .index) (l .seen) (map (pieceFor (a .set .now)) es)) (a .set .now) _ (c .before .before .before .before .before .before .before .before .before .before .before .before .before .before .before .before .before .peek .ensures) (l .i) (l .inv .2) (c .before .before .before .before .before .before .before .before .before .before .before .before .before .loop-test .taken) _ (s .entry-at .ensures) (c .before .before .before .before .before .before .before .before .before .before .if1 .taken)
-          ∙ good-more (limitsAt (a .high)) (l .index) (l .seen) (s .entry-at .result) (bodyOf (a .set .now) (s .entry-at .result)) _ (small (c .before .before .before .before .before .before .before .before)) (l .inv .1)
-          ∙ rw (sym (judged v), not-true (v .is-numbered .result && c .before .before .before .before .before .collect .result .verdict .good) (c .before .if2 .taken))));
+          (asked-here 2 (λ es. goodFrom (a .limits) (l .index) (l .seen) (map (pieceFor (a .set .now)) es)) (a .set .now) _ (c .before .before .before .before .before .before .before .before .before .before .before .before .before .before .before .before .before .before .peek .ensures) (l .i) (l .inv .2) (c .before .before .before .before .before .before .before .before .before .before .before .before .before .before .loop-test .taken) _ (s .entry-at .ensures) (c .before .before .before .before .before .before .before .before .before .before .before .if1 .taken)
+          ∙ good-more (a .limits) (l .index) (l .seen) (s .entry-at .result) (bodyOf (a .set .now) (s .entry-at .result)) _ (small (c .before .before .before .before .before .before .before .before .before)) (l .inv .1)
+          ∙ rw (sym (judged v), not-true (v .is-numbered .result && c .before .before .before .before .before .walk-once .result .verdict .good) (c .before .if2 .taken))));
       known = λ g. absurd (false≢true (sym (ap (λ v. v .good) (c .refuse .ensures)) ∙ g));
     }
 
@@ -125,23 +124,23 @@ loop-less : tie.Need-loop-less Inv-loop μ-loop
 loop-less c = let t = c .before .before .before .before .before .before .before .before .before .before .before .before .before .before .before .before .before .before .loop-test .taken in omega arith
 
 -- a good entry: both tests were true
-passed : (c : tie.Else2 Inv-loop μ-loop) → (c .before .before .is-numbered .result && c .before .before .before .before .collect .result .verdict .good) ≡ true
-passed c = not-false (c .before .before .is-numbered .result && c .before .before .before .before .collect .result .verdict .good) (c .if2 .left)
+passed : (c : tie.Else2 Inv-loop μ-loop) → (c .before .before .is-numbered .result && c .before .before .before .before .walk-once .result .verdict .good) ≡ true
+passed c = not-false (c .before .before .is-numbered .result && c .before .before .before .before .walk-once .result .verdict .good) (c .if2 .left)
 
 -- what is known after it
 learns : (c : tie.Joined3 Inv-loop μ-loop)
     → let a = c .before .before .before .before .before .before .before .before .before .before .before .before .before .before .before .before .before .before .before .before .before .args in
     let l = c .before .before .before .before .before .before .before .before .before .before .before .before .before .before .before .before .loop in
-    let w = c .before .before .can-wake .result in
+    let w = c .before .can-wake .result in
     _≡_ {A = Selected} (record { configured = c .if3 .configured; waking = l .waking || w; survey = c .if3 .survey })
-    (learned (record { configured = l .configured; waking = l .waking; survey = l .survey }) w (eqb (c .before .before .before .before .before .before .before .before .before .before .peek2 .result) (a .value .0)) (c .before .before .before .before .before .before .before .collect .result .survey))
+    (learned (record { configured = l .configured; waking = l .waking; survey = l .survey }) w (eqb (c .before .before .before .before .before .before .before .before .before .before .peek2 .result) (a .value .0)) (c .before .before .before .before .before .before .walk-once .result .survey))
 learns c = ⊎-elim (λ w. rw (w .0 .taken, w .2, w .3)) (λ w. rw (w .0 .left, w .1, w .2)) (c .if3 .came)
 
 loop-again : tie.Need-loop-again Inv-loop μ-loop
 loop-again c =
-    let v = c .before .before .before .before .before .before .before .before in
+    let v = c .before .before .before .before .before .before .before in
     let s = c .before .before .before .before .before .before .before .before .before .before .before .before .before .before .before .before .before in
-    let walked = c .before .before .before .before .before .before .before .before .before .before .collect in
+    let walked = c .before .before .before .before .before .before .before .before .before .walk-once in
     let body = c .before .before .before .before .before .before .before .before .before .before .before .before .before .before .body-of .ensures in
     let a = c .before .before .before .before .before .before .before .before .before .before .before .before .before .before .before .before .before .before .before .before .before .before .before .before .args in
     let l = c .before .before .before .before .before .before .before .before .before .before .before .before .before .before .before .before .before .before .before .loop in
@@ -149,18 +148,19 @@ loop-again c =
     let kind = c .before .before .before .before .before .before .before .before .before .before .before .before .before .before .before .if1 .taken in
     let test = c .before .before .before .before .before .before .before .before .before .before .before .before .before .before .before .before .before .before .loop-test .taken in
     let count = c .before .before .before .before .before .before .before .before .before .before .before .before .before .before .before .before .before .before .before .before .before .before .peek .ensures in
-    let good = both (v .is-numbered .result) (walked .result .verdict .good) (passed (c .before .before .before .before .before .before)) .1 in
+    let here = c .before .before .before .before .before .before .before .before .before .before .before .before .before .peek2 .ensures in
+    let good = both (v .is-numbered .result) (walked .result .verdict .good) (passed (c .before .before .before .before .before)) .1 in
     let f = configurationRefers (a .names .now) in (
       omega arith,
       rw (c .join .ensures) (with-long (l .seen) _ (l .inv .1)),
-      asked-here 2 (λ es. goodFrom (limitsAt (a .high)) (l .index) (l .seen) (map (pieceFor (a .set .now)) es)) (a .set .now) _ count (l .i) (l .inv .2) test _ (s .entry-at .ensures) kind
-          ∙ good-more (limitsAt (a .high)) (l .index) (l .seen) e (bodyOf (a .set .now) e) _ (small (c .before .before .before .before .before .before .before .before .before .before .before .before .before)) (l .inv .1)
-          ∙ rw (sym (judged v), passed (c .before .before .before .before .before .before), c .join .ensures, c .before .before .before .before .before .before .before .before .before .before .before .before .before .peek2 .ensures, body),
+      asked-here 2 (λ es. goodFrom (a .limits) (l .index) (l .seen) (map (pieceFor (a .set .now)) es)) (a .set .now) _ count (l .i) (l .inv .2) test _ (s .entry-at .ensures) kind
+          ∙ good-more (a .limits) (l .index) (l .seen) e (bodyOf (a .set .now) e) _ (small (c .before .before .before .before .before .before .before .before .before .before .before .before .before)) (l .inv .1)
+          ∙ rw (sym (judged v), passed (c .before .before .before .before .before), c .join .ensures, c .before .before .before .before .before .before .before .before .before .before .before .before .before .peek2 .ensures, body),
       rw (told (walked .result .verdict) _ _ (walked .ensures .verdict) good, body)
           (asked-here 2 (λ es. l .refers && every f (map (bodyOf (a .set .now)) es)) (a .set .now) _ count (l .i) (l .inv .3) test _ (s .entry-at .ensures) kind ∙ rw every-cons (sym (and-assoc (l .refers) _ _))),
-      rw (learns (c .before .before .before), c .before .before .before .before .before .can-wake .ensures, c .before .before .before .before .before .before .before .before .before .before .before .before .before .peek2 .ensures, body)
+      rw (learns (c .before .before .before), c .before .before .before .before .can-wake .ensures, c .before .before .before .before .before .before .before .before .before .before .before .before .before .peek2 .ensures, body)
           (learnt-more (a .set .now) (a .value .0) (a .alternates .now) (a .asked) e (restOf 2 (a .set .now) (l .i + 1)) (walked .result .survey)
-          (rw body at (walked .ensures .surveyed good))
+          (λ t. rw body at (walked .ensures .surveyed (rw (here, body) t) good))
           (rw (kind-next 2 (a .set .now) _ count (l .i) test e (s .entry-at .ensures) kind) at (l .inv .4))),
     )
 
@@ -177,7 +177,7 @@ loop-again-2 c =
     let f = configurationRefers (a .names .now) in (
       omega arith,
       l .inv .1,
-      asked-other 2 (λ es. goodFrom (limitsAt (a .high)) (l .index) (l .seen) (map (pieceFor (a .set .now)) es)) (a .set .now) _ count (l .i) (l .inv .2) test _ (s .entry-at .ensures) (c .if1 .left),
+      asked-other 2 (λ es. goodFrom (a .limits) (l .index) (l .seen) (map (pieceFor (a .set .now)) es)) (a .set .now) _ count (l .i) (l .inv .2) test _ (s .entry-at .ensures) (c .if1 .left),
       asked-other 2 (λ es. l .refers && every f (map (bodyOf (a .set .now)) es)) (a .set .now) _ count (l .i) (l .inv .3) test _ (s .entry-at .ensures) (c .if1 .left),
       rw (kind-other 2 (a .set .now) _ count (l .i) test (s .entry-at .result) (s .entry-at .ensures) (c .if1 .left)) at (l .inv .4),
     )
@@ -188,7 +188,7 @@ returns-2 c =
     let l = c .before .loop in
     let count = c .before .before .before .before .peek .ensures in
     let f = configurationRefers (a .names .now) in
-    let good = asked-none 2 (λ es. goodFrom (limitsAt (a .high)) (l .index) (l .seen) (map (pieceFor (a .set .now)) es)) (a .set .now) _ count (l .i) (l .inv .2) (c .loop-test .left) ∙ good-end (limitsAt (a .high)) (l .index) (l .seen) in
+    let good = asked-none 2 (λ es. goodFrom (a .limits) (l .index) (l .seen) (map (pieceFor (a .set .now)) es)) (a .set .now) _ count (l .i) (l .inv .2) (c .loop-test .left) ∙ good-end (a .limits) (l .index) (l .seen) in
     let refer = asked-none 2 (λ es. l .refers && every f (map (bodyOf (a .set .now)) es)) (a .set .now) _ count (l .i) (l .inv .3) (c .loop-test .left) ∙ ap (λ b. l .refers && b) (every-empty f) ∙ and-true (l .refers) in
     record {
       verdict = rw (good, refer);
@@ -209,7 +209,7 @@ configurations-spec =
     body-of-requires
     peek-requires-2
     holds-requires
-    collect-requires
+    walk-once-requires
     is-numbered-requires
     refuse-requires
     returns

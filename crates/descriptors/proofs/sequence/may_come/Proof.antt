@@ -1,0 +1,54 @@
+-- `descriptors::sequence::may_come` meets its contract: each rule that fails. No axiom.
+use native.Mathlib.Omega.{arith}
+use mathlib.Core.Bool.{and-false, not}
+use mathlib.Core.Path.{sym, ap, _∙_}
+use borrow.Author.Tests.{lt-leb, le-leb}
+use Rattle.descriptors.proofs.SequenceRules.{or-digit}
+use borrow.Author.Needs.{needs}
+use Rattle.descriptors.proofs.sequence.may_come.Statement.{statement}
+use Rattle.descriptors.proofs.sequence.may_come.Tie as tie
+
+returns : tie.Need-returns
+returns c = rw (lt-leb 7 _ (c .if1 .taken))
+
+returns-2 : tie.Need-returns-2
+returns-2 c = simp (c .if2 .taken, and-false)
+
+peek-requires : tie.Need-peek-requires
+peek-requires c κs = search needs
+
+good-address-requires : tie.Need-good-address-requires
+good-address-requires c κs = search needs
+
+bit-of-requires : tie.Need-bit-of-requires
+bit-of-requires c κs = search needs
+
+test-bit-requires : tie.Need-test-bit-requires
+test-bit-requires c κs = c .bit-of .ensures .1
+
+returns-3 : tie.Need-returns-3
+returns-3 c =
+    let a = c .before .before .before .before .before .before .before .before .before .before .args in
+    let address = c .before .before .before .before .before .peek .ensures in
+    let l = le-leb 7 _ (c .before .before .before .before .before .before .before .before .if1 .left) in
+    let some = le-leb 1 (a .order .coming) (omega (arith, c .before .before .before .before .before .before .if2 .left)) in
+    let good = sym (rw address at (c .before .before .before .before .good-address .ensures)) ∙ c .before .before .before .if3 .taken in
+    ap not ((rw (c .before .bit-of .ensures .0, address) at (c .test-bit .ensures)) ∙ or-digit (a .order .others) (a .order .setting) _) ∙ rw (l, good, some)
+
+returns-4 : tie.Need-returns-4
+returns-4 c =
+    let good = sym (rw (c .before .before .peek .ensures) at (c .before .good-address .ensures)) ∙ c .if3 .left in
+    simp (good, and-false)
+
+pub may-come-spec : {M : Type 1} → statement M
+may-come-spec =
+    tie.close
+    (tie.spec
+    returns
+    returns-2
+    peek-requires
+    good-address-requires
+    bit-of-requires
+    test-bit-requires
+    returns-3
+    returns-4)

@@ -1,0 +1,107 @@
+-- Working definitions for the order of settings and endpoints, as the check keeps it in a few numbers; no promise cites them.
+use Prim.Native.Nat.{ℕ, _+_, _-_, _%_, _<_, _≤_}
+use mathlib.Core.List.{List}
+use mathlib.Core.Bool.{Bool, true, false, _&&_, _||_, not}
+use mathlib.Core.Path.{_≡_}
+use lib.ListN.{length}
+use lib.Dec.{eqb, leb, ltb}
+use Rattle.octets.specs.Bit.{bit, setBit}
+use Rattle.octets.specs.Octets.{word}
+use Rattle.octets.specs.Sentences.{pick}
+use Rattle.octets.specs.Table.{has}
+use Rattle.descriptors.specs.declared.Limits.{Limits}
+use Rattle.descriptors.specs.declared.sequence.Order.{Order}
+use Rattle.descriptors.specs.declared.sequence.Placing.{Placing}
+use Rattle.descriptors.specs.declared.sequence.Begun.{Begun}
+use Rattle.descriptors.specs.declared.check.Turned.{Turned}
+use Rattle.descriptors.specs.Descriptor.{bDescriptorType, isInterface, isEndpoint, bNumEndpoints, iInterface, bEndpointAddress, transferType, goodAddress, goodAttributes, goodSize, goodInterval, typeAllowed, goodEndpoint}
+use Rattle.descriptors.specs.Configuration.{bitOf}
+
+-- ---- the order of settings: the two bytes that the next interface's first setting has, after a setting whose next one would have `again`
+abbrev pub nextOf : ℕ → ℕ
+nextOf again = (again % 256 + 1) % 256
+
+abbrev pub settles : ℕ → ℕ → Bool
+settles again setting = pick (eqb setting again) (leb setting 4095) (eqb setting (nextOf again) && ltb setting 16)
+
+-- `again` is no sum that overflows, and names one of 16 interfaces, if any
+pub record Low (again : ℕ) : Type 0 where
+  pub small : again < 131072
+  pub low : again ≤ 4095 → again % 256 < 16
+
+-- the addresses of the interfaces before, and those of this interface's settings, once a setting is begun
+pub record Takes (o : Order) (setting others own : ℕ) : Type 0 where
+  pub owns : own ≡ pick (eqb setting (o .again)) (o .own) 0
+  pub takes : (e : ℕ) → e < 32 → bit others e ≡ pick (eqb setting (o .again)) (bit (o .others) e) (bit (o .others) e || bit (o .own) e)
+
+pub record Places (o : Order) (setting : ℕ) (r : Placing) : Type 0 where
+  pub may : r .good ≡ settles (o .again) setting
+  pub on : r .good ≡ true → Takes o setting (r .others) (r .own)
+
+-- ---- an interface descriptor: whether it may come, and the order after it
+abbrev pub begins : Order → List ℕ → Bool
+begins o d = leb 9 (length d) && eqb (o .coming) 0 && settles (o .again) (word d 2)
+
+pub record BegunBy (o : Order) (d : List ℕ) (next : Order) : Type 0 where
+  pub again : next .again ≡ word d 2 + 256
+  pub comes : next .coming ≡ bNumEndpoints d
+  pub rest : Takes o (word d 2) (next .others) (next .own)
+  pub clear : next .setting ≡ 0
+
+pub record Begins (o : Order) (d : List ℕ) (r : Begun) : Type 0 where
+  pub may : r .good ≡ begins o d
+  pub on : r .good ≡ true → BegunBy o d (r .order)
+
+-- ---- an endpoint descriptor: its attributes, size and interval; whether it may come, and the order after it
+abbrev pub goodKind : Limits → ℕ → ℕ → ℕ → Bool
+goodKind limits attributes size interval =
+    goodAttributes attributes && goodSize limits (transferType attributes) size && goodInterval limits (transferType attributes) interval
+
+abbrev pub free : Order → List ℕ → Bool
+free o d = not (bit (o .others) (bitOf (bEndpointAddress d)) || bit (o .setting) (bitOf (bEndpointAddress d)))
+
+abbrev pub comes : Order → List ℕ → Bool
+comes o d = leb 7 (length d) && goodAddress (bEndpointAddress d) && leb 1 (o .coming) && free o d
+
+abbrev pub listable : Limits → Order → List ℕ → Bool
+listable limits o d = typeAllowed 5 && goodEndpoint limits d && leb 1 (o .coming) && free o d
+
+abbrev pub listedIn : Order → List ℕ → Order
+listedIn o d = record {
+  again = o .again;
+  coming = o .coming - 1;
+  others = o .others;
+  own = setBit (o .own) (bitOf (bEndpointAddress d));
+  setting = setBit (o .setting) (bitOf (bEndpointAddress d));
+}
+
+-- ---- a descriptor of any type
+abbrev pub settingOut : Order
+settingOut = record { again = 65791; coming = 0; others = 0; own = 0; setting = 0 }
+
+abbrev pub proceeds : Limits → Order → List ℕ → Bool
+proceeds limits o d = pick (isEndpoint d) (listable limits o d) (pick (isInterface d) (begins o d) (typeAllowed (bDescriptorType d)))
+
+-- what the check alone knows after it: the order, and whether every reference so far is in a table
+pub record Turns (limits : Limits) (names : List ℕ) (o : Order) (refers : Bool) (d : List ℕ) (r : Turned) : Type 0 where
+  pub may : r .good ≡ proceeds limits o d
+  pub lists : isEndpoint d ≡ true → r .good ≡ true → (r .order ≡ listedIn o d) × (r .refers ≡ refers)
+  pub starts : isInterface d ≡ true → r .good ≡ true → BegunBy o d (r .order) × (r .refers ≡ (refers && has names (iInterface d)))
+  pub passes : isInterface d ≡ false → isEndpoint d ≡ false → (r .order ≡ o) × (r .refers ≡ refers)
+
+-- what is asked of the call that walks: the body is short enough that no place overflows
+pub record Ready (body : List ℕ) (n from : ℕ) : Type 0 where
+  pub short : length body ≤ 65535
+  pub some-bytes : 1 ≤ length body
+  pub inside : from ≤ length body
+  pub one : 1 ≤ n
+  pub few : n ≤ 16
+
+-- ---- the same limits, but that no companion is asked for
+abbrev pub unaccompanied : Limits → Limits
+unaccompanied limits = record {
+  control = limits .control;
+  speed = limits .speed;
+  entries = limits .entries;
+  companions = false;
+}
