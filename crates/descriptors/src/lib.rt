@@ -228,8 +228,8 @@ fn stand_of(d: &[u8], last: Stand) -> Stand
     last
 }
 
-// The step over a whole descriptor at `at`, after one that stands at `last`. Every walk takes it, and takes from it alone where the next
-// descriptor begins and where this one stands.
+// The step over a whole descriptor at `at`, after one that stands at `last`. Walks take from it alone where the next descriptor begins and where
+// this one stands; the check keeps that in one number (`sequence::Order`).
 pub fn step_over(body: &[u8], at: usize, last: Stand) -> Step
     requires { ⌜ stepsOn (now body) at ≡ true ⌝ }
     ensures { λ r. ⌜ r ≡ stepOf (now (body .entry)) at last ⌝ }

@@ -7,9 +7,9 @@ ghost use lib.ListN.{length};
 ghost use Rattle.descriptors.specs.declared.survey.Asked.{Asked};
 ghost use Rattle.descriptors.specs.Survey.{Surveys};
 ghost use Rattle.sets.specs.View.{View, hasValue, wakes};
-ghost use Rattle.records.specs.Device.{fresh, settled, testWaits, awake, withPower, withSpeed, withAddress, withEndpoints};
+ghost use Rattle.records.specs.Device.{fresh, settled, testWaits};
 ghost use Rattle.records.specs.Image.{fourBytes, bytesOfFour, deviceOf, imageOf};
-ghost use Rattle.records.specs.Change.{withSetting, changed, after, misfit, recordIn};
+ghost use Rattle.records.specs.Change.{misfit, recordIn};
 ghost use Rattle.records.specs.Current.{selected};
 ghost use Rattle.records.specs.Fits.{inRange, goodWaiting, goodState, fits};
 
@@ -96,112 +96,6 @@ pub fn settled(device: Device) -> Device
     next.waiting = 255;
     next.suspended = 0;
     next
-}
-
-// The alternate settings with another one of an interface.
-fn with_setting(interface: u8, alternate: u8, alternates: [u8; 16]) -> [u8; 16]
-    ensures { λ r. ⌜ r ≡ withSetting interface alternate alternates ⌝ }
-{
-    let mut next = alternates;
-    if interface < 16 {
-        next[interface as usize] = alternate;
-    }
-    next
-}
-
-// The fresh record, but for its power source and its speed.
-fn fresh_with(power: u8, speed: u8) -> Device
-    ensures { λ r. ⌜ r ≡ withSpeed speed (withPower power fresh) ⌝ }
-{
-    let mut next = fresh();
-    next.power = power;
-    next.speed = speed;
-    next
-}
-
-// Another state and address; nothing waits any more.
-fn with_address(state: u8, address: u8, device: Device) -> Device
-    ensures { λ r. ⌜ r ≡ withAddress state address device ⌝ }
-{
-    let mut next = device;
-    next.state = state;
-    next.address = address;
-    next.waiting = 255;
-    next
-}
-
-// Another setting of one interface.
-fn with_interface(interface: u8, alternate: u8, device: Device) -> Device
-    ensures { λ r. ⌜ r ≡ withEndpoints (withSetting interface alternate (device .alternates)) (device .halts) (device .toggles) device ⌝ }
-{
-    let mut next = device;
-    let were = device.alternates;
-    let alternates = with_setting(interface, alternate, were);
-    next.alternates = alternates;
-    next
-}
-
-// Other toggles; the device is awake.
-fn with_packet(toggles: u32, device: Device) -> Device
-    ensures { λ r. ⌜ r ≡ awake (withEndpoints (device .alternates) (device .halts) toggles device) ⌝ }
-{
-    let mut next = device;
-    next.suspended = 0;
-    next.toggles = toggles;
-    next
-}
-
-// The record after a change.
-pub fn changed(change: Change, device: Device) -> Device
-    ensures { λ r. ⌜ r ≡ changed change device ⌝ }
-{
-    let mut next = device;
-    match change {
-        Change::Kept => {}
-        Change::Waiting(address) => next.waiting = address,
-        Change::Wakeup(on) => next.wakeup = on,
-        Change::Power(source) => next.power = source,
-        Change::Suspended(on) => next.suspended = on,
-        Change::Address { state, address } => next = with_address(state, address, device),
-        Change::Configuration { state, value } => {
-            next.state = state;
-            next.configuration = value;
-            next.alternates = [0; 16];
-            next.halts = 0;
-            next.toggles = 0;
-        }
-        Change::Setting {
-            interface,
-            alternate,
-            halts,
-            toggles,
-        } => {
-            next = with_interface(interface, alternate, device);
-            next.halts = halts;
-            next.toggles = toggles;
-        }
-        Change::Endpoints { halts, toggles } => {
-            next.halts = halts;
-            next.toggles = toggles;
-        }
-        Change::Passed { toggles } => next = with_packet(toggles, device),
-        Change::Fresh { power, speed } => next = fresh_with(power, speed),
-        Change::TestMode(speed) => {
-            next.waiting = 255;
-            next.speed = speed;
-        }
-    }
-    next
-}
-
-// The record after an event: of what a setup settles, if it is one, what is changed.
-pub fn after(settles: bool, change: Change, device: Device) -> Device
-    ensures { λ r. ⌜ r ≡ after settles change device ⌝ }
-{
-    if settles {
-        return changed(change, settled(device));
-    }
-    changed(change, device)
 }
 
 // Whether two slices are the same.

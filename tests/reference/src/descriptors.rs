@@ -110,11 +110,11 @@ pub fn cut(body: &[u8], fault: Fault) -> Result<Vec<&[u8]>, Rule> {
     while !rest.is_empty() {
         let length = usize::from(rest[0]);
         require(length >= shortest, Rule::DescriptorLengthBelowTwo)?;
-        if fault == Fault::LastOfARunNotWholePasses && length > rest.len() && is_alike(&descriptors, rest) {
+        if fault == Fault::LastOfARunNotWholePasses && length > rest.len() && is_in_a_run(&descriptors, rest) {
             break;
         }
         require(length <= rest.len(), Rule::DescriptorBeyondBody)?;
-        let passed = fault == Fault::EndpointsPassedAsARun && rest[1] == 5 && is_alike(&descriptors, rest);
+        let passed = fault == Fault::EndpointsPassedAsARun && rest[1] == 5 && is_in_a_run(&descriptors, rest);
         if !passed {
             descriptors.push(&rest[..length]);
         }
@@ -123,9 +123,9 @@ pub fn cut(body: &[u8], fault: Fault) -> Result<Vec<&[u8]>, Rule> {
     Ok(descriptors)
 }
 
-/// Whether a descriptor begins with the same two bytes as the one before it.
-fn is_alike(before: &[&[u8]], rest: &[u8]) -> bool {
-    before.last().is_some_and(|last| rest.starts_with(&last[..2]))
+/// Whether a descriptor has the length of the class descriptor before it.
+fn is_in_a_run(before: &[&[u8]], rest: &[u8]) -> bool {
+    before.last().is_some_and(|last| last[1] >= 8 && rest[0] == last[0])
 }
 
 /// The configuration descriptor, which stands first.

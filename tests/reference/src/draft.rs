@@ -312,7 +312,7 @@ fn configuration(value: u8, kind: Kind, scale: Scale, names: &Names, random: &mu
     while scale.class_percent > 0 && at <= descriptors.len() {
         if random.percent(scale.class_percent) {
             let any = random.between(2, 60);
-            let length = random.pick(&[2, 2, 3, 5, 9, any]);
+            let length = random.pick(&[2, 2, 3, 5, 7, 9, any]);
             let run = if random.percent(40) { random.between(2, 6) } else { 1 };
             descriptors.splice(at..at, class_descriptors(run, length, random));
         }
@@ -374,11 +374,14 @@ fn lengthened(mut descriptor: Vec<u8>, random: &mut Random) -> Vec<u8> {
     descriptor
 }
 
-/// So many that begin with the same two bytes.
+/// So many of one length, half the time of one type too.
 pub fn class_descriptors(count: usize, length: usize, random: &mut Random) -> Descriptors {
-    let first = class_descriptor(length, random);
-    let alike = |random: &mut Random| [&first[..2], &random.bytes(length - 2)].concat();
-    (0..count).map(|_| alike(random)).collect()
+    let mut run: Descriptors = (0..count).map(|_| class_descriptor(length, random)).collect();
+    if random.percent(50) {
+        let kind = run[0][1];
+        run.iter_mut().for_each(|descriptor| descriptor[1] = kind);
+    }
+    run
 }
 
 /// Of a type that is stepped over.
