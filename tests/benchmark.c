@@ -38,9 +38,16 @@ static uint8_t call(enum way way) {
     }
 }
 
+static int begins_with(const char *word, const char *prefix) {
+    for (; *prefix != 0; word++, prefix++)
+        if (*word != *prefix)
+            return 0;
+    return 1;
+}
+
 static enum way way_of(const char *word) {
     for (enum way way = BY_PAIR_TABLE; way > OPENING; way--)
-        if (way != BY_SETUP && strncmp(word, prefixes[way], strlen(prefixes[way])) == 0)
+        if (way != BY_SETUP && begins_with(word, prefixes[way]))
             return way;
     return strcmp(word, prefixes[OPENING]) == 0 ? OPENING : BY_SETUP;
 }

@@ -20,8 +20,8 @@ ghost use Prim.Native.Nat.{_-_};
 ghost use Rattle.octets.specs.Sentences.{pick, _⇒_, every};
 ghost use Rattle.octets.specs.Table.{has};
 
-// How far the check of a body is: how many endpoints of this setting are still to come; and, a bit for each address, the addresses of
-// this setting, of this interface's settings, and of all that was seen. Where it stands is the step's to say.
+// How far the check of a body is, as its definition and the makers' rules keep it: how many endpoints of this setting are still to come; and, a bit
+// for each address, the addresses of this setting, of this interface's settings, and of all that was seen. Where it stands is the step's to say.
 pub struct Progress {
     pub coming: u8,
     pub setting: u32,
