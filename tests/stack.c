@@ -16,7 +16,7 @@
 /* Of a board that lends one set, and of one that lends two: on x86-64 what is reached, and a little room; on a board's processor what every call of a board must keep. */
 #ifdef __x86_64__
 #define MOST 768
-#define MOST_OF_TWO 912
+#define MOST_OF_TWO 864
 #else
 #define MOST 1024
 #define MOST_OF_TWO 1024

@@ -5,7 +5,9 @@ use crate::ports;
 use events::Answer;
 use events::reply;
 use records::Change;
+ghost use mathlib.Core.Path.{_≡_};
 ghost use Rattle.sets.specs.Opening.{lentTwo};
+ghost use Rattle.sets.specs.Pair.{openingTwo};
 ghost use Rattle.board.specs.Exports.{Opens, spotOf, spotsTwo, numbered, AnswersImage, AnswersPortEvent, GivesEndpoint};
 
 // Opens two sets with their serial block: the image becomes the fresh record, whether they are accepted or not.
@@ -17,6 +19,13 @@ pub extern "C" fn hk_two_open(full: &[u8], high: &[u8], serial: &[u8], image: &m
         return 8;
     }
     records::renewal::renew(image, false, Change::Fresh { power: 0, speed: 0 });
+    pairs::opening_two(full, high, serial)
+}
+
+// Opening for an event. A function of its own, so that what it lends has given up its place on the stack when the event's parts are lent theirs.
+fn opened(full: &[u8], high: &[u8], serial: &[u8]) -> u8
+    ensures { λ r. ⌜ r ≡ openingTwo (now (full .entry)) (now (high .entry)) (now (serial .entry)) ⌝ }
+{
     pairs::opening_two(full, high, serial)
 }
 
@@ -38,7 +47,7 @@ pub extern "C" fn hk_two_event<'a>(
         (spotsTwo (spotOf ((full .entry) .ptr)) (spotOf ((high .entry) .ptr)) (spotOf ((serial .entry) .ptr))) (now (image .entry)) (numbered kind value (now (setup .entry)))
         r (now (image .exit)) (now (bytes .exit)) (now (count .exit)) (now (now (part .exit))) (spotOf ((now (part .exit)) .ptr)) ⌝ }
 {
-    let number = pairs::opening_two(full, high, serial);
+    let number = opened(full, high, serial);
     let set = steps::in_use(full, high, octets::peek(image, 7));
     let what = numbers::event_of(kind, value, setup);
     let answer = crate::happen(number, true, set, serial, image, what);
@@ -67,7 +76,7 @@ pub extern "C" fn hk_two_port_event<'a>(
     if row.len() <= port {
         return numbers::hand_out_of(full, full, serial, Answer::Refused(18), bytes, count, part);
     }
-    let number = pairs::opening_two(full, high, serial);
+    let number = opened(full, high, serial);
     let set = steps::in_use(full, high, row[port][7]);
     let what = numbers::event_of(kind, value, setup);
     let answer = ports::happen_at(number, true, set, serial, row, port, what);

@@ -10,8 +10,8 @@ use Rattle.board.proofs.TwoSets.{used, chosen, place, openable, event-t
 use Rattle.board.proofs.two.hk_two_event.Statement.{statement}
 use Rattle.board.proofs.two.hk_two_event.Tie as tie
 
-opening-two-requires : tie.Need-opening-two-requires
-opening-two-requires c κs = search needs
+opened-requires : tie.Need-opened-requires
+opened-requires c κs = search needs
 
 peek-requires : tie.Need-peek-requires
 peek-requires c κs = search needs
@@ -33,7 +33,7 @@ happen-requires : tie.Need-happen-requires
 happen-requires c κs =
     let was = c .before .before in
     let a = was .before .before .before .before .before .before .before .before .before .args in
-    openable (a .full .now) (a .high .now) (a .serial .now) (a .image .now) (in-use was) (was .before .before .before .opening-two .ensures)
+    openable (a .full .now) (a .high .now) (a .serial .now) (a .image .now) (in-use was) (was .before .before .before .opened .ensures)
 
 -- the answer, and the image left
 answered : (c : tie.After-happen) → let a = c .before .before .before .before .before .before .before .before .before .before .before .before .args in
@@ -44,7 +44,7 @@ answered c =
     let was = c .before .before .before in
     let a = was .before .before .before .before .before .before .before .before .before .args in
     let b = lentTwo (a .full .now) (a .high .now) (a .serial .now) in
-    let q = event-two (a .full .now) (a .high .now) (a .serial .now) (a .image .now) (in-use was) (was .before .before .before .opening-two .ensures) (c .before .before .event-of .result)
+    let q = event-two (a .full .now) (a .high .now) (a .serial .now) (a .image .now) (in-use was) (was .before .before .before .opened .ensures) (c .before .before .event-of .result)
     ∙ ap (event b (a .image .now)) (c .before .before .event-of .ensures) in
     (c .happen .ensures .0 ∙ ap (λ (r : Reply). r .answer) q, c .happen .ensures .1 ∙ ap (λ (r : Reply). r .image) q)
 
@@ -72,7 +72,7 @@ pub hk-two-event-spec : {M : Type 1} → statement M
 hk-two-event-spec =
     tie.close
     (tie.spec
-    opening-two-requires
+    opened-requires
     peek-requires
     in-use-requires
     event-of-requires

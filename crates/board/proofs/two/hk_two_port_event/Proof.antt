@@ -26,8 +26,8 @@ returns c =
     absent (lentTwo (a .full .now) (a .high .now) (a .serial .now)) (spotsTwo f h s) (a .row .now) (a .port) (numbered (a .kind) (a .value) (a .setup .now))
     (omega (arith, c .before .before .before .before .if1 .taken)) (refused-two (a .full .now) (a .high .now) (a .serial .now) (deviceOf (recordAt (a .row .now) (a .port)) .speed) f h s (c .hand-out-of .ensures))
 
-opening-two-requires : tie.Need-opening-two-requires
-opening-two-requires c κs = search needs
+opened-requires : tie.Need-opened-requires
+opened-requires c κs = search needs
 
 mul-in-use : tie.Need-mul-in-use
 mul-in-use c = search needs
@@ -59,7 +59,7 @@ happen-at-requires : tie.Need-happen-at-requires
 happen-at-requires c κs =
     let was = c .before .before in
     let a = was .before .before .before .before .before .before .before .before .args in
-    (openable (a .full .now) (a .high .now) (a .serial .now) (recordAt (a .row .now) (a .port)) (in-use was) (was .before .before .opening-two .ensures), within was)
+    (openable (a .full .now) (a .high .now) (a .serial .now) (recordAt (a .row .now) (a .port)) (in-use was) (was .before .before .opened .ensures), within was)
 
 -- the answer, and the row left
 answered : (c : tie.After-happen-at) → let a = c .before .before .before .before .before .before .before .before .before .before .before .args in
@@ -71,7 +71,7 @@ answered c =
     let a = was .before .before .before .before .before .before .before .before .args in
     let b = lentTwo (a .full .now) (a .high .now) (a .serial .now) in
     let image = recordAt (a .row .now) (a .port) in
-    let q = event-two (a .full .now) (a .high .now) (a .serial .now) image (in-use was) (was .before .before .opening-two .ensures) (c .before .before .event-of .result)
+    let q = event-two (a .full .now) (a .high .now) (a .serial .now) image (in-use was) (was .before .before .opened .ensures) (c .before .before .event-of .result)
     ∙ ap (event b image) (c .before .before .event-of .ensures) in
     (c .happen-at .ensures .0 ∙ ap (λ (r : Reply). r .answer) q, c .happen-at .ensures .1 ∙ ap (λ (r : Reply). set (a .row .now) (a .port) (r .image)) q)
 
@@ -103,7 +103,7 @@ hk-two-port-event-spec =
     (tie.spec
     hand-out-of-requires
     returns
-    opening-two-requires
+    opened-requires
     mul-in-use
     index-1-in-use
     index-2-in-use
