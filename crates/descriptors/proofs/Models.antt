@@ -267,11 +267,11 @@ module _ (limits : Limits) {o : Order} {w : Progress} {last : Stand} (m : Models
   pub begins-allowed : bInterfaceNumber d < 256 → bAlternateSetting d < 256 → isInterface d ≡ true → begins o d ≡ (allowed limits w last (standOf last d) d && ltb (bInterfaceNumber d) 16)
   begins-allowed i j k =
       let p = eqb-true (bDescriptorType d) 4 k in
-      let a : mayBegin limits w last (standOf last d) d ≡ allowed limits w last (standOf last d) d = simp (p, and-true) (length-first (typeAllowed 4) (leb 9 (length d)) (eqb (w .coming) 0) (placed last (begunBy d))) in
+      let a : mayBegin w last (standOf last d) d ≡ allowed limits w last (standOf last d) d = simp (p, and-true) (length-first (typeAllowed 4) (leb 9 (length d)) (eqb (w .coming) 0) (placed last (begunBy d))) in
       rw (models-settles m d i j, m .comes) (number-last (leb 9 (length d)) (eqb (w .coming) 0) (placed last (begunBy d)) (ltb (bInterfaceNumber d) 16))
       ∙ ap (λ (b : Bool). b && ltb (bInterfaceNumber d) 16) (begun k ∙ a)
     where
-      begun : isInterface d ≡ true → (leb 9 (length d) && (typeAllowed 4 && eqb (w .coming) 0 && placed last (begunBy d))) ≡ mayBegin limits w last (standOf last d) d
+      begun : isInterface d ≡ true → (leb 9 (length d) && (typeAllowed 4 && eqb (w .coming) 0 && placed last (begunBy d))) ≡ mayBegin w last (standOf last d) d
       begun k = rw k
 
   pub lists-allowed : bitOf (bEndpointAddress d) < 32 → isEndpoint d ≡ true → listable limits o d ≡ allowed limits w last (standOf last d) d

@@ -55,8 +55,8 @@ abbrev pub allowed : Limits → Progress → Stand → Stand → List ℕ → Bo
 allowed limits w last stand d = goodDescriptor limits d && inOrder w last stand d && unshared w last stand d
 
 -- the same of an interface descriptor, and of an endpoint descriptor
-abbrev pub mayBegin : Limits → Progress → Stand → Stand → List ℕ → Bool
-mayBegin limits w last stand d = interfaceLongEnough d && (typeAllowed 4 && allCame w && placed last (settingAt stand))
+abbrev pub mayBegin : Progress → Stand → Stand → List ℕ → Bool
+mayBegin w last stand d = interfaceLongEnough d && (typeAllowed 4 && allCame w && placed last (settingAt stand))
 
 abbrev pub mayList : Limits → Progress → List ℕ → Bool
 mayList limits w d = typeAllowed 5 && goodEndpoint limits d && oneMayCome w && fresh w (bEndpointAddress d)
