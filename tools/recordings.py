@@ -1,9 +1,6 @@
 """What devices said of themselves, laid out as sets: a recording is the device descriptor and each configuration, end to end."""
-import os
-
 from pieces import CONFIGURATION, DEVICE, ENGLISH, STORE, STRING, a_set, languages, string
 
-ENUMERATIONS = os.path.join(os.path.dirname(os.path.abspath(__file__)), "enumerations")
 ZERO = (0, 0, languages(ENGLISH))
 BLOCK = string("0001")
 
@@ -47,19 +44,3 @@ def with_store(recorded):
     """The set of a recording with a BOS made for it: USB 2.0 extension and SuperSpeed capabilities."""
     store = bytes.fromhex("05 0F 16 00 02  07 10 02 06 00 00 00  0A 10 03 00 0E 00 01 0A 00 00")
     return recorded_set(recorded, [(STORE, 0, 0, store)])
-
-
-def super_enumerations():
-    for name in sorted(os.listdir(ENUMERATIONS)):
-        if name.endswith(".bin"):
-            with open(os.path.join(ENUMERATIONS, name), "rb") as file:
-                recorded = file.read()
-            if is_super(recorded):
-                yield f"{name}, with a BOS", *with_store(recorded)
-
-
-def enumerations():
-    for name in sorted(os.listdir(ENUMERATIONS)):
-        if name.endswith(".bin"):
-            with open(os.path.join(ENUMERATIONS, name), "rb") as file:
-                yield name, *recorded_set(file.read())

@@ -1,11 +1,7 @@
-"""The library in its harness, or the reference, asked one call after the other: for the bench, and for the scripts that hold a program's stored
-output to the reference."""
-import os, subprocess
+"""The library in its harness, or another program that speaks the harness's protocol, asked one call after the other."""
+import subprocess
 
 from pieces import word
-
-TOP = os.path.dirname(os.path.dirname(os.path.abspath(__file__)))
-REFERENCE = os.path.join(TOP, "target", "reference", "release", "reference")
 
 # The events by their numbers in include/heideklonk.h, and the operation of each in the protocol.
 SETUP, STATUS_END, BUS_RESET, HALT, PACKET_PASSED, POWER, SUSPEND, RESUME, WAKE = range(9)
@@ -35,7 +31,7 @@ class CallWentWrong(Exception):
 
 
 class Served:
-    """A program that speaks the protocol of tests/reference/src/protocol.rs."""
+    """A program that speaks the protocol of tools/harness.c, which tests/reference/src/protocol.rs describes."""
 
     def __init__(self, command):
         self.command = command
@@ -115,19 +111,3 @@ class Served:
             if number != 0:
                 return
             yield part[2]
-
-
-class Reference(Served):
-    """`reference serve`."""
-
-    def __init__(self):
-        super().__init__([REFERENCE, "serve"])
-
-
-def differing(stored, expected):
-    """The first line in which two texts differ, as (line, stored, expected), or nothing."""
-    stored, expected = stored.splitlines(), expected.splitlines()
-    for at in range(max(len(stored), len(expected))):
-        pair = [text[at] if at < len(text) else "(no line)" for text in (stored, expected)]
-        if pair[0] != pair[1]:
-            return at + 1, *pair

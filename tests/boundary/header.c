@@ -3,7 +3,7 @@
 #include <stdio.h>
 #include <string.h>
 
-#include "../firmware/sets.c" /* tests/cc compiles one source */
+#include "../../firmware/sets.c" /* tools/cc compiles one source */
 
 /* SET_ADDRESS 9, then remote wakeup, configuration 2 and alternate 1 of interface 1: the titrator's */
 static const uint8_t set_address[] = {0x00, 5, 9, 0, 0, 0, 0, 0};

@@ -4,7 +4,7 @@
 #include <stdlib.h>
 #include <string.h>
 
-#include "../firmware/sets.c" /* tests/cc compiles one source */
+#include "../../firmware/sets.c" /* tools/cc compiles one source */
 
 #define DAMAGED_COPIES 24
 #define MOST_SET 512

@@ -2,8 +2,8 @@
 #include <stdio.h>
 #include <string.h>
 
-/* tests/cc compiles one source */
-#include "../firmware/sets.c"
+/* tools/cc compiles one source */
+#include "../../firmware/sets.c"
 
 int main(int count, char **words) {
     if (count != 3)

@@ -2,7 +2,7 @@
  *
  * SETUP is 8 bytes in hexadecimal; behind table: it goes the second way, behind pair: and pair-table: the set is lent for both
  * speeds, and high speed is in use. The record is Configured with that configuration, all else fresh. Prints the nanoseconds of
- * a call, its number and the two bytes. tests/benchmark.rs does the same, in its one way. */
+ * a call, its number and the two bytes. tests/speed/benchmark.rs does the same, in its one way. */
 #define _POSIX_C_SOURCE 199309L
 
 #include <stdio.h>

@@ -2,7 +2,7 @@
 //!
 //! Document 01 as one would write it for a desktop: each event checks the set and the serial block, decodes them into a
 //! table of endpoints on the heap, checks the record against it and answers. Of the requests it knows GET_STATUS of an
-//! endpoint alone, the one that is measured. tests/benchmark.c has the same arguments and prints the same line.
+//! endpoint alone, the one that is measured. tests/speed/benchmark.c has the same arguments and prints the same line.
 
 use std::{env, fs, hint::black_box, ops::Range, time::Instant};
 

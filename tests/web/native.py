@@ -2,12 +2,11 @@
 of recorded devices, the importer; and the sets that the writer makes of the texts."""
 import json, os, random, re, subprocess, sys, tempfile
 
-TOP = os.path.dirname(os.path.dirname(os.path.abspath(__file__)))
-sys.path[1:1] = [os.path.join(TOP, "makers"), os.path.join(TOP, "tests")]
+sys.path.insert(1, os.path.dirname(os.path.dirname(os.path.abspath(__file__))))
 sys.dont_write_bytecode = True
 
+from shared import EMULATE, TOP, enumerations, recordings
 from pieces import CONFIGURATION, DEVICE, S_DEVICE, a_set, configuration, endpoint, interface
-from recordings import ENUMERATIONS, enumerations
 from text import Mistake, piece, read_entries, text_of
 
 TEXTS = ["makers/bench.txt", "makers/titrator.txt", "bench/sets/scale.txt", "bench/sets/hasty.txt"]
@@ -41,7 +40,7 @@ class Room:
         for name, data in given.items():
             with open(os.path.join(self.folder, name), "wb") as file:
                 file.write(data)
-        done = subprocess.run([os.path.join(TOP, "tests", "emulate"), *command], cwd=self.folder, capture_output=True)
+        done = subprocess.run([EMULATE, *command], cwd=self.folder, capture_output=True)
         made = os.path.join(self.folder, wanted)
         return done.stdout.decode("utf-8", "replace"), read(made).hex() if os.path.exists(made) else None
 
@@ -110,14 +109,13 @@ def main():
         texts = [written(room, path) for path in TEXTS]
         sets = [(path, read(path), read(unit) if unit else b"") for path, unit in SETS]
         sets += [(text["name"], bytes.fromhex(text["set"]), bytes.fromhex(text["serial"])) for text in texts if text["set"]]
-        dumps = [name for name in sorted(os.listdir(ENUMERATIONS)) if name.endswith(".bin")]
         json.dump({
             "texts": texts,
             "misread": list(misread(400)),
             "sets": [told(room, host, *one) for one in sets],
             "recorded": [told(room, host, *one) for one in enumerations()],
             "long": [{"name": name, "set": data.hex(), "serial": serial.hex(), "listing": room.program("lister", {"set.bin": data, "unit.bin": serial})[0]} for name, data, serial in long_sets()],
-            "dumps": [{"name": name, "dump": read(os.path.join(ENUMERATIONS, name)).hex(), "set": room.program("importer", {"descriptors": read(os.path.join(ENUMERATIONS, name))}, "set.bin")[1]} for name in dumps],
+            "dumps": [{"name": name, "dump": dump.hex(), "set": room.program("importer", {"descriptors": dump}, "set.bin")[1]} for name, dump in recordings()],
         }, sys.stdout)
 
 

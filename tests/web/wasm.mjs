@@ -1,4 +1,4 @@
-// Calls the WebAssembly module as tests/harness.c calls the archive, by the same commands (tests/reference/src/protocol.rs): node wasm.mjs MODULE
+// Calls the WebAssembly module as tools/harness.c calls the archive, by the same commands (tests/reference/src/protocol.rs): node wasm.mjs MODULE
 //
 // What is lent stands in the module's memory past __heap_base, each block between guard bytes; after a call, every byte that it may not write is as it was.
 import { readFileSync, readSync, writeSync } from "node:fs";

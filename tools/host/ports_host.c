@@ -4,7 +4,7 @@
 #include <stdio.h>
 #include <string.h>
 
-#include "../firmware/sets.h"
+#include "../../firmware/sets.h"
 #include "transfers.h"
 #include "words.h"
 

@@ -2,7 +2,7 @@
 
 #include <string.h>
 
-#include "../firmware/hardware.h"
+#include "../../firmware/hardware.h"
 
 #define RECORD_STATE 0
 #define RECORD_HALTS 24

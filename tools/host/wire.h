@@ -3,8 +3,8 @@
 #ifndef WIRE_H
 #define WIRE_H
 
-#include "../firmware/device.h"
-#include "../firmware/serial.h"
+#include "../../firmware/device.h"
+#include "../../firmware/serial.h"
 
 enum wire_answer {
     WIRE_DONE,  /* acknowledged, or a packet came */
