@@ -88,8 +88,8 @@ static void check_places(void) {
 static void happen(hk_record *record, uint8_t event, uint8_t endpoint, const uint8_t *setup) {
     uint8_t bytes[2], count;
     hk_part part = HK_NO_PART;
-    const struct device_flash *flash = &titrator_flash;
-    uint8_t number = hk_record_event(flash->set, flash->set_length, flash->serial, flash->serial_length, record, event,
+    const hk_board *board = &titrator_board;
+    uint8_t number = hk_record_event(board->set, board->set_length, board->serial, board->serial_length, record, event,
                                      endpoint, setup, setup == NULL ? 0 : HK_SETUP_LENGTH, bytes, &count, &part);
     expect("an event's number", number, HK_DONE);
 }
@@ -97,9 +97,9 @@ static void happen(hk_record *record, uint8_t event, uint8_t endpoint, const uin
 /* What each field holds when the events that change it have passed. */
 static void check_fields(void) {
     hk_record record;
-    const struct device_flash *flash = &titrator_flash;
+    const hk_board *board = &titrator_board;
     memset(&record, 0xA5, sizeof record);
-    uint8_t number = hk_open(flash->set, flash->set_length, flash->serial, flash->serial_length, (uint8_t *)&record,
+    uint8_t number = hk_open(board->set, board->set_length, board->serial, board->serial_length, (uint8_t *)&record,
                              sizeof record);
     expect("opening's number", number, HK_DONE);
     EXPECT(record.waiting, 255);

@@ -129,7 +129,7 @@ static struct answer on_image(uint8_t *image, const struct event *event) {
     return answer;
 }
 
-static struct answer on_record(hk_record *record, const struct event *event) {
+static inline struct answer on_record(hk_record *record, const struct event *event) {
     struct answer answer = {255, {0xA5, 0xA5}, 0xA5, {event->setup, 3}};
     answer.number = hk_record_event(set, set_length, serial, serial_length, record, event->kind, event->value,
                                     event->setup_length == 0 ? NULL : event->setup, event->setup_length, answer.bytes,
@@ -172,20 +172,20 @@ static void run_events(unsigned long events) {
 }
 
 /* Copies with one byte changed, one byte short, and with another serial block: fewer events, since most are refused. */
-static void run_flash(const struct device_flash *flash, unsigned long events) {
+static void run_board(const hk_board *board, unsigned long events) {
     static uint8_t copy[MOST_SET];
-    set = flash->set;
-    set_length = flash->set_length;
-    serial = flash->serial;
-    serial_length = flash->serial_length;
+    set = board->set;
+    set_length = board->set_length;
+    serial = board->serial;
+    serial_length = board->serial_length;
     run_events(events);
     set = copy;
     for (int number = 0; number < DAMAGED_COPIES; number++) {
-        memcpy(copy, flash->set, set_length);
+        memcpy(copy, board->set, set_length);
         copy[below((uint32_t)set_length)] = (uint8_t)below(256);
         run_events(events / 100);
     }
-    memcpy(copy, flash->set, set_length);
+    memcpy(copy, board->set, set_length);
     set_length--;
     run_events(events / 100);
     set_length++;

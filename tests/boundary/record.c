@@ -31,8 +31,8 @@ int main(int argument_count, char **arguments) {
     static const uint8_t expected[] = {0, 7, 8, 9, 10, 11, 12, 13, 14, 16, 19};
     unsigned long events = argument_count > 1 ? strtoul(arguments[1], NULL, 10) : 100000;
     int missing = 0;
-    run_flash(&bench_flash, events);
-    run_flash(&titrator_flash, events);
+    run_board(&bench_board, events);
+    run_board(&titrator_board, events);
     for (size_t at = 0; at < sizeof expected; at++) {
         printf("  number %2d: %lu events\n", expected[at], numbers[expected[at]]);
         if (numbers[expected[at]] == 0) {

@@ -90,15 +90,15 @@ static void at_event(const struct event *event) {
 }
 
 /* Opening makes a fresh record of any image: where one is fresh already, nothing is written. */
-static void open_read_only(const struct device_flash *flash) {
+static void open_read_only(const hk_board *board) {
     uint8_t fresh[HK_IMAGE_LENGTH], changed[HK_IMAGE_LENGTH];
-    hk_open(flash->set, flash->set_length, flash->serial, flash->serial_length, fresh, sizeof fresh);
+    hk_open(board->set, board->set_length, board->serial, board->serial_length, fresh, sizeof fresh);
     call = "hk_open";
     for (uint32_t cut = 0; cut <= HK_IMAGE_LENGTH; cut++, openings++) {
         memcpy(changed, fresh, sizeof fresh);
         if (below(2))
             changed[below(sizeof changed)] ^= 1;
-        hk_open(flash->set, flash->set_length, flash->serial, flash->serial_length, lay(changed, fresh, cut), HK_IMAGE_LENGTH);
+        hk_open(board->set, board->set_length, board->serial, board->serial_length, lay(changed, fresh, cut), HK_IMAGE_LENGTH);
     }
 }
 
@@ -110,9 +110,9 @@ int main(int argument_count, char **arguments) {
     pages = mmap(NULL, 2 * page, PROT_READ | PROT_WRITE, MAP_PRIVATE | MAP_ANONYMOUS, -1, 0);
     if (pages == MAP_FAILED || signal(SIGSEGV, wrote) == SIG_ERR)
         return 2;
-    open_read_only(&bench_flash);
-    run_flash(&bench_flash, events);
-    run_flash(&titrator_flash, events);
+    open_read_only(&bench_board);
+    run_board(&bench_board, events);
+    run_board(&titrator_board, events);
     for (size_t at = 0; at < sizeof expected; at++) {
         printf("  number %2d: %lu events that change nothing\n", expected[at], numbers[expected[at]]);
         missing |= numbers[expected[at]] == 0;

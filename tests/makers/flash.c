@@ -8,8 +8,8 @@
 int main(int count, char **words) {
     if (count != 3)
         return 2;
-    const struct device_flash *flash = strcmp(words[1], "bench") == 0 ? &bench_flash : &titrator_flash;
+    const hk_board *board = strcmp(words[1], "bench") == 0 ? &bench_board : &titrator_board;
     if (strcmp(words[2], "set") == 0)
-        return fwrite(flash->set, 1, flash->set_length, stdout) != flash->set_length;
-    return fwrite(flash->serial, 1, flash->serial_length, stdout) != flash->serial_length;
+        return fwrite(board->set, 1, board->set_length, stdout) != board->set_length;
+    return fwrite(board->serial, 1, board->serial_length, stdout) != board->serial_length;
 }

@@ -391,7 +391,7 @@ static void take_settings(struct host *host, const struct body *body) {
 static void take_same_settings(struct host *host, const struct body *body) {
     heading("The same settings again: halts and toggles become 0");
     for (unsigned interface = 0; interface < body->bytes[4]; interface++)
-        ask(host, 0x01, SET_INTERFACE, host->device.record[8 + interface], interface, 0, HK_DONE);
+        ask(host, 0x01, SET_INTERFACE, host->device.record.alternates[interface], interface, 0, HK_DONE);
     ask(host, 0x81, GET_INTERFACE, 0, body->bytes[4], 1, HK_DOES_NOT_EXIST);
 }
 
@@ -421,18 +421,18 @@ static void leave(struct host *host, const struct learnt *learnt) {
 }
 
 static void lose_last_byte_of_set(struct host *host) {
-    const struct device_flash *flash = host->device.flash;
-    struct device_flash worn = *flash;
+    const hk_board *board = host->device.board;
+    hk_board worn = *board;
     worn.set_length--;
     printf("the set has lost its last byte\n");
-    host->device.flash = &worn;
+    host->device.board = &worn;
     get_descriptor(host, TYPE_DEVICE, 0, 0, 18, HK_SET_NOT_ACCEPTABLE);
-    host->device.flash = flash;
+    host->device.board = board;
 }
 
 static void disturb_record(struct host *host) {
     printf("byte 1 of the record becomes 200, until a bus reset mends it\n");
-    host->device.record[1] = 200;
+    host->device.record.address = 200;
     show_record(host, "");
     get_descriptor(host, TYPE_DEVICE, 0, 0, 18, HK_RECORD_DOES_NOT_FIT);
     reset_bus(host);
@@ -455,23 +455,23 @@ static void disturb_board(struct host *host) {
 }
 
 /* The bench's application has a serial port where the set has one: the communication interface's first bytes tell. */
-static int find_port(const struct device_flash *flash, struct serial_port *port) {
+static int find_port(const hk_board *board, struct serial_port *port) {
     static const uint8_t head[] = {9, 4}, serial_class[] = {2, 2};
-    for (size_t at = 0; at + 9 <= flash->set_length; at++)
-        if (memcmp(flash->set + at, head, 2) == 0 && memcmp(flash->set + at + 5, serial_class, 2) == 0) {
-            serial_start(port, flash->set[at + 2]);
+    for (size_t at = 0; at + 9 <= board->set_length; at++)
+        if (memcmp(board->set + at, head, 2) == 0 && memcmp(board->set + at + 5, serial_class, 2) == 0) {
+            serial_start(port, board->set[at + 2]);
             return 1;
         }
     return 0;
 }
 
-static int enumerate(const struct device_flash *flash) {
+static int enumerate(const hk_board *board) {
     static struct host host;
     static struct learnt learnt;
     static struct serial_port port;
     memset(&host.device, UNWRITTEN, sizeof host.device); /* memory at power-on */
-    wire_attach(&host.device, find_port(flash, &port) ? &port : NULL);
-    uint8_t number = device_start(&host.device, flash);
+    wire_attach(&host.device, find_port(board, &port) ? &port : NULL);
+    uint8_t number = device_start(&host.device, board);
     if (number != HK_DONE) {
         print_refusal(number);
         return 1;
@@ -519,16 +519,16 @@ static int write_file(const char *name, const uint8_t *bytes, size_t length) {
     return fclose(file) == 0 && written == length;
 }
 
-static const struct device_flash *built_in(const char *name) {
-    return strcmp(name, "bench") == 0 ? &bench_flash : strcmp(name, "titrator") == 0 ? &titrator_flash : NULL;
+static const hk_board *built_in(const char *name) {
+    return strcmp(name, "bench") == 0 ? &bench_board : strcmp(name, "titrator") == 0 ? &titrator_board : NULL;
 }
 
 int main(int count, char **arguments) {
     static uint8_t set[MOST_FILE], serial[MOST_FILE];
     if (count == 5 && strcmp(arguments[1], "--write") == 0 && built_in(arguments[2]) != NULL) {
-        const struct device_flash *flash = built_in(arguments[2]);
-        return !(write_file(arguments[3], flash->set, flash->set_length) &&
-                 write_file(arguments[4], flash->serial, flash->serial_length));
+        const hk_board *board = built_in(arguments[2]);
+        return !(write_file(arguments[3], board->set, board->set_length) &&
+                 write_file(arguments[4], board->serial, board->serial_length));
     }
     if (count == 2 && built_in(arguments[1]) != NULL)
         return enumerate(built_in(arguments[1]));
@@ -536,7 +536,7 @@ int main(int count, char **arguments) {
         fprintf(stderr, "usage: host bench | titrator | SET [SERIAL]\n");
         return 2;
     }
-    struct device_flash flash = {set, read_file(arguments[1], set), serial, 0};
-    flash.serial_length = count == 3 ? read_file(arguments[2], serial) : 0;
-    return enumerate(&flash);
+    hk_board board = {set, read_file(arguments[1], set), serial, 0, NULL, 0};
+    board.serial_length = count == 3 ? read_file(arguments[2], serial) : 0;
+    return enumerate(&board);
 }

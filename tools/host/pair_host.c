@@ -119,8 +119,8 @@ static void enter_test_mode(struct host *host, const struct learnt *learnt) {
     ask(host, 0x80, GET_STATUS, 0, 0, 2, HK_TEST_MODE_ENTERED);
 }
 
-static void start(struct host *host, const struct device_flash *flash) {
-    uint8_t number = device_start(&host->device, flash);
+static void start(struct host *host, const hk_board *board) {
+    uint8_t number = device_start(&host->device, board);
     if (number != HK_DONE)
         print_refusal(number);
     else
@@ -131,12 +131,12 @@ static void start(struct host *host, const struct device_flash *flash) {
 }
 
 /* A byte of type 7 that differs: the two sets no longer go together. */
-static void mistake_pair(struct host *host, const struct device_flash *flash) {
+static void mistake_pair(struct host *host, const hk_board *board) {
     static uint8_t high[MOST_BODY];
-    struct device_flash mistaken = *flash;
+    hk_board mistaken = *board;
     heading("One byte of the high-speed set's type 7 is another, as where a maker changes one set and forgets the other");
-    memcpy(high, flash->high, flash->high_length);
-    high[flash->high_length - 1] ^= 1;
+    memcpy(high, board->high, board->high_length);
+    high[board->high_length - 1] ^= 1;
     mistaken.high = high;
     uint8_t number = device_start(&host->device, &mistaken);
     print_refusal(number);
@@ -145,12 +145,12 @@ static void mistake_pair(struct host *host, const struct device_flash *flash) {
     show_fault(wire_heard());
 }
 
-static int enumerate(const struct device_flash *flash) {
+static int enumerate(const hk_board *board) {
     static struct host host;
     static struct learnt full, high;
     memset(&host.device, UNWRITTEN, sizeof host.device); /* memory at power-on */
     wire_attach(&host.device, NULL);
-    start(&host, flash);
+    start(&host, board);
     enumerate_at(&host, HK_SPEED_FULL, &full);
     enumerate_at(&host, HK_SPEED_HIGH, &high);
     heading("Each speed says of the other what is so there");
@@ -159,8 +159,8 @@ static int enumerate(const struct device_flash *flash) {
     refuse_test_modes(&host);
     enter_test_mode(&host, &high);
     heading("Power off and on");
-    start(&host, flash);
-    mistake_pair(&host, flash);
+    start(&host, board);
+    mistake_pair(&host, board);
     printf("\nend of the transcript: %d failed\n", host.failures);
     return host.failures != 0;
 }
@@ -174,14 +174,14 @@ static int write_file(const char *name, const uint8_t *bytes, size_t length) {
 }
 
 int main(int count, char **arguments) {
-    const struct device_flash *flash = &titrator_pair_flash;
+    const hk_board *board = &titrator_pair_board;
     if (count == 5 && strcmp(arguments[1], "--write") == 0)
-        return !(write_file(arguments[2], flash->set, flash->set_length) &&
-                 write_file(arguments[3], flash->high, flash->high_length) &&
-                 write_file(arguments[4], flash->serial, flash->serial_length));
+        return !(write_file(arguments[2], board->set, board->set_length) &&
+                 write_file(arguments[3], board->high, board->high_length) &&
+                 write_file(arguments[4], board->serial, board->serial_length));
     if (count != 1) {
         fprintf(stderr, "usage: pair_host [--write FULL HIGH SERIAL]\n");
         return 2;
     }
-    return enumerate(flash);
+    return enumerate(board);
 }

@@ -13,7 +13,7 @@
 
 static hk_record row[PORTS];
 static struct host hosts[PORTS];
-static const struct device_flash *const flash[PORTS] = {&titrator_flash, &second_titrator_flash};
+static const hk_board *const boards[PORTS] = {&titrator_board, &second_titrator_board};
 static const uint8_t addresses[PORTS] = {5, 6};
 
 /* The other port's record, as it was when this port was turned to. */
@@ -52,7 +52,7 @@ static void start(unsigned port) {
     device->row_length = PORTS;
     device->port = port;
     wire_attach(device, NULL);
-    uint8_t number = device_start(device, flash[port]);
+    uint8_t number = device_start(device, boards[port]);
     printf("power on: %s\n", number == HK_DONE ? "the set and this port's serial block are accepted" : number_in_words(number));
     if (number != HK_DONE)
         fail(host, "the set was refused");
@@ -145,13 +145,10 @@ static void use_both(void) {
 
 /* A board that names a port that it does not have. */
 static void name_missing_port(void) {
-    uint8_t bytes[2], count;
-    hk_part part = HK_NO_PART;
     hk_record before[PORTS];
     heading("A port that is not there");
     memcpy(before, row, sizeof row);
-    uint8_t number = hk_port_event(flash[0]->set, flash[0]->set_length, flash[0]->serial, flash[0]->serial_length, row, PORTS,
-                                   PORTS, HK_EVENT_BUS_RESET, 0, NULL, 0, bytes, &count, &part);
+    uint8_t number = hk_port_tell(boards[0], row, PORTS, PORTS, HK_EVENT_BUS_RESET, HK_SPEED_FULL);
     printf("a bus reset at port %u: %u, %s\n", PORTS, number, number_in_words(number));
     if (number != HK_NO_SUCH_PORT || memcmp(before, row, sizeof row) != 0)
         fail(at(0), "it was not refused, or a record has changed");

@@ -4,8 +4,6 @@
 
 #include "../../firmware/hardware.h"
 
-#define RECORD_STATE 0
-#define RECORD_HALTS 24
 #define CONFIGURED 2
 
 #define VENDOR_DEVICE 0x40
@@ -15,7 +13,7 @@ static struct {
     struct device *device;
     struct serial_port *port;
     uint8_t address, heard, power, test_mode;
-    uint8_t record[HK_IMAGE_LENGTH]; /* as the endpoints have it */
+    hk_record record; /* as the endpoints have it */
     const uint8_t *open[WIRE_MOST_ENDPOINTS];
     size_t open_count;
     int stalled, status_expected, packet_ready, room_ready, event_waits, wakeup_signalled;
@@ -71,8 +69,8 @@ void hardware_set_address(uint8_t address) {
     wire->address = address;
 }
 
-void hardware_set_endpoints(const uint8_t *record) {
-    memcpy(wire->record, record, sizeof wire->record);
+void hardware_set_endpoints(const hk_record *record) {
+    wire->record = *record;
 }
 
 void hardware_close_endpoints(void) {
@@ -110,7 +108,7 @@ static int keep_setup(const uint8_t *setup, struct application_data *data) {
 
 /* Interfaces, and so their requests, exist only in Configured. */
 int application_setup(const uint8_t *setup, struct application_data *data) {
-    int configured = device_record(wire->device)[RECORD_STATE] == CONFIGURED;
+    int configured = device_record(wire->device)->state == CONFIGURED;
     return (wire->port != NULL && configured && serial_setup(wire->port, setup, data)) || keep_setup(setup, data);
 }
 
@@ -127,7 +125,7 @@ size_t wire_open_endpoints(const uint8_t *descriptors[WIRE_MOST_ENDPOINTS]) {
 }
 
 int wire_follows_record(void) {
-    return memcmp(wire->record, device_record(wire->device), sizeof wire->record) == 0;
+    return memcmp(&wire->record, device_record(wire->device), sizeof wire->record) == 0;
 }
 
 uint8_t wire_heard(void) {
@@ -239,7 +237,7 @@ void wire_send_stray_out(void) {
 
 static int is_halted(uint8_t endpoint) {
     int bit = (endpoint & 15) + (endpoint & 0x80 ? 16 : 0);
-    return wire->record[RECORD_HALTS + bit / 8] >> bit % 8 & 1;
+    return wire->record.halts >> bit & 1;
 }
 
 static int is_open(uint8_t endpoint) {
