@@ -14,9 +14,10 @@ REFERENCE = os.path.join(TOP, "target", "reference", "release", "reference")
 
 
 def script(*path):
-    """A program of the repository that has no .py, imported."""
-    name = path[-1]
-    loader = importlib.machinery.SourceFileLoader(name, os.path.join(TOP, *path))
+    """A program of the repository that has no .py, imported; it finds what stands beside it."""
+    folder, name = os.path.join(TOP, *path[:-1]), path[-1]
+    sys.path.append(folder)
+    loader = importlib.machinery.SourceFileLoader(name, os.path.join(folder, name))
     module = importlib.util.module_from_spec(importlib.util.spec_from_loader(name, loader))
     loader.exec_module(module)
     return module
