@@ -1,7 +1,7 @@
 /* The device loop: USB 2.0 chapter 9 on a small board, over the library (heideklonk_board.h) and the board (hardware.h).
  *
- * A board lends one set. With DEVICE_TWO_SETS it lends two, one for each speed; with DEVICE_PORTS its records stand in a row,
- * one for each port.
+ * A board lends one set. With DEVICE_TWO_SETS it lends two, one for each speed; with DEVICE_PORTS its records stand in a
+ * row, one for each port.
  *
  * Nothing is allocated and there are no variables but the caller's struct device. docs/FIRMWARE.md shows a main. */
 #ifndef DEVICE_H

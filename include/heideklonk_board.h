@@ -11,8 +11,8 @@
  *   number = hk_tell(&board, &record, HK_EVENT_STATUS_END, 0);            any other event
  *
  * Each function is one call of heideklonk.h with blocks and lengths filled in: number, bytes, part and record are that
- * call's, and what its caller owes is owed here too. Functions hk_two_.. are for a board that lends two sets, hk_port_.. and
- * hk_two_port_.. for events at one of several ports. What a board does not call is not linked.
+ * call's, and what its caller owes is owed here too. Functions hk_two_.. are for a board that lends two sets, hk_port_..
+ * and hk_two_port_.. for events at one of several ports. What a board does not call is not linked.
  *
  * Nothing is allocated, kept or called through a pointer. The record's bytes are lent as the image, so the machine is
  * little-endian. C99, and valid C++. */
@@ -66,7 +66,8 @@ static inline hk_part hk_no_part(void) {
 
 /* ---- What is sent. */
 
-/* The bytes that go to the host in the data stage. Bytes that are no part stand in the answer: keep it until they are out. */
+/* The bytes that go to the host in the data stage. Those that are no part stand in the answer: keep it until they are
+ * out. */
 static inline hk_part hk_reply(const hk_answer *answer) {
     hk_part reply = answer->part;
     if (answer->count > 0) {
@@ -98,8 +99,8 @@ static inline hk_answer hk_ask(const hk_board *board, hk_record *record, const u
     return answer;
 }
 
-/* Any other event, by its number HK_EVENT_.. and its value: the call for that event. A number that no other event has is a
- * setup that has not eight bytes. */
+/* Any other event, by its number HK_EVENT_.. and its value: the call for that event. A number that no other event has is
+ * a setup that has not eight bytes. */
 HK_FOLDED uint8_t hk_tell(const hk_board *board, hk_record *record, uint8_t event, uint8_t value) {
     switch (event) {
     case HK_EVENT_STATUS_END:
@@ -156,8 +157,8 @@ static inline hk_answer hk_two_current_endpoint(const hk_board *board, hk_record
     return descriptor;
 }
 
-/* ---- A board with several ports: an event at one of them. The board is that port's, with its serial block; hk_start and
- * hk_current_endpoint take the port's own record, &row[port]. */
+/* ---- A board with several ports: an event at one of them. The board is that port's, with its serial block; hk_start
+ * and hk_current_endpoint take the port's own record, &row[port]. */
 
 static inline hk_answer hk_port_ask(const hk_board *board, hk_record *row, size_t row_length, size_t port,
                                     const uint8_t *setup) {

@@ -1,8 +1,8 @@
 /* board [EVENTS]: each function of heideklonk_board.h beside the call of heideklonk.h that it stands for.
  *
- * The same random events go to two copies of a record, by the one and by the other, on a board with one set, with two, and at
- * the ports of both. After each of them number, bytes, count, part and all bytes of the records must agree. Every function
- * must have given HK_DONE. This file is compiled as C99 and as C++. */
+ * The same random events go to two copies of a record, by the one and by the other, on a board with one set, with two, and
+ * at the ports of both. After each of them number, bytes, count, part and all bytes of the records must agree. Every
+ * function must have given HK_DONE. This file is compiled as C99 and as C++. */
 #include "random_events.h"
 
 #include "heideklonk_board.h"
@@ -37,13 +37,13 @@ static hk_record call_row[PORTS], function_row[PORTS], call_two_row[PORTS], func
 static hk_board pair;
 static unsigned long done, reached[FUNCTIONS];
 
-static struct answer no_answer(void) {
-    struct answer answer = {255, {0, 0}, 0, HK_NO_PART};
+static hk_answer no_answer(void) {
+    hk_answer answer = {255, {0, 0}, 0, HK_NO_PART};
     return answer;
 }
 
 /* What the function gave, beside what the call gave, and the records that they left. */
-static void compare(enum function which, hk_answer found, struct answer expected, const void *left, const void *expected_left,
+static void compare(enum function which, hk_answer found, hk_answer expected, const void *left, const void *expected_left,
                     size_t length) {
     done++;
     reached[which] += found.number == HK_DONE;
@@ -56,9 +56,10 @@ static void compare(enum function which, hk_answer found, struct answer expected
 }
 
 /* A function that gives a number alone. */
-static void compare_number(enum function which, uint8_t number, struct answer expected, const void *left,
+static void compare_number(enum function which, uint8_t number, hk_answer expected, const void *left,
                            const void *expected_left, size_t length) {
-    hk_answer found = {number, {expected.bytes[0], expected.bytes[1]}, expected.count, expected.part};
+    hk_answer found = expected;
+    found.number = number;
     compare(which, found, expected, left, expected_left, length);
 }
 
@@ -74,7 +75,7 @@ static const uint8_t *setup_of(const struct event *event) {
 
 static void ask_one(const struct event *event) {
     hk_board board = lent();
-    struct answer expected = on_image((uint8_t *)&one.call, event);
+    hk_answer expected = on_image((uint8_t *)&one.call, event);
     if (event->kind == HK_EVENT_SETUP)
         compare(ASK, hk_ask(&board, &one.function, setup_of(event)), expected, &one.function, &one.call, sizeof one.call);
     else
@@ -83,7 +84,7 @@ static void ask_one(const struct event *event) {
 }
 
 static void ask_two(const struct event *event) {
-    struct answer expected = no_answer();
+    hk_answer expected = no_answer();
     expected.number = hk_two_event(TWO_LENT, IMAGE(two.call), event->kind, event->value, event->setup, event->setup_length,
                                    INTO(expected));
     if (event->kind == HK_EVENT_SETUP)
@@ -96,7 +97,7 @@ static void ask_two(const struct event *event) {
 
 static void ask_port(const struct event *event, size_t port) {
     hk_board board = lent();
-    struct answer expected = no_answer();
+    hk_answer expected = no_answer();
     expected.number = hk_port_event(ONE_LENT, call_row, PORTS, port, event->kind, event->value, event->setup,
                                     event->setup_length, INTO(expected));
     if (event->kind == HK_EVENT_SETUP)
@@ -108,7 +109,7 @@ static void ask_port(const struct event *event, size_t port) {
 }
 
 static void ask_two_port(const struct event *event, size_t port) {
-    struct answer expected = no_answer();
+    hk_answer expected = no_answer();
     expected.number = hk_two_port_event(TWO_LENT, call_two_row, PORTS, port, event->kind, event->value, event->setup,
                                         event->setup_length, INTO(expected));
     if (event->kind == HK_EVENT_SETUP)
@@ -122,7 +123,7 @@ static void ask_two_port(const struct event *event, size_t port) {
 static void ask_endpoints(void) {
     hk_board board = lent();
     uint8_t number = (uint8_t)below(8);
-    struct answer expected = no_answer();
+    hk_answer expected = no_answer();
     expected.number = hk_endpoint(ONE_LENT, IMAGE(one.call), number, &expected.part);
     compare(CURRENT_ENDPOINT, hk_current_endpoint(&board, &one.function, number), expected, &one.function, &one.call,
             sizeof one.call);
@@ -138,7 +139,7 @@ static void cut_reply(void) {
     hk_part reply = hk_reply(&answer);
     uint16_t asked = (uint16_t)below(300);
     uint32_t size = one_of(sizes, sizeof sizes), number = below(6);
-    struct answer expected = no_answer();
+    hk_answer expected = no_answer();
     const uint8_t *start = answer.count > 0 ? answer.bytes : set;
     expected.number = hk_packet(start, answer.count > 0 ? answer.count : set_length / 2, asked, size, number, &expected.part);
     compare(CUT, hk_cut(reply, asked, size, number), expected, &one.function, &one.call, sizeof one.call);
@@ -147,7 +148,7 @@ static void cut_reply(void) {
 /* Opens all anew: the ports too, each by its own record. */
 static void start_all(void) {
     hk_board board = lent();
-    struct answer expected = no_answer();
+    hk_answer expected = no_answer();
     pair = titrator_pair_board;
     if (below(8) == 0)
         pair.high_length--;

@@ -11,12 +11,6 @@
 #define SET_ADDRESS 5
 #define FIRST_OTHER_EVENT 9 /* no event has this number or a higher one */
 
-/* What an event hands back. */
-struct answer {
-    uint8_t number, bytes[2], count;
-    hk_part part;
-};
-
 /* One event; what it does not read is 0. */
 struct event {
     uint8_t kind, value, setup[HK_SETUP_LENGTH + 1];
@@ -94,8 +88,8 @@ static struct event random_event(void) {
 }
 
 /* Any other event number is a setup of a wrong length. */
-static struct answer on_image(uint8_t *image, const struct event *event) {
-    struct answer answer = {255, {0, 0}, 0, {set, 0}};
+static hk_answer on_image(uint8_t *image, const struct event *event) {
+    hk_answer answer = {255, {0, 0}, 0, {set, 0}};
     size_t setup_length = event->kind == HK_EVENT_SETUP ? event->setup_length : 0;
     switch (event->kind) {
     case HK_EVENT_STATUS_END:
@@ -129,8 +123,8 @@ static struct answer on_image(uint8_t *image, const struct event *event) {
     return answer;
 }
 
-static inline struct answer on_record(hk_record *record, const struct event *event) {
-    struct answer answer = {255, {0xA5, 0xA5}, 0xA5, {event->setup, 3}};
+static inline hk_answer on_record(hk_record *record, const struct event *event) {
+    hk_answer answer = {255, {0xA5, 0xA5}, 0xA5, {event->setup, 3}};
     answer.number = hk_record_event(set, set_length, serial, serial_length, record, event->kind, event->value,
                                     event->setup_length == 0 ? NULL : event->setup, event->setup_length, answer.bytes,
                                     &answer.count, &answer.part);

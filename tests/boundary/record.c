@@ -6,13 +6,13 @@
 
 static unsigned long done, numbers[256];
 
-static void print_answer(const char *where, const struct answer *answer) {
+static void print_answer(const char *where, const hk_answer *answer) {
     printf("  %s: number %d, bytes %02x %02x, count %d, part %p of %zu\n", where, answer->number, answer->bytes[0],
            answer->bytes[1], answer->count, (const void *)answer->part.start, answer->part.length);
 }
 
 static void at_event(const struct event *event) {
-    struct answer expected = on_image(image, event), answer = on_record(&record, event);
+    hk_answer expected = on_image(image, event), answer = on_record(&record, event);
     int agree = expected.number == answer.number && memcmp(expected.bytes, answer.bytes, sizeof answer.bytes) == 0 &&
                 expected.count == answer.count && expected.part.start == answer.part.start &&
                 expected.part.length == answer.part.length && memcmp(image, &record, sizeof image) == 0;

@@ -42,7 +42,7 @@ static uint8_t *lay(const uint8_t *before, const uint8_t *after, uint32_t cut) {
     return copy;
 }
 
-static void agree(const char *what, const struct answer *expected, const struct answer *answer, const uint8_t *left, const uint8_t *after) {
+static void agree(const char *what, const hk_answer *expected, const hk_answer *answer, const uint8_t *left, const uint8_t *after) {
     if (expected->number == answer->number && expected->count == answer->count && expected->part.start == answer->part.start &&
         memcmp(left, after, HK_IMAGE_LENGTH) == 0)
         return;
@@ -51,14 +51,14 @@ static void agree(const char *what, const struct answer *expected, const struct 
 }
 
 /* A row of one record. */
-static struct answer at_port(hk_record *row, const struct event *event) {
-    struct answer answer = {255, {0xA5, 0xA5}, 0xA5, {event->setup, 3}};
+static hk_answer at_port(hk_record *row, const struct event *event) {
+    hk_answer answer = {255, {0xA5, 0xA5}, 0xA5, {event->setup, 3}};
     answer.number = hk_port_event(set, set_length, serial, serial_length, row, 1, 0, event->kind, event->value,
                                   event->setup_length == 0 ? NULL : event->setup, event->setup_length, answer.bytes, &answer.count, &answer.part);
     return answer;
 }
 
-static void count(const struct event *event, const struct answer *answer) {
+static void count(const struct event *event, const hk_answer *answer) {
     unchanged++;
     numbers[answer->number]++;
     readings += answer->number == HK_DONE && event->kind == HK_EVENT_SETUP && event->setup[1] == 0;
@@ -68,7 +68,7 @@ static void count(const struct event *event, const struct answer *answer) {
 static void at_event(const struct event *event) {
     static const uint8_t borders[] = {0, 4, 8, 24, 28, 32}; /* the record's alignment is 4 */
     uint8_t before[HK_IMAGE_LENGTH], *copy;
-    struct answer expected, answer;
+    hk_answer expected, answer;
     memcpy(before, image, sizeof before);
     expected = on_image(image, event);
     on_record(&record, event);
