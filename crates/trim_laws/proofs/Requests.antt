@@ -143,7 +143,7 @@ not-of-device : (d : Device) (s : Setup) → eqb (s .bRequest) 0x06 ≡ true →
 not-of-device d s c t = rw (without-row (stateFor false d s) (setupFor false s) (no-row (setupFor false s) c t))
 
 -- "never more than wLength bytes, from the start of the body"
-cut-body : (n m : ℕ) (l : List ℕ) → take (min n m) l ≡ take m (take n l)
+pub cut-body : (n m : ℕ) (l : List ℕ) → take (min n m) l ≡ take m (take n l)
 cut-body n m l = cases (leb n m)
     (λ p. let h = leb-true n m p in rw (min-eq-left h) (sym (take-all m (take n l) (rw length-take (omega arith)))))
     (λ p. let h : m ≤ n = omega (arith, leb-false n m p) in rw (min-eq-right h) (sym (take-take m n l h)))
