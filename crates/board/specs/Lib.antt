@@ -1,4 +1,5 @@
 pub mod Exports
+pub mod Makers
 pub mod Handing
 pub mod Decided
 pub mod Ways
@@ -15,6 +16,4 @@ pub mod InhabitedRuns
 pub mod InhabitedTwo
 pub mod Idle
 pub mod InhabitedExports
-pub mod OpenedAs
-pub mod Makers
 pub mod Kinds
