@@ -6,7 +6,8 @@ variable that has a definition's name counts as that: so nothing is left out.
 """
 import os, re
 
-TOP = os.path.dirname(os.path.dirname(os.path.abspath(__file__)))
+from shared import TOP
+
 CRATES = os.path.join(TOP, "crates")
 EXPORTS = os.path.join(CRATES, "board", "src")
 MAKERS = "makers.rt"  # the exports of a bench computer; those of the other files run on a board
