@@ -220,14 +220,20 @@ def in_reading_order(believed, names):
     return [name for name in order if name in names]
 
 
+def counted(files):
+    """How many, their lines, and how many of these are neither blank nor a `use`."""
+    said = sum(bool(line.strip()) and not USE.match(line) for file in files for line in read(file.path).split("\n"))
+    return f"{len(files)} files, {sum(file.size for file in files):,} lines ({said:,} without blank lines and imports)"
+
+
 def table(believed, names, types):
     reached = believed.reached()
     lines = ["| File | Lines | What it says |", "|---|---|---|"]
     for name in in_reading_order(believed, names):
         said = re.split(r"(?<=\w)[.:](?: |$)| \(document", reached[name].first)[0].strip(" .")
         lines.append(f"| `{name}` | {reached[name].size} | {said} |")
-    size = sum(reached[name].size for name in names)
-    lines += ["", f"{len(names)} files, {size:,} lines, and the declarations of {len(types)} types, {sum(types.values())} lines: " + ", ".join(f"`{name}`" for name in sorted(types)) + "."]
+    files = [reached[name] for name in names]
+    lines += ["", f"{counted(files)}, and the declarations of {len(types)} types, {sum(types.values())} lines: " + ", ".join(f"`{name}`" for name in sorted(types)) + "."]
     return "\n".join(lines)
 
 
@@ -239,7 +245,7 @@ def lists(files):
     board, everything = rest_of_exports(files)
     first, both = board.reached(), everything.reached()
     more = {name: size for name, size in everything.types.items() if name not in board.types}
-    total = f"Together {len(both)} files and {sum(file.size for file in both.values()):,} lines."
+    total = f"Together {counted(both.values())}."
     return {
         HEADINGS[0]: table(board, set(first), board.types),
         HEADINGS[1]: table(everything, set(both) - set(first), more) + " " + total,

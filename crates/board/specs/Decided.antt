@@ -11,8 +11,7 @@ use Rattle.events.specs.declared.Answer.{Answer}
 use Rattle.events.specs.declared.Event.{Event}
 use Rattle.records.specs.declared.Device.{Device}
 use Rattle.set_writer.specs.Writer.{setOf, Filled}
-use Rattle.dumps.specs.Imported.{imported}
-use Rattle.dumps.specs.Export.{exported}
+use Rattle.dumps.specs.Dump.{imported, exported}
 use Rattle.trimming.specs.Trim.{trimmed, padded}
 use Rattle.board.specs.Makers.{OpensAs, Writes, Takes, Dumps, Shortens, Tells}
 use Rattle.board.specs.Exports.{Opens, Happens, Spot, Spots, Hands, AnswersSetup, CutsPacket, AnswersRecordEvent, AnswersImage, AnswersPortEvent, GivesEndpoint}

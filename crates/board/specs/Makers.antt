@@ -11,9 +11,7 @@ use Rattle.records.specs.Device.{fresh}
 use Rattle.records.specs.Image.{imageOf}
 use Rattle.events.specs.Step.{Opened}
 use Rattle.set_writer.specs.Writer.{setOf, writing, Filled}
-use Rattle.dumps.specs.Imported.{imported}
-use Rattle.dumps.specs.Import.{importing}
-use Rattle.dumps.specs.Export.{exported, exporting}
+use Rattle.dumps.specs.Dump.{imported, importing, exported, exporting}
 use Rattle.trimming.specs.Trim.{trimmed, Trims}
 use Rattle.rules.specs.Explained.{explained}
 

@@ -8,7 +8,7 @@ use Rattle.octets.specs.Sentences.{pick}
 use Rattle.descriptors.specs.declared.Stand.{Stand}
 use Rattle.descriptors.specs.Cut.{Cutting, whole, broken, descriptor, cut, descriptorsOf}
 use Rattle.descriptors.specs.Walk.{before, standOf, walked, collecting, collected}
-use Rattle.dumps.specs.Zeroed.{hasName, namesFrom}
+use Rattle.dumps.specs.Dump.{hasName, namesFrom}
 
 -- what a descriptor that begins at a place adds to them
 abbrev pub nameAt : ℕ → Stand → List ℕ → List ℕ

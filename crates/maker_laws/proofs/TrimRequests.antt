@@ -38,8 +38,7 @@ use Rattle.events.specs.Places.{bytesIn}
 use Rattle.events.specs.Requests.{isEntry, bodyAt, byIndex, languageFor, locateString, locate, describe, getStatus, clearFeature, setFeature, setAddress, getDescriptor, getConfiguration, setConfiguration, getInterface, setInterface}
 use Rattle.events.specs.Step.{request, refusalFor, answerSetup, halt, packetPassed, respond, step, Reply, replyOf, event}
 use Rattle.set_writer.proofs.InPieces.{same-bodies}
-use Rattle.trimming.specs.Keeping.{named, namedString, zeroStays}
-use Rattle.trimming.specs.Trim.{trimmed}
+use Rattle.trimming.specs.Trim.{named, namedString, zeroStays, trimmed}
 use Rattle.trimming.specs.Asked.{bodyIn, bodyUnder, left}
 use Rattle.laws.proofs.Outcomes.{Answered, reads, fromSet, fromSerial, changes, refusedWith, inTest, Responded, answers, leaves, becomes, refuses, responded}
 use Rattle.maker_laws.specs.TrimRequests.{asksDropped, SaysSame}
