@@ -7,6 +7,7 @@ pub mod Opening
 pub mod Runs
 pub mod Transfers
 pub mod Endpoints
+pub mod CurrentGroups
 pub mod Order
 pub mod Places
 pub mod Unnoticed
@@ -16,4 +17,5 @@ pub mod InhabitedRuns
 pub mod InhabitedTwo
 pub mod Idle
 pub mod InhabitedExports
+pub mod InhabitedGroups
 pub mod Kinds
