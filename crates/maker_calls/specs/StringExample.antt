@@ -11,7 +11,8 @@ use Rattle.descriptors.specs.Limits.{fullSpeed}
 use Rattle.sets.specs.Device.{deviceBody, iSerialNumber}
 use Rattle.sets.specs.Opening.{lent}
 use Rattle.records.specs.Image.{imageOf}
-use Rattle.set_writer.specs.Pieces.{pieces, streamOf}
+use Rattle.set_writer.specs.Writer.{pieces}
+use Rattle.set_writer.specs.Stream.{streamOf}
 use Rattle.promises.specs.Examples.{bytes, T, string}
 use Rattle.promises.specs.Inhabited.{octets, configured}
 use Rattle.maker_promises.specs.WrittenExample.{assembled}
