@@ -1,0 +1,6 @@
+pub mod Script
+pub mod Bodies
+pub mod Enumeration
+pub mod Enumerates
+pub mod Works
+pub mod Toggles
