@@ -1,5 +1,5 @@
-"""native.py HOST: what the native programs say of the sets that the page is shown, as JSON: the lister, the bench host, makers/read, the trimmer, the exporter and,
-of recorded devices, the importer; and the sets that the writer makes of the texts."""
+"""native.py HOST: what the native programs say of the sets that the page is shown, as JSON: the lister, the bench host, makers/read, the makers'
+program's trim, export and, of recorded devices, import; and the sets that it writes of the texts."""
 import json, os, random, re, subprocess, sys, tempfile
 
 TOP = os.path.dirname(os.path.dirname(os.path.abspath(__file__)))
@@ -45,15 +45,14 @@ class Room:
         made = os.path.join(self.folder, wanted)
         return done.stdout.decode("utf-8", "replace"), read(made).hex() if os.path.exists(made) else None
 
-    def program(self, name, given, wanted=""):
-        return self.run([os.path.join(TOP, "target", "bin", name)], given, wanted or "no such file")
+    def program(self, words, given, wanted=""):
+        name, *word = words.split()
+        return self.run([os.path.join(TOP, "target", "bin", name), *word], given, wanted or "no such file")
 
 
 def explained(room, given):
-    """Number, rule and byte of a refused set, where there is a program that tells them."""
-    if not os.path.exists(os.path.join(TOP, "target", "bin", "explainer")):
-        return None
-    found = re.fullmatch(r"REFUSED (\d+) RULE (\d+) BYTE (\d+)\n", room.program("explainer", given)[0])
+    """Number, rule and byte of a refused set."""
+    found = re.fullmatch(r"REFUSED (\d+) RULE (\d+) BYTE (\d+)\n", room.program("maker explain", given)[0])
     return list(map(int, found.groups())) if found else None
 
 
@@ -68,8 +67,8 @@ def told(room, host, name, data, serial):
         "name": name, "set": data.hex(), "serial": serial.hex(), "text": text,
         "listing": room.program("lister", given)[0], "explained": explained(room, given),
         "transcript": room.run([host, "set.bin", "unit.bin"], given, "no such file")[0],
-        "trimmed": room.program("trimmer", given, "trimmed.bin")[1],
-        "exported": room.program("exporter", given, "descriptors")[1],
+        "trimmed": room.program("maker trim", given, "trimmed.bin")[1],
+        "exported": room.program("maker export", given, "descriptors")[1],
     }
 
 
@@ -78,7 +77,7 @@ def written(room, path):
     source = read(path).decode()
     entries, serial = read_entries(source.splitlines())
     pieces = b"".join(piece(entry) for _, entry in entries)
-    return {"name": path, "source": source, "pieces": pieces.hex(), "serial": serial.hex(), "set": room.program("writer", {"pieces.bin": pieces, "unit.bin": serial}, "set.bin")[1]}
+    return {"name": path, "source": source, "pieces": pieces.hex(), "serial": serial.hex(), "set": room.program("maker write", {"pieces.bin": pieces, "unit.bin": serial}, "set.bin")[1]}
 
 
 def read_as(source):
@@ -117,7 +116,7 @@ def main():
             "sets": [told(room, host, *one) for one in sets],
             "recorded": [told(room, host, *one) for one in enumerations()],
             "long": [{"name": name, "set": data.hex(), "serial": serial.hex(), "listing": room.program("lister", {"set.bin": data, "unit.bin": serial})[0]} for name, data, serial in long_sets()],
-            "dumps": [{"name": name, "dump": read(os.path.join(ENUMERATIONS, name)).hex(), "set": room.program("importer", {"descriptors": read(os.path.join(ENUMERATIONS, name))}, "set.bin")[1]} for name in dumps],
+            "dumps": [{"name": name, "dump": read(os.path.join(ENUMERATIONS, name)).hex(), "set": room.program("maker import", {"descriptors": read(os.path.join(ENUMERATIONS, name))}, "set.bin")[1]} for name in dumps],
         }, sys.stdout)
 
 

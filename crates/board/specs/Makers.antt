@@ -9,8 +9,8 @@ use Rattle.descriptors.specs.declared.Limits.{Limits}
 use Rattle.sets.specs.Opening.{Board, lent, opening}
 use Rattle.set_writer.specs.Writer.{setOf, writing, Filled}
 use Rattle.dumps.specs.Imported.{imported}
-use Rattle.importing.specs.Import.{importing}
-use Rattle.exporting.specs.Export.{exported, exporting}
+use Rattle.dumps.specs.Import.{importing}
+use Rattle.dumps.specs.Export.{exported, exporting}
 use Rattle.trimming.specs.Trim.{trimmed, padded, Trims}
 use Rattle.board.specs.OpenedAs.{openedAs}
 use Rattle.rules.specs.Explained.{explained}

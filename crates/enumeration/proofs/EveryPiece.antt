@@ -28,7 +28,7 @@ use Rattle.sets.proofs.Groups.{one-device, each-rule}
 use Rattle.sets.proofs.Bodies.{mapped}
 use Rattle.sets.proofs.Pieces.{of-kind}
 use Rattle.set_writer.proofs.Accepted.{mapping}
-use Rattle.pieces.proofs.Bytewise.{drop-bytes}
+use Rattle.set_writer.proofs.Bytewise.{drop-bytes}
 use Rattle.records.specs.declared.Device.{Device}
 use Rattle.records.specs.Current.{setFor, viewFor}
 use Rattle.records.proofs.InUse.{rowFor, bytesFor}

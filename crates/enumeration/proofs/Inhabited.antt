@@ -9,7 +9,7 @@ use Rattle.descriptors.specs.declared.Setting.{Setting}
 use Rattle.descriptors.specs.declared.Endpoint.{Endpoint}
 use Rattle.sets.specs.Device.{deviceBody, bNumConfigurations}
 use Rattle.sets.specs.Pieces.{Piece, piecesIn}
-use Rattle.pieces.proofs.ReadBack.{read-back}
+use Rattle.set_writer.proofs.ReadBack.{read-back}
 use Rattle.records.specs.declared.Device.{Device}
 use Rattle.records.specs.Device.{zeros, withPower, withSuspended, withSpeed, withEndpoints}
 use Rattle.records.specs.Current.{setFor, viewAt, selected, currentEndpoints}

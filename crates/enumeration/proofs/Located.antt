@@ -22,10 +22,10 @@ use Rattle.sets.specs.Found.{isAt}
 use Rattle.sets.proofs.Passing.{ordered}
 use Rattle.sets.proofs.Pieces.{first-map}
 use Rattle.sets.proofs.Groups.{GoodTexts, texts-in}
-use Rattle.pieces.specs.Sorted.{precedes}
-use Rattle.pieces.proofs.Ascending.{Ascends, neighbours-ascend}
-use Rattle.pieces.proofs.Order.{before-map}
-use Rattle.pieces.proofs.Precedes.{transitive}
+use Rattle.set_writer.specs.Sorted.{precedes}
+use Rattle.set_writer.proofs.Ascending.{Ascends, neighbours-ascend}
+use Rattle.set_writer.proofs.Order.{before-map}
+use Rattle.set_writer.proofs.Precedes.{transitive}
 use Rattle.set_writer.proofs.Accepted.{mapping, entries-ascend, looked-up}
 use Rattle.records.specs.Current.{setFor, viewFor}
 use Rattle.records.proofs.InUse.{rowFor}

@@ -19,7 +19,7 @@ use Rattle.sets.specs.Strings.{words, languages, languagesIn, zeroOf, isStringZ
 use Rattle.sets.specs.Contents.{entries}
 use Rattle.sets.specs.Pieces.{Piece, pieceFor, piecesIn, piecesOf, kindOf}
 use Rattle.sets.proofs.Bodies.{mapped, bytes-part}
-use Rattle.pieces.proofs.Bytewise.{drop-bytes}
+use Rattle.set_writer.proofs.Bytewise.{drop-bytes}
 use Rattle.sets.specs.Opening.{Board, BytesOf, atLeast4, goodBlock}
 use Rattle.sets.specs.View.{accepted}
 use Rattle.sets.proofs.Bounds.{references-alike}

@@ -1,8 +1,8 @@
 -- `board::makers::hk_super_write` meets its contract: the writer's own, at SuperSpeed. No axiom.
 use mathlib.Core.Path.{_∙_}
 use borrow.Author.Needs.{needs}
-use Rattle.pieces.specs.Pieces.{pieces}
-use Rattle.pieces.specs.Sorted.{sorted}
+use Rattle.set_writer.specs.Pieces.{pieces}
+use Rattle.set_writer.specs.Sorted.{sorted}
 use Rattle.set_writer.proofs.Writing.{counted}
 use Rattle.board.proofs.makers.hk_super_write.Statement.{statement}
 use Rattle.board.proofs.makers.hk_super_write.Tie as tie
