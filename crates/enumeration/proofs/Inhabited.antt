@@ -2,19 +2,22 @@
 use Prim.Native.Nat.{ℕ, _^_}
 use native.Mathlib.Omega.{arith}
 use mathlib.Core.Path.{_≡_, refl, subst}
-use mathlib.Core.List.{[], _∷_, _++_, map, List·Memᴰ, List·Memᴰ·head, List·Memᴰ·tail}
+use mathlib.Core.Bool.{true, false}
+use mathlib.Core.List.{List, [], _∷_, _++_, map, List·Memᴰ, List·Memᴰ·head, List·Memᴰ·tail}
 use lib.ListN.{replicate}
-use Rattle.descriptors.specs.Configuration.{configurationOf, bConfigurationValue}
+use Rattle.descriptors.specs.Configuration.{configurationOf, bConfigurationValue, bitOf}
 use Rattle.descriptors.specs.declared.Setting.{Setting}
 use Rattle.descriptors.specs.declared.Endpoint.{Endpoint}
 use Rattle.sets.specs.Device.{deviceBody, bNumConfigurations}
 use Rattle.sets.specs.Pieces.{Piece, piecesIn}
 use Rattle.set_writer.proofs.ReadBack.{read-back}
 use Rattle.records.specs.declared.Device.{Device}
-use Rattle.records.specs.Device.{zeros, withPower, withSuspended, withSpeed, withEndpoints}
+use Rattle.records.specs.Device.{zeros, fresh, inTestMode, withPower, withSuspended, withSpeed, withEndpoints}
 use Rattle.records.specs.Current.{setFor, viewAt, selected, currentEndpoints}
 use Rattle.enumeration.specs.Bodies.{configurationBody}
-use Rattle.events.specs.declared.Event.the-variants.{StatusEnd, BusReset}
+use Rattle.events.specs.declared.Event.{Event}
+use Rattle.events.specs.declared.Event.the-variants.{StatusEnd, BusReset, PacketPassed}
+use Rattle.promises.specs.Rearranged.{after}
 use Rattle.promises.specs.Examples.{computed, bytes, piece, string, titratorDevice, titratorConfiguration, titratorStrings, S, T}
 use Rattle.promises.specs.Bench.{setup}
 use Rattle.promises.specs.Inhabited.{acceptedS, bytesS, acceptedT, bytesT, configured, busy, busyFits}
@@ -23,6 +26,10 @@ use Rattle.enumeration.specs.Script.{Line, line, reading, done, Plays, g
 use Rattle.enumeration.specs.Enumeration.{otherLines, zeroLines, stringLines, enumeration, enumerationByTransfers, enumerated}
 use Rattle.enumeration.specs.Works.{halting, visiting, afterHalting, afterVisiting, Chosen}
 use Rattle.enumeration.proofs.Enumerates.{enumerates, enumeratesByTransfers}
+use Rattle.enumeration.specs.Toggles.{Book, newBook, Agrees, bookAfter}
+use Rattle.enumeration.specs.Checklist.{Passes}
+use Rattle.enumeration.proofs.Toggles.{neverDriftFromOpening, neverDriftFromReset}
+use Rattle.enumeration.proofs.Checklist.{checklist}
 use Rattle.enumeration.proofs.Settings.{everySetting, everyEndpoint}
 use Rattle.enumeration.proofs.Tour.{tours}
 use Rattle.enumeration.proofs.EveryPiece.{everyPiece}
@@ -151,3 +158,51 @@ pub otherPair : otherLines (setFor pair 0) ≡
     line (setup 0x8006000700001900) (reading (bytes 25 0x090719000101018032_0904000001FF000000_07058102400000)) ∷ []
 unfolding computed
 otherPair = refl
+
+-- ---- toggles: S from its opening, addressed, configured, and a packet that passes at 81; then the host's toggle is up, and so is the record's
+abbrev passesS : List Event
+passesS = setup 0x0005050000000000 ∷ StatusEnd ∷ setup 0x0009010000000000 ∷ PacketPassed 0x81 ∷ []
+
+calmS : inTestMode (after S fresh passesS) ≡ false
+unfolding computed
+calmS = refl
+
+pub agreesS : Agrees S (bookAfter S (newBook 0) fresh passesS) (after S fresh passesS)
+agreesS = neverDriftFromOpening S bytesS acceptedS passesS calmS
+
+pub upS : bookAfter S (newBook 0) fresh passesS .toggles (bitOf 0x81) ≡ true
+unfolding computed
+upS = refl
+
+-- T from a reset, whatever the host had in its book: 81 and 02 pass, interface 0 is set anew, 81 passes again: 81 is up and 02 down
+abbrev passesT : List Event
+passesT = passesS ++ PacketPassed 0x02 ∷ setup 0x010B010000000000 ∷ PacketPassed 0x81 ∷ []
+
+calmT : inTestMode (after T busy (BusReset 0 ∷ passesT)) ≡ false
+unfolding computed
+calmT = refl
+
+pub agreesT : (h : Book) → Agrees T (bookAfter T h busy (BusReset 0 ∷ passesT)) (after T busy (BusReset 0 ∷ passesT))
+agreesT h = neverDriftFromReset T bytesT acceptedT busy busyReady h 0 refl passesT calmT
+
+pub upT : (h : Book) → (bookAfter T h busy (BusReset 0 ∷ passesT) .toggles (bitOf 0x81) ≡ true) × (bookAfter T h busy (BusReset 0 ∷ passesT) .toggles (bitOf 0x02) ≡ false)
+unfolding computed
+upT h = (refl, refl)
+
+-- the pair, reset to high speed
+calmPair : inTestMode (after pair (withSpeed 1 configured) (BusReset 1 ∷ passesS)) ≡ false
+unfolding computed
+calmPair = refl
+
+pub agreesPair : (h : Book) → Agrees pair (bookAfter pair h (withSpeed 1 configured) (BusReset 1 ∷ passesS)) (after pair (withSpeed 1 configured) (BusReset 1 ∷ passesS))
+agreesPair h = neverDriftFromReset pair bytesPair acceptedPair (withSpeed 1 configured) onPair h 1 refl passesS calmPair
+
+-- ---- chapter 9's checklist
+pub passS : Passes S used
+passS = checklist S bytesS acceptedS used usedReady
+
+pub passT : Passes T busy
+passT = checklist T bytesT acceptedT busy busyReady
+
+pub passPair : Passes pair (withSpeed 1 configured)
+passPair = checklist pair bytesPair acceptedPair (withSpeed 1 configured) onPair

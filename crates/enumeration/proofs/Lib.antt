@@ -11,4 +11,5 @@ pub mod Settings
 pub mod Tour
 pub mod Unasked
 pub mod Toggles
+pub mod Checklist
 pub mod Inhabited

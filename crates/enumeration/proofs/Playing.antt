@@ -50,6 +50,10 @@ pub each : {b : Board} {d last : Device} {rest : List Line} (ls : List Line) →
 each [] all r = r
 each (l ∷ ls) ((a, p, q), all) r = next p q (each ls all r)
 
+pub each-alone : {b : Board} {d : Device} (ls : List Line) → All (Stays b d) ls → Plays b d ls d
+each-alone [] all = played
+each-alone (l ∷ ls) ((a, p, q), all) = next p q (each-alone ls all)
+
 -- ---- all of a list
 pub all-members : {A : Type 0} (P : A → Type 0) (xs : List A) → ((x : A) → List·Memᴰ x xs → P x) → All P xs
 all-members P [] h = tt

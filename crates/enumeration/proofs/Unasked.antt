@@ -31,20 +31,8 @@ use Rattle.events.specs.Requests.{byRecipient, isEndpointZero, deviceFeature, n
 use Rattle.events.specs.Step.{request, asksTestMode, stateFor, setupFor, refusalFor, answerSetup, statusEnd, goodReset, haltAt, halt, passAt, packetPassed, respond, step}
 use Rattle.laws.proofs.Outcomes.{chosen}
 use Rattle.laws.proofs.Recipients.{let-through}
+use Rattle.enumeration.specs.Unasked.{asksForTest}
 use Rattle.enumeration.proofs.Enumerates.{calm-speed}
-
--- an event that asks for a test mode
-abbrev pub asksForTest : Bool → Event → Bool
-asksForTest paired (Request s) = asksTestMode paired s
-asksForTest paired Malformed = false
-asksForTest paired StatusEnd = false
-asksForTest paired (BusReset speed) = false
-asksForTest paired (Halt a) = false
-asksForTest paired (PacketPassed a) = false
-asksForTest paired (Power source) = false
-asksForTest paired Suspend = false
-asksForTest paired Resume = false
-asksForTest paired Wake = false
 
 -- none is entered, and none waits
 pub record Peaceful (d : Device) : Type 0 where

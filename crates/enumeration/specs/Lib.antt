@@ -4,3 +4,5 @@ pub mod Enumeration
 pub mod Enumerates
 pub mod Works
 pub mod Toggles
+pub mod Unasked
+pub mod Checklist
