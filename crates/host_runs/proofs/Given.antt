@@ -66,16 +66,16 @@ module _ {stream serial buffer left : List ℕ} {size : ℕ} (wrote : Writes ful
   opens-so : accepted (lent (take size left) serial) ≡ true
   opens-so = ap (λ (s : List ℕ). accepted (lent s serial)) is-set ∙ opens fullSpeed stream serial (length buffer) (sym (wrote .fills .number))
 
-  bytes-so : Bytes stream → Bytes (take size left)
-  bytes-so octets = rw is-set (writtenBytes fullSpeed stream serial (length buffer) octets (sym (wrote .fills .number)))
+  bytes-so : Bytes (take size left)
+  bytes-so = rw is-set (writtenBytes fullSpeed stream serial (length buffer) (wrote .octets) (sym (wrote .fills .number)))
 
 pub opensGiven : OpensGiven
 opensGiven stream serial buffer left size wrote start image n long o = opening long o .1 (opens-so wrote)
 
 pub readsGiven : ReadsGiven
-readsGiven stream serial buffer left size octets wrote lie last since p m asked s =
+readsGiven stream serial buffer left size wrote lie last since p m asked s =
     let b = lent (take size left) serial in
-    let bytes : BytesOf b = (bytes-so wrote octets, tt) in
+    let bytes : BytesOf b = (bytes-so wrote, tt) in
     let calm = noTestMode (take size left) serial (deviceOf last) (fitsSince b lie bytes last since .fit) in
     read-piece b lie bytes last since calm p (rw (is-set wrote) (in-set stream p m)) asked s
 

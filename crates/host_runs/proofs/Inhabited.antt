@@ -75,7 +75,7 @@ bytesGiven = octets pieces refl
 
 wroteS : Writes fullSpeed pieces [] (replicate 63 0) 0 (S .set) 63
 unfolding assembled
-wroteS = record { fills = record { number = refl; bytes = refl }; counts = refl }
+wroteS = record { fills = record { number = refl; bytes = refl }; counts = refl; octets = bytesGiven }
 
 abbrev device : Piece
 device = record { kind = 1; index = 0; language = 0; body = bytes 18 0x12010002FF00000834127856000100000001 }
@@ -98,7 +98,7 @@ sinceS : CalledSince written lie freshImage
 sinceS = record { start = start; image = freshImage; before = []; gave = []; long = refl; opens = opensS; run = ends }
 
 pub readsDevice : seenGiven (gives written lie freshImage asks) ≡ reading (bytes 18 0x12010002FF00000834127856000100000001)
-readsDevice = readsGiven pieces [] (replicate 63 0) (S .set) 63 bytesGiven wroteS lie freshImage sinceS device given 64 (omega arith) asks _ _ refl (meets written lie freshImage asks)
+readsDevice = readsGiven pieces [] (replicate 63 0) (S .set) 63 wroteS lie freshImage sinceS device given 64 (omega arith) asks _ _ refl (meets written lie freshImage asks)
 
 bytesSet : Bytes (take 63 (S .set))
 unfolding computed

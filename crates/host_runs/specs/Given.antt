@@ -37,7 +37,7 @@ OpensGiven = (stream serial buffer left : List ℕ) (size : ℕ) → Writes full
     → (start image : List ℕ) (n : ℕ) → length start ≡ 32 → Opens (lent (take size left) serial) start n image → n ≡ 0
 
 abbrev pub ReadsGiven : Type 0
-ReadsGiven = (stream serial buffer left : List ℕ) (size : ℕ) → Bytes stream → Writes fullSpeed stream serial buffer 0 left size
+ReadsGiven = (stream serial buffer left : List ℕ) (size : ℕ) → Writes fullSpeed stream serial buffer 0 left size
     → (lie : Spots) (last : List ℕ) → CalledSince (lent (take size left) serial) lie last
     → (p : Piece) → List·Memᴰ p (pieces stream) → (asked : ℕ) → asked ≤ 65535
     → ReadFrom (lent (take size left) serial) lie last (p .kind) (p .index) (p .language) asked (take asked (p .body))

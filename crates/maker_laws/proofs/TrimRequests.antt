@@ -4,20 +4,20 @@ use native.Mathlib.Nat.{min-eq-left, min-eq-right}
 use native.Mathlib.Omega.{arith}
 use mathlib.Core.Path.{_≡_, refl, sym, ap, _∙_}
 use mathlib.Core.Bool.{Bool, true, false, _&&_, not}
-use mathlib.Core.List.{List, [], _∷_, map, List·Memᴰ·not-nil}
+use mathlib.Core.List.{List, [], _∷_, map, List·Memᴰ, List·Memᴰ·not-nil}
 use mathlib.Core.Option.{Option, some, none}
 use lib.ListN.{length, take, drop, getElem?, length-take}
 use lib.Seq.{take-take, take-all}
 use lib.Dec.{eqb, leb}
-use borrow.Author.Tests.{eqb-true, leb-true, leb-false, eq-eqb, not-false}
+use borrow.Author.Tests.{eqb-true, leb-true, leb-false, eq-eqb, ne-eqb}
 use Rattle.octets.specs.Octets.{Bytes}
-use Rattle.octets.specs.Sentences.{pick, any, first, member}
-use Rattle.octets.proofs.Sentences.{cases, never, both, joined, neither, or-right, any-none, none-first}
+use Rattle.octets.specs.Sentences.{pick, _⇒_, every, any, first, member}
+use Rattle.octets.proofs.Sentences.{cases, never, both, joined, neither, or-left, or-right, if-then, every-member, any-none, none-first}
 use Rattle.descriptors.specs.Configuration.{Configuration}
 use Rattle.descriptors.specs.Limits.{fullSpeed}
 use Rattle.sets.specs.declared.Entry.{Entry}
-use Rattle.sets.specs.Contents.{entries, entriesOf, bodyOf}
-use Rattle.sets.specs.Device.{deviceBody, iSerialNumber}
+use Rattle.sets.specs.Contents.{entries, entriesOf, bodyOf, isKind}
+use Rattle.sets.specs.Device.{deviceBody, iManufacturer, iProduct, iSerialNumber}
 use Rattle.sets.specs.Strings.{languages}
 use Rattle.sets.specs.Opening.{lent, opening}
 use Rattle.sets.specs.Found.{isAt}
@@ -27,6 +27,9 @@ use Rattle.records.specs.Device.{inTestMode, settled}
 use Rattle.records.specs.Image.{deviceOf, imageOf}
 use Rattle.records.specs.Fits.{fits, fitsOn}
 use Rattle.requests.specs.declared.Setup.{Setup}
+use Rattle.requests.specs.declared.Row.{Row}
+use Rattle.requests.specs.Table.{table, rowOf}
+use Rattle.requests.proofs.Found.{without-row}
 use Rattle.events.specs.declared.Answer.the-variants.{Refused}
 use Rattle.events.specs.declared.Event.{Event}
 use Rattle.events.specs.declared.Event.the-variants.{Request, Malformed, StatusEnd, BusReset, Halt, PacketPassed, Power, Suspend, Resume, Wake}
@@ -36,14 +39,15 @@ use Rattle.events.specs.declared.Outcome.{Outcome}
 use Rattle.events.specs.Answer.{partOf, refused}
 use Rattle.events.specs.Places.{bytesIn}
 use Rattle.events.specs.Requests.{isEntry, bodyAt, byIndex, languageFor, locateString, locate, describe, getStatus, clearFeature, setFeature, setAddress, getDescriptor, getConfiguration, setConfiguration, getInterface, setInterface}
-use Rattle.events.specs.Step.{request, refusalFor, answerSetup, halt, packetPassed, respond, step, Reply, replyOf, event}
+use Rattle.events.specs.Step.{request, stateFor, setupFor, refusalFor, answerSetup, halt, packetPassed, respond, step, Reply, replyOf, event}
 use Rattle.set_writer.proofs.InPieces.{same-bodies}
-use Rattle.trimming.specs.Keeping.{named, namedString, zeroStays}
+use Rattle.trimming.specs.Keeping.{named, namedString, zeroStays, kept, deviceNames, entryNames}
+use Rattle.trimming.proofs.Naming.{named-by}
 use Rattle.trimming.specs.Trim.{trimmed}
 use Rattle.trimming.specs.Asked.{bodyIn, bodyUnder, left}
 use Rattle.laws.proofs.Outcomes.{Answered, reads, fromSet, fromSerial, changes, refusedWith, inTest, Responded, answers, leaves, becomes, refuses, responded}
-use Rattle.maker_laws.specs.TrimRequests.{asksDropped, SaysSame}
-use Rattle.maker_laws.proofs.TrimAgain.{alike, same-bytes}
+use Rattle.maker_laws.specs.TrimRequests.{dropped, asksDropped, SaysSame}
+use Rattle.maker_laws.proofs.TrimAgain.{alike, same-bytes, gone}
 use Rattle.maker_laws.proofs.TrimBuffer.{same-configured, same-serial, same-languages}
 use Rattle.maker_laws.proofs.TrimOpens.{opens-again}
 
@@ -118,11 +122,55 @@ module _ (set other serial : List ℕ) where
       (shown-alike (responded (bare w) d e) refl)
 
 -- ---- GET_DESCRIPTOR
+-- the table knows it with the type 80 alone
+device-alone : every (λ r. eqb (r .code) 0x06 ⇒ eqb (r .kind) 0x80) table ≡ true
+unfolding every
+device-alone = refl
+
+no-row : (s : Setup) → eqb (s .bRequest) 0x06 ≡ true → eqb (s .bmRequestType) 0x80 ≡ false → rowOf s ≡ none
+no-row s c t = none-first (λ r. eqb (r .kind) (s .bmRequestType) && eqb (r .code) (s .bRequest)) table
+    (λ r m. cases (eqb (r .kind) (s .bmRequestType) && eqb (r .code) (s .bRequest)) (λ p. other r m p) (λ p. p))
+  where
+    other : (r : Row) → List·Memᴰ r table → (eqb (r .kind) (s .bmRequestType) && eqb (r .code) (s .bRequest)) ≡ true
+        → (eqb (r .kind) (s .bmRequestType) && eqb (r .code) (s .bRequest)) ≡ false
+    other r m p =
+        let (k, j) = both (eqb (r .kind) (s .bmRequestType)) (eqb (r .code) (s .bRequest)) p in
+        let six = eq-eqb (r .code) 0x06 (eqb-true (r .code) (s .bRequest) j ∙ eqb-true (s .bRequest) 0x06 c) in
+        let device = eqb-true (r .kind) 0x80 (if-then (eqb (r .code) 0x06) (eqb (r .kind) 0x80) (every-member (λ r. eqb (r .code) 0x06 ⇒ eqb (r .kind) 0x80) device-alone m) six) in
+        never (eq-eqb (s .bmRequestType) 0x80 (sym (eqb-true (r .kind) (s .bmRequestType) k) ∙ device)) t
+
+not-of-device : (d : Device) (s : Setup) → eqb (s .bRequest) 0x06 ≡ true → eqb (s .bmRequestType) 0x80 ≡ false → eqb (refusalFor false d s) 0 ≡ false
+not-of-device d s c t = rw (without-row (stateFor false d s) (setupFor false s) (no-row (setupFor false s) c t))
+
 -- "never more than wLength bytes, from the start of the body"
-cut-body : (n m : ℕ) (l : List ℕ) → take (min n m) l ≡ take m (take n l)
+pub cut-body : (n m : ℕ) (l : List ℕ) → take (min n m) l ≡ take m (take n l)
 cut-body n m l = cases (leb n m)
     (λ p. let h = leb-true n m p in rw (min-eq-left h) (sym (take-all m (take n l) (rw length-take (omega arith)))))
     (λ p. let h : m ≤ n = omega (arith, leb-false n m p) in rw (min-eq-right h) (sym (take-take m n l h)))
+
+-- a descriptor's place does not change what is left: GET_DESCRIPTOR leaves the settled record
+described-leaves : (d : Device) (asked : ℕ) (l : Located) → describe d asked l .device ≡ d
+described-leaves d asked (Body offset size) = refl
+described-leaves d asked (Serial size) = refl
+described-leaves d asked Nowhere = refl
+
+describes-leaves : (x : View) (d : Device) (e : Event) → getsDescriptor e ≡ true → respond x d e .device ≡ settled d
+unfolding answerSetup request getDescriptor locate
+describes-leaves x d (Request s) c = go (inTestMode d) (eqb (refusalFor (x .paired) d s) 0)
+  where
+    go : (t b : Bool) → pick t (refused 17 (settled d)) (pick b (request x (settled d) s) (refused (refusalFor (x .paired) d s) (settled d))) .device ≡ settled d
+    go true b = refl
+    go false true = rw (eqb-true (s .bRequest) 0x06 c) (described-leaves (settled d) (s .wLength) (locate x s))
+    go false false = refl
+describes-leaves x d Malformed c = never c refl
+describes-leaves x d StatusEnd c = never c refl
+describes-leaves x d (BusReset speed) c = never c refl
+describes-leaves x d (Halt a) c = never c refl
+describes-leaves x d (PacketPassed a) c = never c refl
+describes-leaves x d (Power source) c = never c refl
+describes-leaves x d Suspend c = never c refl
+describes-leaves x d Resume c = never c refl
+describes-leaves x d Wake c = never c refl
 
 -- the same bytes at two places, each in a set of its own
 data SameBytes (set other : List ℕ) : Located → Located → Type 0 where
@@ -223,14 +271,44 @@ module _ (set serial : List ℕ) where
     unlisted-alike l m = rw (same-serial set, no-serial)
         (found-alike (first (isEntry 3 index l) (entries set)) (first (isEntry 3 index m) (entries (trimmed set))) (no-entry l ∙ sym (same-bytes 3 index m set h ∙ no-entry m)))
 
+  -- an index that trimming would not leave, but that no entry had: nowhere, before and after
+  module _ (index : ℕ) (h : left set 3 index ≡ false) (n : dropped set index ≡ false) where
+    absent : (language : ℕ) → bodyUnder set 3 index language ≡ none
+    absent language = ap (bodyIn set) (none-first (isAt 3 index language) (entries set)
+        (λ e m. cases (isAt 3 index language e) (λ p. never (removed e p) (any-none (λ e. isKind 3 e && eqb (e .index) index && not (kept set e)) n m)) (λ p. p)))
+      where
+        removed : (e : Entry) → isAt 3 index language e ≡ true → (isKind 3 e && eqb (e .index) index && not (kept set e)) ≡ true
+        removed e p =
+            let (a, l) = both (eqb (e .kind) 3 && eqb (e .index) index) (eqb (e .language) language) p in
+            let (k, j) = both (eqb (e .kind) 3) (eqb (e .index) index) a in
+            let f : kept set e ≡ false = rw (k, eqb-true (e .index) index j) h in
+            joined (joined k j) (ap not f)
+
+    unnamed-serial : (leb 1 index && eqb index (iSerialNumber (deviceBody set))) ≡ false
+    unnamed-serial = cases (leb 1 index && eqb index (iSerialNumber (deviceBody set)))
+        (λ p. let (l, e) = both (leb 1 index) (eqb index (iSerialNumber (deviceBody set))) p in
+        let i : eqb index 0 ≡ false = ne-eqb index 0 (λ z. omega (arith, leb-true 1 index l)) in
+        let d = deviceBody set in
+        let r : named set index ≡ true = named-by set index ∙ or-left (any (entryNames set index) (entries set)) (or-right (eqb index (iManufacturer d)) (or-right (eqb index (iProduct d)) e)) in
+        never r (rw i at h))
+        (λ p. p)
+
+    absent-alike : (l m : ℕ) → SameAt (locateString v index l) (locateString w index m)
+    unfolding viewOf
+    absent-alike l m = rw (same-serial set, unnamed-serial)
+        (found-alike (first (isEntry 3 index l) (entries set)) (first (isEntry 3 index m) (entries (trimmed set))) (absent l ∙ sym (gone 3 index m set h)))
+
   string-alike : (index asked : ℕ) → left set 3 index ≡ true → SameAt (locateString v index (languageFor v index asked)) (locateString w index (languageFor w index asked))
   string-alike index asked h = cases (zeroStays set) (λ z. listed-alike index asked h z)
       (λ z. cases (eqb index 0) (λ i. let y : zeroStays set ≡ true = rw i at h in never y z) (λ i. unlisted-alike index i h z (languageFor v index asked) (languageFor w index asked)))
 
-  locate-alike : (s : Setup) → (eqb (s .wValue / 256) 3 && not (left set 3 (s .wValue % 256))) ≡ false → SameAt (locate v s) (locate w s)
+  either-alike : (index asked : ℕ) → dropped set index ≡ false → SameAt (locateString v index (languageFor v index asked)) (locateString w index (languageFor w index asked))
+  either-alike index asked n = cases (left set 3 index) (λ h. string-alike index asked h) (λ h. absent-alike index h n (languageFor v index asked) (languageFor w index asked))
+
+  locate-alike : (s : Setup) → (eqb (s .wValue / 256) 3 && dropped set (s .wValue % 256)) ≡ false → SameAt (locate v s) (locate w s)
   unfolding viewOf locate
   locate-alike s h =
-      both-ways (eqb (s .wValue / 256) 3) (λ p. string-alike (s .wValue % 256) (s .wIndex) (not-false (left set 3 (s .wValue % 256)) (rw p at h)))
+      both-ways (eqb (s .wValue / 256) 3) (λ p. either-alike (s .wValue % 256) (s .wIndex) (rw p at h))
       (λ p. both-ways (eqb (s .wValue / 256) 2) (λ p. configuration-alike (s .wValue % 256))
       (λ q. both-ways (byIndex (s .wValue / 256)) (λ r. entry-alike (s .wValue / 256) (s .wValue % 256) 0 (stays-by p)) (λ r. nowhere)))
     where
@@ -240,30 +318,26 @@ module _ (set serial : List ℕ) where
   abbrev Alike : Outcome → Outcome → Type 0
   Alike x y = SaysSame set (trimmed set) serial (x .answer) (y .answer) × (x .device ≡ y .device)
 
-  setup-alike : (d : Device) (s : Setup) → asksDropped set (Request s) ≡ false → eqb (s .bRequest) 0x06 ≡ true → Alike (request v d s) (request w d s)
+  setup-alike : (d : Device) (s : Setup) → asksDropped set (Request s) ≡ false → eqb (s .bmRequestType) 0x80 ≡ true → eqb (s .bRequest) 0x06 ≡ true → Alike (request v d s) (request w d s)
   unfolding request getDescriptor locate
-  setup-alike d s h c =
-      let six = eqb-true (s .bRequest) 0x06 c in
-      rw six (described serial d (s .wLength) (locate-alike s (rest (eqb (s .wValue / 256) 3) (not (left set 3 (s .wValue % 256))) (rw c at h))))
-    where
-      rest : (a b : Bool) → (true && a && b) ≡ false → (a && b) ≡ false
-      rest true b p = p
-      rest false b p = p
+  setup-alike d s h t c = let six = eqb-true (s .bRequest) 0x06 c in rw six (described serial d (s .wLength) (locate-alike s (rw (t, c) at h)))
 
   answer-alike : (d : Device) (e : Event) → asksDropped set e ≡ false → Alike (respond v d e) (respond w d e)
   unfolding answerSetup viewOf
   answer-alike d e h = cases (getsDescriptor e) (λ c. asked d e h c) (λ c. plain-alike set (trimmed set) serial v w same-view d e c)
     where
-      past : (n : ℕ) (d : Device) (s : Setup) → asksDropped set (Request s) ≡ false → eqb (s .bRequest) 0x06 ≡ true → (b : Bool)
+      past : (n : ℕ) (d : Device) (s : Setup) → asksDropped set (Request s) ≡ false → eqb (s .bmRequestType) 0x80 ≡ true → eqb (s .bRequest) 0x06 ≡ true → (b : Bool)
           → Alike (pick b (request v (settled d) s) (refused n (settled d))) (pick b (request w (settled d) s) (refused n (settled d)))
-      past n d s h c true = setup-alike (settled d) s h c
-      past n d s h c false = (record { number = refl; bytes = refl; shown = refl }, refl)
+      past n d s h t c true = setup-alike (settled d) s h t c
+      past n d s h t c false = (record { number = refl; bytes = refl; shown = refl }, refl)
 
       entered : (d : Device) (s : Setup) → asksDropped set (Request s) ≡ false → eqb (s .bRequest) 0x06 ≡ true → (t : Bool)
           → Alike (pick t (refused 17 (settled d)) (pick (eqb (refusalFor false d s) 0) (request v (settled d) s) (refused (refusalFor false d s) (settled d))))
           (pick t (refused 17 (settled d)) (pick (eqb (refusalFor false d s) 0) (request w (settled d) s) (refused (refusalFor false d s) (settled d))))
       entered d s h c true = (record { number = refl; bytes = refl; shown = refl }, refl)
-      entered d s h c false = past (refusalFor false d s) d s h c (eqb (refusalFor false d s) 0)
+      entered d s h c false = cases (eqb (s .bmRequestType) 0x80)
+          (λ t. past (refusalFor false d s) d s h t c (eqb (refusalFor false d s) 0))
+          (λ t. rw (not-of-device d s c t) (record { number = refl; bytes = refl; shown = refl }, refl))
 
       asked : (d : Device) (e : Event) → asksDropped set e ≡ false → getsDescriptor e ≡ true → Alike (respond v d e) (respond w d e)
       asked d (Request s) h c = entered d s h c (inTestMode d)
@@ -276,6 +350,10 @@ module _ (set serial : List ℕ) where
       asked d Suspend h c = never c refl
       asked d Resume h c = never c refl
       asked d Wake h c = never c refl
+
+  -- what an event leaves does not hang on the strings, also where it asks for a dropped one
+  left-alike : (d : Device) (e : Event) → respond v d e .device ≡ respond w d e .device
+  left-alike d e = cases (getsDescriptor e) (λ c. describes-leaves v d e c ∙ sym (describes-leaves w d e c)) (λ c. plain-alike set (trimmed set) serial v w same-view d e c .1)
 
   pub fits-again : (d : Device) → fitsOn (lent set serial) d ≡ fitsOn (lent (trimmed set) serial) d
   fits-again = fits-alike v w same-view
@@ -310,3 +388,17 @@ module _ (set serial : List ℕ) where
         go : (t : Bool) → SaysSame set (trimmed set) serial (pick t (replyOf b) unread .answer) (pick t (replyOf c) unread .answer) × (pick t (replyOf b) unread .image ≡ pick t (replyOf c) unread .image)
         go true = let (s, n) = step-alike (deviceOf image) e h in (s, ap imageOf n)
         go false = (record { number = refl; bytes = refl; shown = refl }, refl)
+
+    -- the image that is left, whatever is asked for
+    pub image-alike : (image : List ℕ) (e : Event) → event (lent set serial) image e .image ≡ event (lent (trimmed set) serial) image e .image
+    unfolding event step
+    image-alike image e = rw (ok, accepted-again, ← fits-again (deviceOf image)) (go (eqb (length image) 32) (fits v (deviceOf image)))
+      where
+        unread : Reply
+        unread = record { answer = Refused 8; image = image }
+
+        go : (t f : Bool) → pick t (replyOf (pick f (respond v (deviceOf image) e) (refused 8 (deviceOf image)))) unread .image
+            ≡ pick t (replyOf (pick f (respond w (deviceOf image) e) (refused 8 (deviceOf image)))) unread .image
+        go true true = ap imageOf (left-alike (deviceOf image) e)
+        go true false = refl
+        go false f = refl

@@ -10,11 +10,17 @@ use Rattle.events.specs.declared.Event.{Event}
 use Rattle.events.specs.declared.Event.the-variants.{Request, Malformed, StatusEnd, BusReset, Halt, PacketPassed, Power, Suspend, Resume, Wake}
 use Rattle.events.specs.Answer.{numberOf, bytesOf, partOf}
 use Rattle.events.specs.Places.{bytesIn}
-use Rattle.trimming.specs.Asked.{left}
+use Rattle.octets.specs.Sentences.{any}
+use Rattle.sets.specs.Contents.{entries, isKind}
+use Rattle.trimming.specs.Keeping.{kept}
 
--- GET_DESCRIPTOR of a string that trimming drops
+-- a dropped string, by its index, in whatever language: a string entry had it, which trimming does not keep
+abbrev pub dropped : List ℕ → ℕ → Bool
+dropped set index = any (λ e. isKind 3 e && eqb (e .index) index && not (kept set e)) (entries set)
+
+-- GET_DESCRIPTOR, 80 06, of one
 abbrev pub asksDropped : List ℕ → Event → Bool
-asksDropped set (Request s) = eqb (s .bRequest) 0x06 && eqb (s .wValue / 256) 3 && not (left set 3 (s .wValue % 256))
+asksDropped set (Request s) = eqb (s .bmRequestType) 0x80 && eqb (s .bRequest) 0x06 && eqb (s .wValue / 256) 3 && dropped set (s .wValue % 256)
 asksDropped set Malformed = false
 asksDropped set StatusEnd = false
 asksDropped set (BusReset speed) = false
