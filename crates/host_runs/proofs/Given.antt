@@ -20,7 +20,7 @@ use Rattle.sets.specs.View.{accepted}
 use Rattle.set_writer.specs.Pieces.{pieces}
 use Rattle.set_writer.specs.Writer.{setOf}
 use Rattle.set_writer.proofs.Accepted.{mapping}
-use Rattle.maker_promises.specs.Written.{opens, there, found, writtenBytes}
+use Rattle.maker_promises.specs.Written.{there, found, writtenBytes}
 use Rattle.records.specs.declared.Device.{Device}
 use Rattle.records.specs.Device.{inTestMode, settled}
 use Rattle.records.specs.Image.{deviceOf}
@@ -38,9 +38,9 @@ use Rattle.enumeration.proofs.Boards.{noTestMode}
 use Rattle.enumeration.proofs.EveryPiece.{everyPiece}
 use Rattle.board.specs.Exports.{Spots}
 use Rattle.board.specs.Makers.{Writes, Dumps}
-use Rattle.board.specs.Runs.{met, opening}
+use Rattle.board.specs.Runs.{met}
 use Rattle.host_runs.specs.Calls.{seenGiven, CalledSince}
-use Rattle.host_runs.specs.Given.{ReadFrom, OpensGiven, ReadsGiven, ReadsGivenTwo, wholeLine, collecting, CollectsWhatIsExported}
+use Rattle.host_runs.specs.Given.{ReadFrom, ReadsGiven, ReadsGivenTwo, wholeLine, collecting, CollectsWhatIsExported}
 use Rattle.host_runs.proofs.Calls.{seesCall}
 use Rattle.host_runs.proofs.NeverLockedOut.{readyImage, acceptedSince, fitsSince, playedAfter}
 
@@ -63,14 +63,8 @@ module _ {stream serial buffer left : List ℕ} {size : ℕ} (wrote : Writes ful
   is-set : take size left ≡ setOf stream
   is-set = ap (λ (k : ℕ). take k left) (wrote .counts) ∙ there (wrote .fills) refl
 
-  opens-so : accepted (lent (take size left) serial) ≡ true
-  opens-so = ap (λ (s : List ℕ). accepted (lent s serial)) is-set ∙ opens fullSpeed stream serial (length buffer) (sym (wrote .fills .number))
-
   bytes-so : Bytes (take size left)
   bytes-so = rw is-set (writtenBytes fullSpeed stream serial (length buffer) (wrote .octets) (sym (wrote .fills .number)))
-
-pub opensGiven : OpensGiven
-opensGiven stream serial buffer left size wrote start image n long o = opening long o .1 (opens-so wrote)
 
 pub readsGiven : ReadsGiven
 readsGiven stream serial buffer left size wrote lie last since p m asked s =

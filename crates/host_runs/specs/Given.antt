@@ -1,10 +1,10 @@
--- What the host reads is what the maker gave: what was written opens, and after whatever calls GET_DESCRIPTOR of each piece gives its body; and what a host collects of a device
--- is what hk_export writes. Proved in proofs/Given.
+-- What the host reads is what the maker gave: after whatever calls GET_DESCRIPTOR of each piece that was written gives its body; and what a host collects of a device is what hk_export
+-- writes. Proved in proofs/Given.
 use Prim.Native.Nat.{ℕ, _≤_}
 use mathlib.Core.Path.{_≡_}
 use mathlib.Core.List.{List, _∷_, map, List·Memᴰ}
 use mathlib.Core.Bool.{false}
-use lib.ListN.{length, take}
+use lib.ListN.{take}
 use lib.Dec.{eqb}
 use Rattle.octets.specs.Octets.{Bytes}
 use Rattle.octets.specs.Sentences.{pick, upTo}
@@ -21,7 +21,7 @@ use Rattle.records.specs.Current.{setFor}
 use Rattle.dumps.specs.Dump.{flat}
 use Rattle.enumeration.specs.Script.{Line, line, reading, getDescriptor}
 use Rattle.enumeration.specs.Bodies.{configurationBody}
-use Rattle.board.specs.Exports.{Opens, Spots}
+use Rattle.board.specs.Exports.{Spots}
 use Rattle.board.specs.Makers.{Writes, Dumps}
 use Rattle.board.specs.Runs.{Call, eventOf, Given, Meets}
 use Rattle.host_runs.specs.Calls.{seenGiven, Played, CalledSince}
@@ -31,11 +31,7 @@ abbrev pub ReadFrom : Board → Spots → List ℕ → ℕ → ℕ → ℕ → �
 ReadFrom b lie last kind index language asked bytes =
     (call : Call) (g : Given) (next : List ℕ) → eventOf call ≡ getDescriptor kind index language asked → Meets b lie last call g next → seenGiven g ≡ reading bytes
 
--- ---- hk_write gave 0 on these pieces: hk_open gives 0 on what it wrote, and after any run of calls each piece is read, to any length
-abbrev pub OpensGiven : Type 0
-OpensGiven = (stream serial buffer left : List ℕ) (size : ℕ) → Writes fullSpeed stream serial buffer 0 left size
-    → (start image : List ℕ) (n : ℕ) → length start ≡ 32 → Opens (lent (take size left) serial) start n image → n ≡ 0
-
+-- ---- hk_write gave 0 on these pieces, and hk_open on what it wrote (it does: `writtenOpens` of maker_calls): after any run of calls each piece is read, to any length
 abbrev pub ReadsGiven : Type 0
 ReadsGiven = (stream serial buffer left : List ℕ) (size : ℕ) → Writes fullSpeed stream serial buffer 0 left size
     → (lie : Spots) (last : List ℕ) → CalledSince (lent (take size left) serial) lie last
