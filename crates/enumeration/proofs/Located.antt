@@ -22,7 +22,7 @@ use Rattle.sets.specs.Found.{isAt}
 use Rattle.sets.proofs.Passing.{ordered}
 use Rattle.sets.proofs.Pieces.{first-map}
 use Rattle.sets.proofs.Groups.{GoodTexts, texts-in}
-use Rattle.set_writer.specs.Sorted.{precedes}
+use Rattle.set_writer.specs.Writer.{precedes}
 use Rattle.set_writer.proofs.Ascending.{Ascends, neighbours-ascend}
 use Rattle.set_writer.proofs.Order.{before-map}
 use Rattle.set_writer.proofs.Precedes.{transitive}

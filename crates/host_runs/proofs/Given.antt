@@ -17,8 +17,7 @@ use Rattle.sets.specs.Device.{deviceBody, bNumConfigurations}
 use Rattle.sets.specs.Pieces.{Piece, pieceFor, piecesIn}
 use Rattle.sets.specs.Opening.{Board, BytesOf, lent, lentTwo}
 use Rattle.sets.specs.View.{accepted}
-use Rattle.set_writer.specs.Pieces.{pieces}
-use Rattle.set_writer.specs.Writer.{setOf}
+use Rattle.set_writer.specs.Writer.{pieces, setOf}
 use Rattle.set_writer.proofs.Accepted.{mapping}
 use Rattle.maker_promises.specs.Written.{there, found, writtenBytes}
 use Rattle.records.specs.declared.Device.{Device}
@@ -26,8 +25,7 @@ use Rattle.records.specs.Device.{inTestMode, settled}
 use Rattle.records.specs.Image.{deviceOf}
 use Rattle.records.specs.Current.{setFor}
 use Rattle.events.specs.Answer.{gives}
-use Rattle.dumps.specs.Dump.{flat}
-use Rattle.dumps.specs.Export.{exported}
+use Rattle.dumps.specs.Dump.{flat, exported}
 use Rattle.order.specs.Run.{All}
 use Rattle.enumeration.specs.Script.{Line, line, sees, reading, Plays, Ready, getDescriptor}
 use Rattle.enumeration.specs.Bodies.{configurationBody}

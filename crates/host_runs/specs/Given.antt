@@ -13,8 +13,7 @@ use Rattle.descriptors.specs.Limits.{fullSpeed}
 use Rattle.sets.specs.Device.{deviceBody, bNumConfigurations}
 use Rattle.sets.specs.Pieces.{Piece}
 use Rattle.sets.specs.Opening.{Board, BytesOf, lent, lentTwo}
-use Rattle.set_writer.specs.Pieces.{pieces}
-use Rattle.set_writer.specs.Writer.{setOf}
+use Rattle.set_writer.specs.Writer.{pieces, setOf}
 use Rattle.records.specs.Device.{inTestMode, settled}
 use Rattle.records.specs.Image.{deviceOf}
 use Rattle.records.specs.Current.{setFor}
