@@ -63,12 +63,12 @@ deviceReplies = record { leaves = refl; answers = record { number = refl; hands 
 
 -- whatever cutter meets its statement: packets 0 to 2 are given and put together are the descriptor, and packet 3 is refused
 pub devicePackets : (at : Spot) (number : ℕ → ℕ) (packets : ℕ → List ℕ) (place : ℕ → Spot)
-    → ((k : ℕ) → CutsPacket deviceDescriptor at 64 8 k (number k) (packets k) (place k))
+    → ((k : ℕ) → k < 4294967296 → CutsPacket deviceDescriptor at 64 8 k (number k) (packets k) (place k))
     → (flatMap packets (upTo 3) ≡ deviceDescriptor) × (number 2 ≡ 0) × (number 3 ≡ 15)
 unfolding computed
 devicePackets at number packets place cuts =
     let (whole, given, past) = transfer deviceReplies at number packets place cuts in
-    (whole, given 2 (omega arith), past 3 (omega arith))
+    (whole, given 2 (omega arith), past 3 (omega arith) (omega arith))
 
 -- and a refused one shows the descriptor's first 0 bytes
 pub pastTheLast : (at : Spot) {n : ℕ} {shown : List ℕ} {spot : Spot} → CutsPacket deviceDescriptor at 64 8 3 n shown spot → (shown ≡ []) × (spot ≡ at)
