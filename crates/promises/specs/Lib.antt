@@ -9,6 +9,7 @@ pub mod Packets
 pub mod Refusal
 pub mod Refusals
 pub mod Replies
+pub mod Sizes
 pub mod Kinds
 pub mod SuperSpeed
 pub mod Keeps

@@ -170,11 +170,7 @@ module _ (set serial : List ℕ) where
 
       end-same : statusEnd d ≡ before.statusEnd d
       unfolding statusEnd
-      end-same = same-pick (eqb (d .waiting) nothing) (λ t. refl) (λ n. rw (lt-leb (testWaiting 0) (d .waiting) (low n (either (leb (d .waiting) 127) (eqb (d .waiting) nothing) (was-waiting d f)))))
-        where
-          low : eqb (d .waiting) nothing ≡ false → (leb (d .waiting) 127 ≡ true) ⊎ (eqb (d .waiting) nothing ≡ true) → d .waiting < 128
-          low n (inl q) = let l = leb-true (d .waiting) 127 q in omega arith
-          low n (inr q) = absurd (never q n)
+      end-same = same-pick (eqb (d .waiting) nothing) (λ t. refl) (λ n. rw (low-waits d (was-waiting d f)))
 
       reset-same : (speed : ℕ) → eqb speed 0 ≡ true → respond v d (BusReset speed) ≡ before.respond v d (BusReset speed)
       reset-same speed p =
@@ -195,7 +191,7 @@ module _ (set serial : List ℕ) where
 
   -- ---- the step over one set is the step from before
   pub oneSet : (d : Device) (e : Event) → before.known e ≡ true → step (lent set serial) d e ≡ before.step (lent set serial) d e
-  unfolding step before.step
+  unfolding step before.step viewOf
   oneSet d e k = cases (accepted (lent set serial))
       (λ ok. rw (ok, fitsSame d) (cases (before.fits v d) (λ f. rw f (respond-same ok d f e k)) (λ f. rw f)))
       (λ no. rw no)

@@ -278,6 +278,7 @@ module _ (set serial : List ℕ) where
       asked d Wake h c = never c refl
 
   pub fits-again : (d : Device) → fitsOn (lent set serial) d ≡ fitsOn (lent (trimmed set) serial) d
+  unfolding viewOf
   fits-again = fits-alike v w same-view
 
   module _ (small : Bytes set) (ok : accepted (lent set serial) ≡ true) where
@@ -285,7 +286,7 @@ module _ (set serial : List ℕ) where
     accepted-again = eq-eqb (opening fullSpeed (lent (trimmed set) serial)) 0 (opens-again fullSpeed set serial small (eqb-true (opening fullSpeed (lent set serial)) 0 ok))
 
     pub step-alike : (d : Device) (e : Event) → asksDropped set e ≡ false → Alike (step (lent set serial) d e) (step (lent (trimmed set) serial) d e)
-    unfolding step
+    unfolding step viewOf
     step-alike d e h = rw (ok, accepted-again, ← fits-again d) (go (fits v d))
       where
         go : (b : Bool) → Alike (pick b (respond v d e) (refused 8 d)) (pick b (respond w d e) (refused 8 d))
