@@ -2,7 +2,7 @@
 from served import BUS_RESET, HALT, PACKET_PASSED, POWER, RESUME, SETUP, STATUS_END, SUSPEND, WAKE
 
 # The events other than a setup: the words, the event's number, and what follows. NOTHING, or words that stand for a number (a number can always be
-# given). A new event is a line here, and its operation in tests/served.py.
+# given). A new event is a line here, and its operation in tools/served.py.
 NOTHING, NUMBER = None, {}
 EVENTS = {
     "status end": (STATUS_END, NOTHING),

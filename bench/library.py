@@ -1,4 +1,4 @@
-"""The library as the bench asks it: every answer is its own, by tests/harness.c."""
+"""The library as the bench asks it: every answer is its own, by tools/harness.c."""
 from pieces import a_set
 from served import SETUP, Served
 from text import Mistake, piece

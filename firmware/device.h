@@ -1,4 +1,7 @@
-/* The device loop: USB 2.0 chapter 9 on a small board, over the library (heideklonk.h) and the board (hardware.h).
+/* The device loop: USB 2.0 chapter 9 on a small board, over the library (heideklonk_board.h) and the board (hardware.h).
+ *
+ * A board lends one set. With DEVICE_TWO_SETS it lends two, one for each speed; with DEVICE_PORTS its records stand in a
+ * row, one for each port.
  *
  * Nothing is allocated and there are no variables but the caller's struct device. docs/FIRMWARE.md shows a main. */
 #ifndef DEVICE_H
@@ -7,24 +10,11 @@
 #include <stddef.h>
 #include <stdint.h>
 
-#include "heideklonk.h"
+#include "heideklonk_board.h"
 
 #ifdef __cplusplus
 extern "C" {
 #endif
-
-/* What stands in flash and is only read: the set, and this unit's own serial block (NULL and 0 where there is none). A board
- * with a high-speed peripheral defines DEVICE_TWO_SETS, and `set` is then the full-speed set. */
-struct device_flash {
-    const uint8_t *set;
-    size_t set_length;
-    const uint8_t *serial;
-    size_t serial_length;
-#ifdef DEVICE_TWO_SETS
-    const uint8_t *high;
-    size_t high_length;
-#endif
-};
 
 enum device_stage {
     STAGE_NONE,       /* no control transfer is under way, or it was answered with STALL */
@@ -37,38 +27,36 @@ enum device_stage {
 /* The control transfer under way. */
 struct device_transfer {
     enum device_stage stage;
-    uint16_t asked;   /* wLength */
-    uint32_t packet;  /* the packet to send next, from 0 */
-    uint8_t bytes[2]; /* an answer of 1 or 2 bytes stands here until it is out */
-    hk_part reply;    /* the answer: in the set, the serial block, bytes or the application's memory */
+    uint16_t asked;  /* wLength */
+    uint32_t packet; /* the packet to send next, from 0 */
+    hk_answer answer; /* until it is out: its bytes, or a part of the set, the serial block or the application's memory */
     uint8_t setup[HK_SETUP_LENGTH]; /* a request of the application's own, whose bytes come: */
     uint8_t *room;
     uint16_t received;
 };
 
 struct device {
-    const struct device_flash *flash;
+    const hk_board *board; /* what stands in flash */
 #ifdef DEVICE_PORTS
     hk_record *row; /* the records of all ports, changed by the library alone: set these three before device_start */
     size_t row_length;
     size_t port;
 #else
-    uint8_t record[HK_IMAGE_LENGTH]; /* changed by the library alone */
+    hk_record record; /* changed by the library alone */
 #endif
     struct device_transfer transfer;
 };
 
-/* The record's image. */
-static inline const uint8_t *device_record(const struct device *device) {
+static inline const hk_record *device_record(const struct device *device) {
 #ifdef DEVICE_PORTS
-    return (const uint8_t *)&device->row[device->port];
+    return &device->row[device->port];
 #else
-    return device->record;
+    return &device->record;
 #endif
 }
 
 /* Power-on: HK_DONE, and only then may the board connect to the bus; or which group of rules the flash breaks. */
-uint8_t device_start(struct device *device, const struct device_flash *flash);
+uint8_t device_start(struct device *device, const hk_board *board);
 
 /* The loop: one event after the other, for as long as hardware_wait has one. */
 #ifndef DEVICE_PORTS

@@ -70,9 +70,9 @@ void hardware_set_address(uint8_t address);
 void hardware_close_endpoints(void);
 void hardware_open_endpoint(const uint8_t *descriptor);
 
-/* What the record has of them: STALL at those with a bit in the halts (bytes 24 to 27), and DATA1 to send or expect at
- * those with a bit in the toggles (bytes 28 to 31). Bit e is OUT number e, bit 16 + e is IN. */
-void hardware_set_endpoints(const uint8_t *record);
+/* What the record has of them: STALL at those with a bit in the halts, and DATA1 to send or expect at those with a bit in the
+ * toggles. Bit e is OUT number e, bit 16 + e is IN. */
+void hardware_set_endpoints(const hk_record *record);
 
 /* The supply that the board draws from now: HK_POWER_BUS or HK_POWER_OWN. */
 uint8_t hardware_power_source(void);

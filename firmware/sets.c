@@ -89,8 +89,6 @@ static const uint8_t titrator_serial[] = {
     'H', 0, 'K', 0, '-', 0, '0', 0, '0', 0, '0', 0, '1', 0, '2', 0, '3', 0,
 };
 
-#ifndef DEVICE_TWO_SETS
-
 static const uint8_t bench_set[] = {
     TWO(63), 2, 0, /* total length, entries */
 
@@ -109,7 +107,7 @@ static const uint8_t bench_set[] = {
     7, 5, 0x81, 3, TWO(8), 10,
 };
 
-const struct device_flash bench_flash = {bench_set, sizeof bench_set, NULL, 0};
+const hk_board bench_board = {bench_set, sizeof bench_set, NULL, 0, NULL, 0};
 
 static const uint8_t titrator_set[] = {
     TWO(469), 7, 0, /* total length, entries */
@@ -128,17 +126,15 @@ static const uint8_t titrator_set[] = {
     TITRATOR_STRINGS
 };
 
-const struct device_flash titrator_flash = {titrator_set, sizeof titrator_set, titrator_serial, sizeof titrator_serial};
+const hk_board titrator_board = {titrator_set, sizeof titrator_set, titrator_serial, sizeof titrator_serial, NULL, 0};
 
 static const uint8_t second_titrator_serial[] = {
     20, 3,
     'H', 0, 'K', 0, '-', 0, '0', 0, '0', 0, '0', 0, '1', 0, '2', 0, '4', 0,
 };
 
-const struct device_flash second_titrator_flash = {titrator_set, sizeof titrator_set, second_titrator_serial,
-                                                   sizeof second_titrator_serial};
-
-#else
+const hk_board second_titrator_board = {titrator_set, sizeof titrator_set, second_titrator_serial,
+                                        sizeof second_titrator_serial, NULL, 0};
 
 /* Both sets of the pair have the same contents: types 6 and 7 stand behind the strings. */
 #define TITRATOR_PAIR_CONTENTS \
@@ -174,7 +170,5 @@ static const uint8_t titrator_high_set[] = {
     TITRATOR_AT_FULL_SPEED(7)
 };
 
-const struct device_flash titrator_pair_flash = {titrator_full_set, sizeof titrator_full_set, titrator_serial, sizeof titrator_serial,
-                                                 titrator_high_set, sizeof titrator_high_set};
-
-#endif
+const hk_board titrator_pair_board = {titrator_full_set, sizeof titrator_full_set, titrator_serial,
+                                      sizeof titrator_serial, titrator_high_set, sizeof titrator_high_set};

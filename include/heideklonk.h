@@ -319,7 +319,7 @@ uint8_t hk_packet(const uint8_t *reply, size_t reply_length, uint16_t asked, uin
  * HK_DONE: the set stands at the buffer's start, *written bytes long, and opens with this serial block; the bytes behind
  * it are as they were. HK_PIECES_BROKEN, HK_SET_REFUSED, HK_BUFFER_TOO_SHORT: the first of these that holds, in this
  * order; the buffer is as it was, and *written is 0. A buffer of 16,384 bytes is never too short. To learn why a set is
- * refused, use the program `writer`. The buffer and written overlap nothing else that is passed. */
+ * refused, use the program `maker`. The buffer and written overlap nothing else that is passed. */
 HK_MAKERS uint8_t hk_write(const uint8_t *pieces, size_t pieces_length, const uint8_t *serial, size_t serial_length,
                  uint8_t *buffer, size_t buffer_length, uint16_t *written);
 

@@ -1,4 +1,4 @@
-// A host that enumerates a board, step by step: what tests/host.c asks of the library, without the device loop around it.
+// A host that enumerates a board, step by step: what tools/host/host.c asks of the library, without the device loop around it.
 import { FACTS } from "./facts.js";
 import { EVENT } from "./library.js";
 import { TYPE, TRANSFER_TYPES, cut, languageWords } from "./descriptors.js";
@@ -220,7 +220,7 @@ export class Host {
     }
 }
 
-// ---- in words, as tests/host.c prints them
+// ---- in words, as tools/host/host.c prints them
 function packetsWords({ data, packets }) {
     const bytes = `${data.length} byte${data.length === 1 ? "" : "s"} in`;
     if (packets.length === 1)

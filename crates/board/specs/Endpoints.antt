@@ -9,12 +9,12 @@ use mathlib.Core.List.{List, [], _∷_, map, List·Memᴰ, List·Memᴰ·head, L
 use mathlib.Core.Bool.{Bool, true, false, _&&_, _||_, not}
 use mathlib.Core.Option.{Option, some, none}
 use lib.ListN.{length, getD, getElem?, length-map}
-use lib.Dec.{eqb, leb}
-use borrow.Author.Tests.{not-true, eq-eqb, ne-eqb, eqb-true, eqb-false, leb-true, le-leb}
+use lib.Dec.{eqb, leb, ltb}
+use borrow.Author.Tests.{not-true, eq-eqb, ne-eqb, eqb-true, eqb-false, leb-true, le-leb, ltb-true, ltb-false}
 use Rattle.octets.specs.Octets.{byte, part}
 use Rattle.octets.specs.Sentences.{pick, every, only, pairs, upTo}
 use Rattle.octets.proofs.Sentences.{cases, both, joined, never, if-then, every-member, member-every, only-member, pairs-split}
-use Rattle.octets.proofs.Counting.{at-member, at-inside, at-beyond, told, pairs-at, pairs-map, pairs-then, differ, apart as unequal, differs, no-more}
+use Rattle.octets.proofs.Counting.{none-some, at-member, at-inside, at-beyond, told, pairs-at, pairs-map, pairs-then, differ, apart as unequal, differs, no-more}
 use Rattle.descriptors.specs.declared.Endpoint.{Endpoint}
 use Rattle.descriptors.specs.Cut.{cut, cutAfter, descriptorsOf, wellCut}
 use Rattle.descriptors.specs.Descriptor.{isEndpoint, bEndpointAddress, bmAttributes, goodAddress, goodEndpoint}
@@ -91,7 +91,7 @@ module _ (b : Board) (image : List ℕ) (k : ℕ) where
     answer : endpointOn b image k ≡ Refused number
     allowed : allowsEndpoint b image number ≡ true
 
-  past : accepted b ≡ true → length image ≡ 32 → fitsOn b (deviceOf image) ≡ true → endpointOn b image k ≡ endpointPart (getElem? ds k)
+  pub past : accepted b ≡ true → length image ≡ 32 → fitsOn b (deviceOf image) ≡ true → endpointOn b image k ≡ endpointPart (getElem? ds k)
   unfolding endpointOn endpoint
   past p l f = rw (eq-eqb (length image) 32 l, p, f)
 
@@ -278,16 +278,19 @@ module _ (b : Board) (bytes : BytesOf b) (ok : accepted b ≡ true) (d : Device)
           let (u, m) = parted (a % 16) (c % 16) (a / 128) (c / 128) la (omega arith) lc (omega arith) i in
           ea ∙ rw (u, m) (sym ec)
 
+-- what stands at a place stands below the length
+pub at-below : {A : Type 0} (l : List A) (k : ℕ) {x : A} → getElem? l k ≡ some x → k < length l
+at-below l k e = cases (ltb k (length l)) (λ p. ltb-true k (length l) p) (λ p. absurd (none-some (sym (at-beyond l k (ltb-false k (length l) p)) ∙ e)))
+
 -- ---- counting up from 0 on an image that fits
-module _ (b : Board) (bytes : BytesOf b) (ok : accepted b ≡ true) {image : List ℕ} (f : FitImage b image) (lie : Spots)
-    (number : ℕ → ℕ) (shown : ℕ → List ℕ) (spot : ℕ → Spot) (gives : (k : ℕ) → GivesEndpoint b lie image k (number k) (shown k) (spot k)) where
+module _ (b : Board) (bytes : BytesOf b) (ok : accepted b ≡ true) {image : List ℕ} (f : FitImage b image) where
   abbrev endpoints : List Endpoint
   endpoints = currentEndpoints (viewAt b (deviceOf image)) (deviceOf image)
 
   abbrev all : List DescriptorAt
   all = endpointDescriptors (setAt b (deviceOf image)) (deviceOf image)
 
-  same-count : length all ≡ length endpoints
+  pub same-count : length all ≡ length endpoints
   same-count = sym (length-map all _) ∙ ap length (sameEndpoints b bytes ok (deviceOf image) (λ address attributes. address) (f .fit)) ∙ length-map endpoints _
 
   gave : (k : ℕ) → endpointOn b image k ≡ endpointPart (getElem? all k)
@@ -297,34 +300,39 @@ module _ (b : Board) (bytes : BytesOf b) (ok : accepted b ≡ true) {image : Lis
   pub endpointsFew : length endpoints ≤ 30
   endpointsFew = atMostThirty b bytes ok (deviceOf image)
 
-  pub endpointsThere : (k : ℕ) → k < length endpoints → number k ≡ 0
-  endpointsThere k h = let (x, e) = at-inside all k (omega (arith, same-count, h)) in gives k .number ∙ rw (gave k, e)
+  module _ (lie : Spots) (number : ℕ → ℕ) (shown : ℕ → List ℕ) (spot : ℕ → Spot) (gives : (k : ℕ) → k < 256 → GivesEndpoint b lie image k (number k) (shown k) (spot k)) where
+    pub endpointsThere : (k : ℕ) → k < length endpoints → number k ≡ 0
+    endpointsThere k h = let (x, e) = at-inside all k (omega (arith, same-count, h)) in gives k (omega (arith, endpointsFew, h)) .number ∙ rw (gave k, e)
 
-  pub endpointsEnd : (k : ℕ) → length endpoints ≤ k → number k ≡ 16
-  endpointsEnd k h = gives k .number ∙ rw (gave k, at-beyond all k (omega (arith, same-count, h)))
+    pub endpointsEnd : (k : ℕ) → k < 256 → length endpoints ≤ k → number k ≡ 16
+    endpointsEnd k small h = gives k small .number ∙ rw (gave k, at-beyond all k (omega (arith, same-count, h)))
 
-  shows-at : (k : ℕ) (x : DescriptorAt) → getElem? all k ≡ some x → shown k ≡ x .bytes
-  shows-at k x e = gives k .shows ∙ rw (gave k, e) (stands (rowFor (b .high) (deviceOf image .speed)) (boardFor b (deviceOf image .speed)) (opensFor b (deviceOf image .speed) (opens b bytes ok (deviceOf image))) (deviceOf image) x (at-member all k e) .shown)
+    pub shows-at : (k : ℕ) (x : DescriptorAt) → getElem? all k ≡ some x → shown k ≡ x .bytes
+    shows-at k x e =
+        gives k (omega (arith, at-below all k e, same-count, endpointsFew)) .shows
+        ∙ rw (gave k, e) (stands (rowFor (b .high) (deviceOf image .speed)) (boardFor b (deviceOf image .speed)) (opensFor b (deviceOf image .speed) (opens b bytes ok (deviceOf image))) (deviceOf image) x (at-member all k e) .shown)
 
-  -- the parts tell the address and the attributes of each current endpoint, one for one, in the set's order
-  pub endpointsAll : map (λ k. described (shown k)) (upTo (length endpoints)) ≡ map listed endpoints
-  endpointsAll = rw (← same-count)
-      (told (λ k. described (shown k)) (λ p. described (p .bytes)) all (λ k x e. ap described (shows-at k x e)) ∙ sameEndpoints b bytes ok (deviceOf image) pair (f .fit))
+    -- the parts tell the address and the attributes of each current endpoint, one for one, in the set's order (CurrentGroups: and are their descriptors, whole)
+    pub endpointsAll : map (λ k. described (shown k)) (upTo (length endpoints)) ≡ map listed endpoints
+    endpointsAll = rw (← same-count)
+        (told (λ k. described (shown k)) (λ p. described (p .bytes)) all (λ k x e. ap described (shows-at k x e)) ∙ sameEndpoints b bytes ok (deviceOf image) pair (f .fit))
 
-  -- each once: the parts lie one after the other, and no two have one address
-  module _ (j k : ℕ) (before : j < k) (there : k < length endpoints) where
-    pub endpointsAfter : spot j .offset + length (shown j) ≤ spot k .offset
-    endpointsAfter =
-        let (x, p) = at-inside all j (omega (arith, same-count, before, there)) in
-        let (y, q) = at-inside all k (omega (arith, same-count, there)) in
-        let l : x .offset + length (x .bytes) ≤ y .offset = leb-true _ _ (pairs-at before-it all (inOrder b bytes ok (deviceOf image)) j k p q before) in
-        rw (gives j .lies, gives k .lies, gave j, gave k, p, q, shows-at j x p) (omega arith)
+    -- each once: the parts lie one after the other, and no two have one address
+    module _ (j k : ℕ) (before : j < k) (there : k < length endpoints) where
+      pub endpointsAfter : spot j .offset + length (shown j) ≤ spot k .offset
+      endpointsAfter =
+          let (x, p) = at-inside all j (omega (arith, same-count, before, there)) in
+          let (y, q) = at-inside all k (omega (arith, same-count, there)) in
+          let l : x .offset + length (x .bytes) ≤ y .offset = leb-true _ _ (pairs-at before-it all (inOrder b bytes ok (deviceOf image)) j k p q before) in
+          let one = gives j (omega (arith, endpointsFew, before, there)) .lies in
+          let other = gives k (omega (arith, endpointsFew, there)) .lies in
+          rw (one, other, gave j, gave k, p, q, shows-at j x p) (omega arith)
 
-    pub endpointsApart : bEndpointAddress (shown j) ≡ bEndpointAddress (shown k) → ⊥
-    endpointsApart i =
-        let (x, p) = at-inside all j (omega (arith, same-count, before, there)) in
-        let (y, q) = at-inside all k (omega (arith, same-count, there)) in
-        let address : map (λ p. bEndpointAddress (p .bytes)) all ≡ map (λ e. e .address) endpoints = sameEndpoints b bytes ok (deviceOf image) (λ address attributes. address) (f .fit) in
-        let one : pairs differ (map (λ p. bEndpointAddress (p .bytes)) all) ≡ true = rw address (sym (pairs-map differ (λ e. e .address) endpoints) ∙ addressesDiffer b bytes ok (deviceOf image)) in
-        unequal _ _ (pairs-at (λ p q. differ (bEndpointAddress (p .bytes)) (bEndpointAddress (q .bytes))) all (pairs-map differ (λ p. bEndpointAddress (p .bytes)) all ∙ one) j k p q before)
-        (ap bEndpointAddress (sym (shows-at j x p)) ∙ i ∙ ap bEndpointAddress (shows-at k y q))
+      pub endpointsApart : bEndpointAddress (shown j) ≡ bEndpointAddress (shown k) → ⊥
+      endpointsApart i =
+          let (x, p) = at-inside all j (omega (arith, same-count, before, there)) in
+          let (y, q) = at-inside all k (omega (arith, same-count, there)) in
+          let address : map (λ p. bEndpointAddress (p .bytes)) all ≡ map (λ e. e .address) endpoints = sameEndpoints b bytes ok (deviceOf image) (λ address attributes. address) (f .fit) in
+          let one : pairs differ (map (λ p. bEndpointAddress (p .bytes)) all) ≡ true = rw address (sym (pairs-map differ (λ e. e .address) endpoints) ∙ addressesDiffer b bytes ok (deviceOf image)) in
+          unequal _ _ (pairs-at (λ p q. differ (bEndpointAddress (p .bytes)) (bEndpointAddress (q .bytes))) all (pairs-map differ (λ p. bEndpointAddress (p .bytes)) all ∙ one) j k p q before)
+          (ap bEndpointAddress (sym (shows-at j x p)) ∙ i ∙ ap bEndpointAddress (shows-at k y q))

@@ -1,6 +1,6 @@
 -- The premises of the theorems over hk_open, hk_packet, hk_record_event and hk_endpoint hold of something: S and its device descriptor, and the
 -- titrator T, opened and configured as a record.
-use Prim.Native.Nat.{ℕ, zero, suc, _^_}
+use Prim.Native.Nat.{ℕ, zero, suc, _^_, _<_}
 use native.Mathlib.Omega.{arith}
 use mathlib.Core.Path.{_≡_, refl}
 use mathlib.Core.Logic.{_⊎_, inl, inr}
@@ -157,12 +157,12 @@ unfolding computed
 isDescriptor = endpointGiven endpointOfS refl
 
 -- counted by whatever meets the statement: 0, then 16, and the one part lists endpoint 81, interrupt
-pub countsS : (number : ℕ → ℕ) (shown : ℕ → List ℕ) (spot : ℕ → Spot) → ((k : ℕ) → GivesEndpoint S lie (imageOf configured) k (number k) (shown k) (spot k))
+pub countsS : (number : ℕ → ℕ) (shown : ℕ → List ℕ) (spot : ℕ → Spot) → ((k : ℕ) → k < 256 → GivesEndpoint S lie (imageOf configured) k (number k) (shown k) (spot k))
     → (number 0 ≡ 0) × (number 1 ≡ 16) × (described (shown 0) ∷ [] ≡ pair 0x81 3 ∷ [])
 unfolding computed
 countsS number shown spot gives =
     let fit = imageFits S bytesS acceptedS configured (configuredFits, configuredSized) in (
       endpointsThere S bytesS acceptedS fit lie number shown spot gives 0 (omega arith),
-      endpointsEnd S bytesS acceptedS fit lie number shown spot gives 1 (omega arith),
+      endpointsEnd S bytesS acceptedS fit lie number shown spot gives 1 (omega arith) (omega arith),
       endpointsAll S bytesS acceptedS fit lie number shown spot gives,
     )

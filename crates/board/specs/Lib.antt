@@ -6,6 +6,7 @@ pub mod Opening
 pub mod Runs
 pub mod Transfers
 pub mod Endpoints
+pub mod CurrentGroups
 pub mod Order
 pub mod Places
 pub mod Unnoticed
@@ -15,6 +16,7 @@ pub mod InhabitedRuns
 pub mod InhabitedTwo
 pub mod Idle
 pub mod InhabitedExports
+pub mod InhabitedGroups
 pub mod OpenedAs
 pub mod Makers
 pub mod Kinds

@@ -1,16 +1,17 @@
--- What the exports for makers promise, whole, and that each statement decides. The contracts of src/makers.rt cite these.
+-- What the exports for makers promise, whole, and that each statement decides. The contracts of src/makers.rt cite these. `octets`: what is lent is bytes, by its type in C
 use Prim.Native.Nat.{ℕ}
 use mathlib.Core.Path.{_≡_, sym, ap, _∙_}
 use mathlib.Core.List.{List, _++_}
 use lib.ListN.{length, drop}
 use lib.Dec.{eqb}
+use Rattle.octets.specs.Octets.{Bytes}
 use Rattle.octets.specs.Sentences.{pick}
 use Rattle.descriptors.specs.declared.Limits.{Limits}
 use Rattle.sets.specs.Opening.{Board, lent, opening}
 use Rattle.set_writer.specs.Writer.{setOf, writing, Filled}
 use Rattle.dumps.specs.Imported.{imported}
-use Rattle.importing.specs.Import.{importing}
-use Rattle.exporting.specs.Export.{exported, exporting}
+use Rattle.dumps.specs.Import.{importing}
+use Rattle.dumps.specs.Export.{exported, exporting}
 use Rattle.trimming.specs.Trim.{trimmed, padded, Trims}
 use Rattle.board.specs.OpenedAs.{openedAs}
 use Rattle.rules.specs.Explained.{explained}
@@ -24,21 +25,25 @@ pub record OpensAs (limits : Limits) (b : Board) (image : List ℕ) (answer : �
 pub record Writes (limits : Limits) (pieces serial buffer : List ℕ) (answer : ℕ) (left : List ℕ) (written : ℕ) : Type 0 where
   pub fills : Filled (setOf pieces) buffer left (writing limits pieces serial (length buffer)) answer
   pub counts : written ≡ pick (eqb answer 0) (length (setOf pieces)) 0
+  pub octets : Bytes pieces
 
 -- hk_import: the same, of a dump
 pub record Takes (dump buffer : List ℕ) (answer : ℕ) (left : List ℕ) (written : ℕ) : Type 0 where
   pub fills : Filled (imported dump) buffer left (importing dump (length buffer)) answer
   pub counts : written ≡ pick (eqb answer 0) (length (imported dump)) 0
+  pub octets : Bytes dump
 
 -- hk_export: the same, of a set with its serial block
 pub record Dumps (set serial buffer : List ℕ) (answer : ℕ) (left : List ℕ) (written : ℕ) : Type 0 where
   pub fills : Filled (exported set) buffer left (exporting set serial (length buffer)) answer
   pub counts : written ≡ pick (eqb answer 0) (length (exported set)) 0
+  pub octets : Bytes set
 
 -- hk_trim: its number, what it leaves of the set's buffer, and the trimmed set's length, 0 after a refusal
 pub record Shortens (limits : Limits) (set serial : List ℕ) (answer : ℕ) (left : List ℕ) (total : ℕ) : Type 0 where
   pub trims : Trims limits set serial left answer
   pub counts : total ≡ pick (eqb answer 0) (length (trimmed set)) 0
+  pub octets : Bytes set
 
 -- hk_explain: opening's number, the first rule that is broken, 0 where none is, and the byte where it is broken
 pub record Tells (limits : Limits) (set serial : List ℕ) (answer rule place : ℕ) : Type 0 where

@@ -45,7 +45,7 @@ pub extern "C" fn hk_super_open(set: &[u8], serial: &[u8], image: &mut [u8]) -> 
 pub extern "C" fn hk_import(dump: &[u8], buffer: &mut [u8], written: &mut u16) -> u8
     ensures { λ r. ⌜ Takes (now (dump .entry)) (now (buffer .entry)) r (now (buffer .exit)) (now (written .exit)) ⌝ }
 {
-    let report = importing::import(dump, buffer);
+    let report = dumps::import::import(dump, buffer);
     *written = set_writer::length_written(report.number, buffer);
     report.number
 }
@@ -55,7 +55,7 @@ pub extern "C" fn hk_import(dump: &[u8], buffer: &mut [u8], written: &mut u16) -
 pub extern "C" fn hk_export(set: &[u8], serial: &[u8], buffer: &mut [u8], written: &mut u16) -> u8
     ensures { λ r. ⌜ Dumps (now (set .entry)) (now (serial .entry)) (now (buffer .entry)) r (now (buffer .exit)) (now (written .exit)) ⌝ }
 {
-    let dumped = exporting::export(set, serial, buffer);
+    let dumped = dumps::export::export(set, serial, buffer);
     *written = dumped.written;
     dumped.number
 }

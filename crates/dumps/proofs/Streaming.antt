@@ -10,7 +10,7 @@ use lib.Dec.{ltb}
 use borrow.Author.Tests.{ltb-true}
 use Rattle.octets.proofs.Sentences.{both}
 use Rattle.descriptors.specs.Walk.{before, collected}
-use Rattle.pieces.specs.Pieces.{pieceHead, streamOf}
+use Rattle.set_writer.specs.Pieces.{pieceHead, streamOf}
 use Rattle.sets.specs.Pieces.{Piece}
 use Rattle.dumps.specs.Dump.{flat, splitsAfter, splits, deviceIn, configurationsIn}
 use Rattle.dumps.specs.Zeroed.{nameAt, zeroedDevice, zeroedConfiguration}

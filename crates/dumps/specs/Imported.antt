@@ -3,7 +3,7 @@ use Prim.Native.Nat.{ℕ, _+_, _/_, _%_}
 use mathlib.Core.List.{List, [], _∷_, _++_, map}
 use lib.ListN.{length}
 use Rattle.sets.specs.Pieces.{Piece}
-use Rattle.pieces.specs.Laid.{laid}
+use Rattle.set_writer.specs.Laid.{laid}
 use Rattle.dumps.specs.Dump.{deviceIn, configurationsIn}
 use Rattle.dumps.specs.Zeroed.{zeroedDevice, zeroedConfiguration}
 

@@ -7,11 +7,14 @@ ghost use lib.ListN.{length, set, take, drop};
 ghost use lib.Dec.{ltb};
 ghost use Rattle.octets.specs.Octets.{word};
 ghost use Rattle.octets.specs.Sentences.{pick};
-ghost use Rattle.writing.specs.Written.{Room, Wrote};
+ghost use Rattle.buffers.specs.Written.{Room, Wrote};
 ghost use Rattle.dumps.specs.Dump.{splits, splitOf, configurationsIn};
 ghost use Rattle.dumps.specs.Zeroed.{hasName, zeroedDevice, zeroedConfiguration};
 ghost use Rattle.dumps.specs.Imported.{numbered, piecesFor, headed};
-ghost use Rattle.pieces.specs.Pieces.{streamOf};
+ghost use Rattle.set_writer.specs.Pieces.{streamOf};
+
+pub mod export;
+pub mod import;
 
 // What splitting finds: how many configuration bodies.
 pub enum Shape {
@@ -23,7 +26,7 @@ pub enum Shape {
 fn size_at(dump: &[u8], at: usize) -> usize
     ensures { λ r. ⌜ (r ≡ word (drop at (now (dump .entry))) 2) × (r < 65536) ⌝ }
 {
-    octets::word(pieces::tail(dump, at), 2) as usize
+    octets::word(buffers::tail(dump, at), 2) as usize
 }
 
 pub fn split(dump: &[u8]) -> Shape
@@ -63,7 +66,7 @@ fn put_device(out: &mut [u8], from: usize, body: &[u8]) -> usize
     requires { ⌜ Room (now out) from (now body) ⌝ }
     ensures { λ r. ⌜ Wrote (now (out .entry)) from (zeroedDevice (now (body .entry))) (now (out .exit)) r ⌝ }
 {
-    let end = writing::put_bytes(out, from, body);
+    let end = buffers::put_bytes(out, from, body);
     blank(out, from, body.len(), 14, true);
     blank(out, from, body.len(), 15, true);
     blank(out, from, body.len(), 16, true);
@@ -82,7 +85,7 @@ fn put_configuration(out: &mut [u8], from: usize, body: &[u8]) -> usize
     requires { ⌜ Room (now out) from (now body) ⌝ }
     ensures { λ r. ⌜ Wrote (now (out .entry)) from (zeroedConfiguration (now (body .entry))) (now (out .exit)) r ⌝ }
 {
-    let behind = writing::put_bytes(out, from, body);
+    let behind = buffers::put_bytes(out, from, body);
     blank(out, from, body.len(), 6, true);
     let mut stand = descriptors::outside();
     let mut at = 0;
@@ -106,7 +109,7 @@ fn put_head(out: &mut [u8], at: usize, kind: u8, index: u8, size: usize) -> usiz
     requires { ⌜ size < 65536 ⌝ }
     ensures { λ r. ⌜ Wrote (now (out .entry)) at (headed kind index size) (now (out .exit)) r ⌝ }
 {
-    writing::put_bytes(
+    buffers::put_bytes(
         out,
         at,
         &[kind, index, 0, 0, (size % 256) as u8, (size / 256) as u8],
@@ -126,7 +129,7 @@ fn put_configurations(out: &mut [u8], at: usize, dump: &[u8]) -> usize
     while from < dump.len() {
         let size = size_at(dump, from);
         let here = put_head(out, next, 2, index, size);
-        next = put_configuration(out, here, pieces::head(pieces::tail(dump, from), size));
+        next = put_configuration(out, here, buffers::head(buffers::tail(dump, from), size));
         from += size;
         index += 1;
     }
@@ -141,6 +144,6 @@ pub fn put_stream(out: &mut [u8], dump: &[u8]) -> usize
     ensures { λ r. ⌜ Wrote (now (out .entry)) 0 (streamOf (piecesFor (now (dump .entry)))) (now (out .exit)) r ⌝ }
 {
     let from = put_head(out, 0, 1, 0, 18);
-    let at = put_device(out, from, pieces::head(dump, 18));
+    let at = put_device(out, from, buffers::head(dump, 18));
     put_configurations(out, at, dump)
 }

@@ -15,16 +15,11 @@ pub fn read(path: &[u8], buffer: &mut [u8]) -> usize
     size
 }
 
-// Whether the first argument is the word `super`, which names the kind of set.
-pub fn asks_super() -> bool {
-    let mut word = [0u8; 5];
-    let size = os::arg(1, &mut word);
-    (size == 5)
-        & (word[0] == b's')
-        & (word[1] == b'u')
-        & (word[2] == b'p')
-        & (word[3] == b'e')
-        & (word[4] == b'r')
+// Whether the n-th argument is this word, of at most eight letters.
+pub fn is_argument(n: usize, word: &[u8]) -> bool {
+    let mut given = [0u8; 8];
+    let size = os::arg(n, &mut given);
+    check::same(&given[..size], word)
 }
 
 pub fn say(text: &[u8]) {
@@ -33,6 +28,17 @@ pub fn say(text: &[u8]) {
 
 pub fn say_number(number: usize) {
     io::print_decimal(STDOUT_FILENO, number as u64);
+}
+
+// What a maker is told first of a refusal: its number, and the opening number that says why.
+pub fn say_refused(number: u8, opening: u8) {
+    say(b"refused ");
+    say_number(number as usize);
+    if opening != 0 {
+        say(b": the opener would refuse the set with ");
+        say_number(opening as usize);
+    }
+    say(b"\n");
 }
 
 // Writes a file anew and says so, or what stood in the way.

@@ -1,18 +1,17 @@
 -- Locality, for every event: one that concerns interface k takes its answer and k's next part from k's part and the shared fields, leaves
 -- every other interface's part, and changes the rest only by dropping what waits; one that concerns nobody answers alike, and leaves
 -- alike, records that k cannot tell apart and whose rest is the same. No axiom.
-use Prim.Native.Nat.{ℕ, _≤_}
+use Prim.Native.Nat.{ℕ}
 use native.Mathlib.Omega.{arith}
 use mathlib.Core.Path.{_≡_, refl, sym, ap, subst, _∙_}
 use mathlib.Core.Bool.{Bool, true, false, false≢true}
 use mathlib.Core.List.{List}
 use mathlib.Core.Option.{Option, some, none, Option·some-injective, Option·none-ne-some}
 use lib.Dec.{eqb, leb}
-use borrow.Author.Tests.{eqb-true, eqb-false, ne-eqb, leb-true}
+use borrow.Author.Tests.{eqb-true, eqb-false}
 use Rattle.octets.specs.Sentences.{pick, any, first, isSome}
-use Rattle.octets.proofs.Sentences.{none-first}
 use Rattle.sets.specs.Opening.{Board}
-use Rattle.sets.specs.View.{View, byValue, orNone, unconfigured}
+use Rattle.sets.specs.View.{View, byValue, unconfigured}
 use Rattle.records.specs.declared.Device.{Device}
 use Rattle.records.specs.Device.{inConfigured, nothing, testWaits, enterTestMode}
 use Rattle.records.specs.Current.{setFor, setAt, viewFor, viewAt, selectedIn, selected}
@@ -52,12 +51,6 @@ nobody-concerned (aSetup q) = go (eqb (recipient q) 1) (eqb (recipient q) 2)
     go false false = refl
 nobody-concerned (anEndpoint a) = refl
 nobody-concerned theDevice = refl
-
-module _ (set : List ℕ) (v : View) (S : Sound set v) where
-  -- no configuration has the value 0
-  pub zero-selects : (value : ℕ) → value ≡ 0 → byValue (record { 0 = value }) (v .configurations) ≡ unconfigured
-  zero-selects value z = ap orNone (none-first (λ c. eqb (c .value) value) (v .configurations)
-      (λ c m. ne-eqb (c .value) value (λ p. let l : 1 ≤ c .value = S .values c m .0 in omega arith)))
 
 -- outside Configured nothing is selected, so no event concerns anybody
 concerns-good : (v : View) (d : Device) (e : Event) → concerns v d e ≡ eventConcerns (selected v d) e

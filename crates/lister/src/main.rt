@@ -4,7 +4,7 @@ use libc::STDOUT_FILENO;
 
 // The kind of set that was asked for.
 fn kind() -> Limits {
-    if files::asks_super() {
+    if files::is_argument(1, b"super") {
         return descriptors::super_speed();
     }
     descriptors::full_speed()

@@ -23,7 +23,7 @@ use Rattle.descriptors.specs.declared.Stand.{Stand}
 use Rattle.descriptors.proofs.GoodBody.{GoodDescriptors, good-cut, good-body}
 use Rattle.descriptors.proofs.Walk.{collected-flat}
 use Rattle.descriptors.proofs.Ahead.{at-first}
-use Rattle.writing.proofs.Written.{one-more}
+use Rattle.buffers.proofs.Written.{one-more}
 
 -- ---- the fields of a line
 fields-more : (x : ℕ) (xs : List ℕ) → fields (x ∷ xs) ≡ 32 ∷ decimal x ++ fields xs

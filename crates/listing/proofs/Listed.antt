@@ -15,7 +15,7 @@ use Rattle.sets.specs.Contents.{bodies}
 use Rattle.sets.specs.Opening.{Board, opening}
 use Rattle.sets.proofs.Groups.{groups, each-rule}
 use Rattle.listing.specs.Listing.{line, refusedWord, acceptedLines, listing}
-use Rattle.writing.specs.Written.{Room, Wrote}
+use Rattle.buffers.specs.Written.{Room, Wrote}
 use Rattle.listing.specs.Listed.{room, Listed}
 use Rattle.listing.proofs.Bound.{listing-length}
 

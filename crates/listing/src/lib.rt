@@ -1,11 +1,11 @@
 // The lister's lines, written into a lent buffer. Each function writes at a place and gives the place behind what it wrote.
+use buffers::put;
+use buffers::put_bytes;
 use descriptors::Stand;
 use sets::Entry;
 use sets::contents::body_of;
 use sets::contents::count_of;
 use sets::contents::entry_at;
-use writing::put;
-use writing::put_bytes;
 ghost use mathlib.Core.Path.{_≡_};
 ghost use mathlib.Core.Bool.{true};
 ghost use mathlib.Core.List.{flatMap};
@@ -18,7 +18,7 @@ ghost use Rattle.descriptors.specs.Configuration.{goodConfiguration};
 ghost use Rattle.descriptors.specs.Walk.{settingAt};
 ghost use Rattle.sets.specs.Contents.{bodies};
 ghost use Rattle.sets.specs.Opening.{lent};
-ghost use Rattle.writing.specs.Written.{Room, Wrote};
+ghost use Rattle.buffers.specs.Written.{Room, Wrote};
 ghost use Rattle.listing.specs.Listing.{decimal, fields, line, endpointLine, configurationLines, acceptedLines};
 ghost use Rattle.listing.specs.Listed.{room, Listed};
 ghost use Rattle.listing.specs.Written.{lead, interfaceLine, lineAt, descriptorLines, entryLines, goodListed};

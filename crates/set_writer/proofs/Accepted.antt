@@ -18,17 +18,17 @@ use Rattle.sets.specs.Contents.{entries, before, total, bodiesAt, endToEnd, goo
 use Rattle.sets.specs.Opening.{lent, opening}
 use Rattle.sets.specs.Found.{isAt}
 use Rattle.sets.proofs.Groups.{groups}
-use Rattle.pieces.specs.Pieces.{ends, pieces}
+use Rattle.set_writer.specs.Pieces.{ends, pieces}
 use Rattle.sets.specs.Pieces.{Piece, pieceFor, piecesIn}
-use Rattle.pieces.specs.Sorted.{precedes, sorted}
-use Rattle.pieces.specs.Laid.{laid}
-use Rattle.pieces.specs.Shuffled.{Shuffled, onward}
-use Rattle.pieces.proofs.Ascending.{Ascends, neighbours-ascend}
-use Rattle.pieces.proofs.Order.{shuffled, sorted-is, before-map}
-use Rattle.pieces.proofs.Precedes.{transitive, unlike}
-use Rattle.pieces.proofs.ReadBack.{read-back}
-use Rattle.pieces.proofs.Shuffled.{back}
-use Rattle.pieces.proofs.Sizes.{sorted-length}
+use Rattle.set_writer.specs.Sorted.{precedes, sorted}
+use Rattle.set_writer.specs.Laid.{laid}
+use Rattle.set_writer.specs.Shuffled.{Shuffled, onward}
+use Rattle.set_writer.proofs.Ascending.{Ascends, neighbours-ascend}
+use Rattle.set_writer.proofs.Order.{shuffled, sorted-is, before-map}
+use Rattle.set_writer.proofs.Precedes.{transitive, unlike}
+use Rattle.set_writer.proofs.ReadBack.{read-back}
+use Rattle.set_writer.proofs.Shuffled.{back}
+use Rattle.set_writer.proofs.Sizes.{sorted-length}
 use Rattle.set_writer.specs.Writer.{setOf, tooLarge, opensAs, handing, writing}
 
 -- ---- members of a list of images

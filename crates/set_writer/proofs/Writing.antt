@@ -14,16 +14,16 @@ use Rattle.octets.specs.Sentences.{pick}
 use Rattle.octets.proofs.Sentences.{or-left, or-right}
 use Rattle.descriptors.specs.declared.Limits.{Limits}
 use Rattle.sets.specs.Opening.{lent, opening}
-use Rattle.pieces.specs.declared.Counted.the-variants.{Broken, Pieces}
-use Rattle.pieces.specs.Pieces.{ends, pieces}
+use Rattle.set_writer.specs.declared.pieces.Counted.the-variants.{Broken, Pieces}
+use Rattle.set_writer.specs.Pieces.{ends, pieces}
 use Rattle.sets.specs.Pieces.{Piece}
-use Rattle.pieces.specs.Sorted.{sorted}
-use Rattle.pieces.specs.Laid.{total, laid}
-use Rattle.pieces.proofs.Laid.{laid-parts, laid-length}
-use Rattle.pieces.proofs.Stream.{two-bytes}
-use Rattle.pieces.proofs.Sizes.{set-size}
-use Rattle.pieces.specs.Places.{countOf, piecesAt}
-use Rattle.writing.specs.Written as written
+use Rattle.set_writer.specs.Sorted.{sorted}
+use Rattle.set_writer.specs.Laid.{total, laid}
+use Rattle.set_writer.proofs.Laid.{laid-parts, laid-length}
+use Rattle.set_writer.proofs.Stream.{two-bytes}
+use Rattle.set_writer.proofs.Sizes.{set-size}
+use Rattle.set_writer.specs.Places.{countOf, piecesAt}
+use Rattle.buffers.specs.Written as written
 use Rattle.set_writer.specs.declared.Report.{Report}
 use Rattle.set_writer.specs.Writer.{setOf, tooLarge, Filled, lengthWritten}
 use Rattle.set_writer.specs.Reported.{Handed, Reported}

@@ -7,7 +7,7 @@ use lib.ListN.{length}
 use Rattle.octets.specs.Sentences.{pick}
 use Rattle.descriptors.specs.declared.Limits.{Limits}
 use Rattle.sets.specs.Opening.{lent, opening}
-use Rattle.pieces.specs.Pieces.{ends}
+use Rattle.set_writer.specs.Pieces.{ends}
 use Rattle.set_writer.specs.declared.Report.{Report}
 use Rattle.set_writer.specs.Writer.{setOf, tooLarge, handing, writing, Filled}
 

@@ -9,9 +9,9 @@ use Rattle.octets.specs.Octets.{word}
 use Rattle.octets.specs.Sentences.{pick}
 use Rattle.descriptors.specs.declared.Limits.{Limits}
 use Rattle.sets.specs.Opening.{lent, opening}
-use Rattle.pieces.specs.Pieces.{ends, pieces}
-use Rattle.pieces.specs.Sorted.{sorted}
-use Rattle.pieces.specs.Laid.{laid}
+use Rattle.set_writer.specs.Pieces.{ends, pieces}
+use Rattle.set_writer.specs.Sorted.{sorted}
+use Rattle.set_writer.specs.Laid.{laid}
 
 -- "have the set written .., sorted, with offsets filled in": the set of a stream of pieces
 abbrev pub setOf : List ℕ → List ℕ

@@ -1,15 +1,19 @@
 // The set writer: pieces end to end, in any order, become a set in a lent buffer.
+use crate::pieces::Counted;
 use descriptors::Limits;
-use pieces::Counted;
 ghost use mathlib.Core.Path.{_≡_};
 ghost use mathlib.Core.Bool.{true};
 ghost use Prim.Native.Nat.{_≤_};
 ghost use lib.ListN.{length};
-ghost use Rattle.pieces.specs.Pieces.{ends, pieces};
-ghost use Rattle.pieces.specs.Laid.{total};
-ghost use Rattle.pieces.specs.Sorted.{sorted};
+ghost use Rattle.set_writer.specs.Pieces.{ends, pieces};
+ghost use Rattle.set_writer.specs.Laid.{total};
+ghost use Rattle.set_writer.specs.Sorted.{sorted};
 ghost use Rattle.set_writer.specs.Writer.{setOf, lengthWritten};
 ghost use Rattle.set_writer.specs.Reported.{Handed, Reported};
+
+mod layout;
+pub mod pieces;
+mod sorting;
 
 // What the writer answers: its number, and the opening number of the set that the pieces make, which says why 21; 0 where no set was made.
 pub struct Report {
@@ -55,7 +59,7 @@ fn assemble(
     ensures { λ r. ⌜ Handed limits (setOf (now (stream .entry))) (now (serial .entry)) (now (out .entry)) (now (out .exit)) r ⌝ }
 {
     let mut order = [0usize; 64];
-    pieces::sorting::sort(stream, &mut order);
+    sorting::sort(stream, &mut order);
     let mut scratch = [0u8; 16384];
     layout::lay(&mut scratch, stream, &order[0..n], size);
     hand_over(&scratch[0..size], serial, limits, out)

@@ -14,8 +14,8 @@ use Rattle.octets.proofs.Sentences.{both, cases}
 use Rattle.sets.specs.declared.Entry.{Entry}
 use Rattle.sets.specs.Contents.{bodyOf, endToEnd}
 use Rattle.sets.proofs.Entries.{only-here, only-later, only-empty}
-use Rattle.pieces.proofs.Laid.{bodies-none, bodies-more}
-use Rattle.writing.specs.Written.{Wrote}
+use Rattle.set_writer.proofs.Laid.{bodies-none, bodies-more}
+use Rattle.buffers.specs.Written.{Wrote}
 use Rattle.sets.specs.Pieces.{pieceFor}
 use Rattle.trimming.specs.Entries.{entryWith, contentsWith, lengths, bodiesWith}
 

@@ -9,8 +9,8 @@ use Rattle.descriptors.specs.declared.Limits.{Limits}
 use Rattle.sets.specs.Contents.{entries}
 use Rattle.sets.specs.Opening.{lent, opening}
 use Rattle.sets.specs.Pieces.{Piece, pieceFor}
-use Rattle.pieces.specs.Laid.{laid}
-use Rattle.keeping.specs.Keeping.{kept}
+use Rattle.set_writer.specs.Laid.{laid}
+use Rattle.trimming.specs.Keeping.{kept}
 
 -- the entries that stay, with their bodies
 abbrev pub keptPieces : List ℕ → List Piece

@@ -1,6 +1,6 @@
 // Trimming: the strings of a set that nothing names are dropped, in the set's own buffer.
+use crate::keeping::keeps;
 use descriptors::Limits;
-use keeping::keeps;
 use sets::Entry;
 use sets::contents::entry_at;
 ghost use mathlib.Core.Path.{_≡_};
@@ -10,13 +10,14 @@ ghost use Prim.Native.Nat.{_+_, _-_, _<_, _≤_};
 ghost use lib.ListN.{length, replicate};
 ghost use Rattle.octets.specs.Sentences.{only};
 ghost use Rattle.sets.specs.Contents.{entries, bodiesAt, endToEnd, goodFrame};
-ghost use Rattle.pieces.specs.Laid.{laid};
+ghost use Rattle.set_writer.specs.Laid.{laid};
 ghost use Rattle.sets.specs.Pieces.{pieceFor};
-ghost use Rattle.writing.specs.Written.{Room, Wrote};
-ghost use Rattle.keeping.specs.Keeping.{keepsBy};
+ghost use Rattle.buffers.specs.Written.{Room, Wrote};
+ghost use Rattle.trimming.specs.Keeping.{keepsBy};
 ghost use Rattle.trimming.specs.Entries.{entryWith, contentsWith, lengths, bodiesWith};
 ghost use Rattle.trimming.specs.Trim.{padded, Trims};
 
+mod keeping;
 mod sliding;
 
 // How many entries stay.
@@ -44,7 +45,7 @@ fn put_entry(out: &mut [u8], at: usize, e: Entry, offset: usize) -> usize
 {
     let language = e.language;
     let size = e.length;
-    writing::put_bytes(
+    buffers::put_bytes(
         out,
         at,
         &[
@@ -119,7 +120,7 @@ fn put_zeros(out: &mut [u8], at: usize) -> usize
 {
     let mut next = at;
     while next < out.len() {
-        next = writing::put(out, next, 0);
+        next = buffers::put(out, next, 0);
     }
     next
 }
@@ -138,7 +139,7 @@ fn rebuild(set: &mut [u8], names: &[u32; 8], zero: bool)
     let next = put_contents(set, 4, start, &contents, names, zero);
     let end = put_bodies(set, next, &contents, names, zero);
     put_zeros(set, end);
-    writing::put_bytes(
+    buffers::put_bytes(
         set,
         0,
         &[(end % 256) as u8, (end / 256) as u8, count as u8, 0],

@@ -35,7 +35,7 @@ pub enum Call {
     /// On a row of records, which stand aligned.
     Port { row: Vec<u8>, port: u64, number: u8, value: u8, setup: Vec<u8> },
     TwoPort { row: Vec<u8>, port: u64, number: u8, value: u8, setup: Vec<u8> },
-    /// The number alone: which rule is tests/broken.py's to say.
+    /// The number alone: which rule is tests/makers/broken.py's to say.
     Explain,
 }
 

@@ -1,4 +1,4 @@
-//! The bytes that go through the pipes between this program and the harness; tests/harness.c speaks the same.
+//! The bytes that go through the pipes between this program and the harness; tools/harness.c speaks the same.
 //!
 //! A command is an operation, a byte of placement flags, and what the operation takes; numbers are little-endian, a block
 //! is four bytes of length and its bytes:
@@ -20,7 +20,7 @@
 //!     f image                hk_super_open                 F pieces buffer   hk_super_write, as hk_write
 //!     i dump buffer          hk_import, in the same way    x buffer       hk_export
 //!     t set                  hk_trim: length is the total, the image is the set
-//!     X                      hk_explain: the bytes are the rule, the offset is the place (tests/explained asks it)
+//!     X                      hk_explain: the bytes are the rule, the offset is the place (tests/makers/explained asks it)
 //!
 //! Each call is answered with error(1) number(1) count(1) bytes(2) block(1) offset(4) length(4) and the image as a block.
 

@@ -4,7 +4,7 @@ use native.Mathlib.Omega.{arith}
 use mathlib.Core.Path.{_≡_, refl, sym, ap, _∙_}
 use mathlib.Core.Bool.{true}
 use lib.ListN.{length, take, drop}
-use Rattle.writing.proofs.Written.{Going, begun, room-for, next, done, same}
+use Rattle.buffers.proofs.Written.{Going, begun, room-for, next, done, same}
 use Rattle.dumps.specs.Dump.{configurationsIn}
 use Rattle.dumps.specs.Zeroed.{zeroedConfiguration}
 use Rattle.dumps.specs.Imported.{headed}

@@ -2,7 +2,7 @@
 use native.Mathlib.Omega.{arith}
 use mathlib.Core.Path.{refl}
 use mathlib.Core.List.{[], _∷_}
-use Rattle.writing.proofs.Written.{begun, room-for, next}
+use Rattle.buffers.proofs.Written.{begun, room-for, next}
 use Rattle.dumps.specs.Dump.{deviceIn}
 use Rattle.dumps.specs.Zeroed.{zeroedDevice}
 use Rattle.dumps.specs.Imported.{headed}

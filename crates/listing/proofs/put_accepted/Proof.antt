@@ -5,8 +5,8 @@ use Prim.Native.Nat.{ℕ}
 use lib.ListN.{length, length-map}
 use Rattle.sets.specs.Contents.{bodyOf, bodies, entriesOf}
 use Rattle.listing.specs.Listing.{line, acceptedWord, configurationLines}
-use Rattle.writing.specs.Written.{Wrote}
-use Rattle.writing.proofs.Written.{begun, room-for, next, wrote-both}
+use Rattle.buffers.specs.Written.{Wrote}
+use Rattle.buffers.proofs.Written.{begun, room-for, next, wrote-both}
 use borrow.Author.Needs.{needs}
 use Rattle.listing.proofs.put_accepted.Statement.{statement}
 use Rattle.listing.proofs.put_accepted.Tie as tie

@@ -1,7 +1,7 @@
 -- `listing::put_configuration` meets its contract: its own line, and those of its descriptors. No axiom.
-use Rattle.writing.specs.Written.{Wrote}
+use Rattle.buffers.specs.Written.{Wrote}
 use Rattle.listing.specs.Written.{descriptorLines}
-use Rattle.writing.proofs.Written.{begun, room-for, next, wrote-both}
+use Rattle.buffers.proofs.Written.{begun, room-for, next, wrote-both}
 use Rattle.descriptors.proofs.GoodBody.{good-cut}
 use Rattle.listing.proofs.Lines.{headLine, configuration-lines}
 use borrow.Author.Needs.{needs}

@@ -10,7 +10,7 @@ use Rattle.sets.proofs.Entries.{rest}
 use Rattle.listing.specs.Listing.{configurationLines}
 use Rattle.descriptors.specs.declared.Limits.{Limits}
 use Rattle.listing.specs.Written.{entryLines, goodListed}
-use Rattle.writing.proofs.Written.{Going, begun, room-for, next, done, same}
+use Rattle.buffers.proofs.Written.{Going, begun, room-for, next, done, same}
 use Rattle.listing.proofs.Lines.{entry-lines, entries-good, next-entry-lines, next-good, no-entry-lines}
 use Rattle.listing.proofs.put_configurations.Statement.{statement}
 use Rattle.listing.proofs.put_configurations.Tie as tie

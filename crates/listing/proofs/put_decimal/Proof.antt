@@ -5,7 +5,7 @@ use mathlib.Core.List.{[]}
 use borrow.Author.Needs.{needs}
 use Rattle.listing.specs.Listing.{decimal}
 use Rattle.listing.specs.Written.{lead}
-use Rattle.writing.proofs.Written.{Going, begun, room-for, next, done}
+use Rattle.buffers.proofs.Written.{Going, begun, room-for, next, done}
 use Rattle.listing.proofs.Decimal.{last, lastTwo, lastThree, lastFour, spelled}
 use Rattle.listing.proofs.put_decimal.Statement.{statement}
 use Rattle.listing.proofs.put_decimal.Tie as tie

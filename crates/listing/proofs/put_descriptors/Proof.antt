@@ -9,7 +9,7 @@ use Rattle.descriptors.specs.Walk.{collected}
 use Rattle.descriptors.proofs.Walk.{spanned, collect-end, collect-on}
 use Rattle.descriptors.proofs.Ahead.{Place, Turn, at-first, steps, turn}
 use Rattle.listing.specs.Written.{telling, descriptorLines}
-use Rattle.writing.proofs.Written.{Going, begun, room-for, next, done, same}
+use Rattle.buffers.proofs.Written.{Going, begun, room-for, next, done, same}
 use Rattle.listing.proofs.put_descriptors.Statement.{statement}
 use Rattle.listing.proofs.put_descriptors.Tie as tie
 

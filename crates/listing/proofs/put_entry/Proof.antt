@@ -3,7 +3,7 @@ use borrow.Author.Tests.{eq-eqb, ne-eqb}
 use Rattle.octets.proofs.Sentences.{if-then}
 use Rattle.descriptors.specs.Configuration.{goodConfiguration}
 use Rattle.sets.specs.Contents.{isKind, bodyOf}
-use Rattle.writing.proofs.Written.{wrote-nothing}
+use Rattle.buffers.proofs.Written.{wrote-nothing}
 use borrow.Author.Needs.{needs}
 use Rattle.listing.proofs.put_entry.Statement.{statement}
 use Rattle.listing.proofs.put_entry.Tie as tie

@@ -6,7 +6,7 @@ use mathlib.Core.List.{[], _∷_, _++_}
 use lib.ListN.{length, drop, getD}
 use borrow.Author.Needs.{needs}
 use Rattle.listing.specs.Listing.{decimal, fields}
-use Rattle.writing.proofs.Written.{Going, begun, room-for, next, done, same}
+use Rattle.buffers.proofs.Written.{Going, begun, room-for, next, done, same}
 use Rattle.listing.proofs.Lines.{next-field, no-field}
 use Rattle.listing.proofs.put_fields.Statement.{statement}
 use Rattle.listing.proofs.put_fields.Tie as tie

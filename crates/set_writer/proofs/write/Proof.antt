@@ -1,7 +1,7 @@
 -- `set_writer::write` meets its contract, answer by answer. No axiom.
 use native.Mathlib.Omega.{arith}
 use mathlib.Core.Path.{sym, _∙_}
-use Rattle.pieces.proofs.Sizes.{set-size}
+use Rattle.set_writer.proofs.Sizes.{set-size}
 use Rattle.set_writer.proofs.Writing.{broken, whole, set-length, not-whole, many, large, fitting}
 use borrow.Author.Needs.{needs}
 use Rattle.set_writer.proofs.write.Statement.{statement}

@@ -9,7 +9,7 @@ use borrow.Author.Needs.{needs}
 use Rattle.octets.specs.Sentences.{only}
 use Rattle.sets.specs.Contents.{entries}
 use Rattle.sets.proofs.Entries.{rest, rest-start, next-entry, no-entry}
-use Rattle.keeping.specs.Keeping.{keepsBy}
+use Rattle.trimming.specs.Keeping.{keepsBy}
 use Rattle.trimming.proofs.Moving.{stays, goes, none-left}
 use Rattle.trimming.proofs.count_kept.Statement.{statement}
 use Rattle.trimming.proofs.count_kept.Tie as tie

@@ -10,8 +10,8 @@ use Rattle.octets.specs.Octets.{part}
 use Rattle.octets.specs.Sentences.{only}
 use Rattle.sets.specs.Contents.{entries, endToEnd}
 use Rattle.sets.proofs.Entries.{rest, rest-start, next-entry, no-entry}
-use Rattle.writing.proofs.Written.{Going, begun, next, done, same}
-use Rattle.keeping.specs.Keeping.{keepsBy}
+use Rattle.buffers.proofs.Written.{Going, begun, next, done, same}
+use Rattle.trimming.specs.Keeping.{keepsBy}
 use Rattle.trimming.specs.Entries.{bodiesWith}
 use Rattle.trimming.proofs.Moving.{goes, none-left, bodies-here, bodies-end, next-body, still, moved-text, room-bodies, moved-behind}
 use Rattle.trimming.proofs.put_bodies.Statement.{statement}

@@ -7,8 +7,8 @@ use borrow.Author.Needs.{needs}
 use Rattle.octets.specs.Sentences.{only}
 use Rattle.sets.specs.Contents.{entries}
 use Rattle.sets.proofs.Entries.{rest, rest-start, next-entry, no-entry}
-use Rattle.writing.proofs.Written.{Going, begun, room-for, next, done, same}
-use Rattle.keeping.specs.Keeping.{keepsBy}
+use Rattle.buffers.proofs.Written.{Going, begun, room-for, next, done, same}
+use Rattle.trimming.specs.Keeping.{keepsBy}
 use Rattle.trimming.specs.Entries.{entryWith, contentsWith, lengths}
 use Rattle.trimming.proofs.Moving.{stays, goes, none-left, contents-more, contents-none, lengths-more}
 use Rattle.trimming.proofs.put_contents.Statement.{statement}

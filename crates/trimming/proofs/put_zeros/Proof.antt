@@ -4,7 +4,7 @@ use native.Mathlib.Omega.{arith}
 use mathlib.Core.List.{[], _∷_}
 use mathlib.Core.Path.{ap, _∙_}
 use lib.ListN.{length, replicate}
-use Rattle.writing.proofs.Written.{Going, begun, room-for, next, done, same}
+use Rattle.buffers.proofs.Written.{Going, begun, room-for, next, done, same}
 use Rattle.trimming.proofs.Moving.{room-zeros, zeros-more, zeros-none}
 use lib.Seq.{length-sets}
 use Rattle.trimming.proofs.put_zeros.Statement.{statement}

@@ -7,9 +7,9 @@ use lib.ListN.{length, replicate}
 use borrow.Author.Needs.{needs}
 use Rattle.octets.specs.Sentences.{only}
 use Rattle.sets.specs.Contents.{entries, bodiesAt}
-use Rattle.pieces.specs.Laid.{laid}
+use Rattle.set_writer.specs.Laid.{laid}
 use Rattle.sets.specs.Pieces.{pieceFor}
-use Rattle.keeping.specs.Keeping.{keepsBy}
+use Rattle.trimming.specs.Keeping.{keepsBy}
 use Rattle.trimming.specs.Trim.{padded}
 use Rattle.trimming.proofs.Moving.{length-take-le-any}
 use Rattle.trimming.proofs.Rebuilding.{Ready, framed, prepared, copied-entries, less, contents-room, contents-small, bodies-at, ends-still, end-in, end-small, header-room, rebuilt}

@@ -1,4 +1,5 @@
 -- `board::makers::hk_import` meets its contract: import's own, and the set's length. No axiom.
+use native.Mathlib.Omega.{arith}
 use mathlib.Core.Path.{_∙_}
 use borrow.Author.Needs.{needs}
 use Rattle.dumps.specs.Imported.{piecesFor}
@@ -19,7 +20,7 @@ returns : tie.Need-returns
 returns c =
     let s = c .before .before .before .before .before .before .before .before in
     let w = c .before .before .before .before .import .ensures .fills in
-    record { fills = w; counts = c .length-written .ensures ∙ counted (piecesFor (s .args .dump .now)) w }
+    record { fills = w; counts = c .length-written .ensures ∙ counted (piecesFor (s .args .dump .now)) w; octets = λ k. omega (arith, c .before .before .before .before .before .before .before .shared-slice-known .given k) }
 
 pub hk-import-spec : {M : Type 1} → statement M
 hk-import-spec = tie.close (tie.spec import-requires length-written-requires same-length returns)

@@ -1,4 +1,5 @@
 -- `board::makers::hk_trim` meets its contract: trim's own, at full speed, and the set's length. No axiom.
+use native.Mathlib.Omega.{arith}
 use mathlib.Core.Path.{_∙_}
 use borrow.Author.Needs.{needs}
 use Rattle.descriptors.specs.Limits.{fullSpeed}
@@ -21,7 +22,7 @@ same-length c = search needs
 returns : tie.Need-returns
 returns c =
     let t = rw (c .before .before .before .before .before .full-speed .ensures) at (c .before .before .before .before .trim .ensures) in
-    record { trims = t; counts = c .length-written .ensures ∙ totalled fullSpeed t }
+    record { trims = t; counts = c .length-written .ensures ∙ totalled fullSpeed t; octets = λ k. omega (arith, c .before .before .before .before .before .before .before .before .slice-known .given k) }
 
 pub hk-trim-spec : {M : Type 1} → statement M
 hk-trim-spec =

@@ -1,0 +1,92 @@
+-- `dumps::export::export` meets its contract: refused, too short, or one copy. No axiom.
+use native.Mathlib.Omega.{arith}
+use Rattle.dumps.proofs.Together.{refused, fits, small, short, given}
+use borrow.Author.Needs.{needs}
+use Rattle.dumps.proofs.export.export.Statement.{statement}
+use Rattle.dumps.proofs.export.export.Tie as tie
+
+full-speed-requires : tie.Need-full-speed-requires
+full-speed-requires c κs = search needs
+
+opening-requires : tie.Need-opening-requires
+opening-requires c κs = search needs
+
+returns : tie.Need-returns
+returns c =
+    let a = c .before .before .before .before .before .before .args in
+    refused (a .set .now) (a .serial .now) (a .out .now) _ (rw (c .before .before .full-speed .ensures) at (c .before .opening .ensures)) (c .if1 .taken)
+
+peek-requires : tie.Need-peek-requires
+peek-requires c κs = search needs
+
+cast-start : tie.Need-cast-start
+cast-start c = search needs
+
+mul-start : tie.Need-mul-start
+mul-start c = search needs
+
+add-start : tie.Need-add-start
+add-start c = search needs
+
+size-of-requires : tie.Need-size-of-requires
+size-of-requires c κs = search needs
+
+returns-2 : tie.Need-returns-2
+returns-2 c =
+    let a = c .before .before .before .before .before .before .before .before .before .args in
+    short (a .set .now) (a .serial .now) (a .out .now) _ (rw (c .before .before .before .before .before .full-speed .ensures) at (c .before .before .before .before .opening .ensures)) (c .before .before .before .if1 .left) _ (c .before .before .peek .ensures) _ (c .before .size-of .ensures) (c .if2 .taken)
+
+add-copy : tie.Need-add-copy
+add-copy c = search needs
+
+sub-copy : tie.Need-sub-copy
+sub-copy c = search needs
+
+part-copy-start : tie.Need-part-copy-start
+part-copy-start c = search needs
+
+part-copy-end : tie.Need-part-copy-end
+part-copy-end c =
+    let a = c .before .before .before .before .before .before .before .before .before .args in
+    let h = fits (a .set .now) (a .serial .now) (a .out .now) _ (rw (c .before .before .before .before .before .full-speed .ensures) at (c .before .before .before .before .opening .ensures)) (c .before .before .before .if1 .left) _ (c .before .before .peek .ensures) _ (c .before .size-of .ensures) in
+    omega (arith, h)
+
+copy-requires : tie.Need-copy-requires
+copy-requires c κs = search needs
+
+cast-written : tie.Need-cast-written
+cast-written c =
+    let a = c .before .before .before .before .before .before .before .before .before .before .before .before .before .before .args in
+    let opened = rw (c .before .before .before .before .before .before .before .before .before .before .full-speed .ensures) at (c .before .before .before .before .before .before .before .before .before .opening .ensures) in
+    let h = small (a .set .now) (a .serial .now) (a .out .now) _ opened (c .before .before .before .before .before .before .before .before .if1 .left) _ (c .before .before .before .before .before .before .before .peek .ensures) _ (c .before .before .before .before .before .before .size-of .ensures) in
+    omega (arith, h)
+
+same-length : tie.Need-same-length
+same-length c = search needs
+
+returns-3 : tie.Need-returns-3
+returns-3 c =
+    let a = c .before .before .before .before .before .before .before .before .before .before .before .before .before .before .args in
+    given (a .set .now) (a .serial .now) (a .out .now) _ (rw (c .before .before .before .before .before .before .before .before .before .before .full-speed .ensures) at (c .before .before .before .before .before .before .before .before .before .opening .ensures)) (c .before .before .before .before .before .before .before .before .if1 .left) _ (c .before .before .before .before .before .before .before .peek .ensures) _ (c .before .before .before .before .before .before .size-of .ensures) (c .before .before .before .before .before .if2 .left) (c .before .before .copy .ensures .1)
+
+pub export-spec : {M : Type 1} → statement M
+export-spec =
+    tie.close
+    (tie.spec
+    full-speed-requires
+    opening-requires
+    returns
+    peek-requires
+    cast-start
+    mul-start
+    add-start
+    size-of-requires
+    returns-2
+    add-copy
+    sub-copy
+    part-copy-start
+    part-copy-end
+    copy-requires
+    cast-written
+    same-length
+    returns-3)

@@ -1,0 +1,77 @@
+-- `dumps::export::size_of` meets its contract: what is counted and what is left is all. No axiom.
+use Prim.Native.Nat.{_+_, _-_, _*_, _≤_}
+use native.Mathlib.Nat.{zero-add}
+use native.Mathlib.Omega.{arith}
+use mathlib.Core.Path.{_≡_, ap, _∙_}
+use mathlib.Core.List.{[], _∷_}
+use Rattle.sets.specs.Contents.{entries}
+use Rattle.sets.proofs.Entries.{rest, rest-start, next-entry, no-entry}
+use Rattle.dumps.specs.Export.{shares}
+use Rattle.dumps.proofs.Together.{shares-more, shares-none}
+use borrow.Author.Needs.{needs}
+use Rattle.dumps.proofs.export.size_of.Statement.{statement}
+use Rattle.dumps.proofs.export.size_of.Tie as tie
+
+abbrev Inv-loop : tie.InvT-loop
+Inv-loop set count size₀ i₀ size i = (size ≤ 65536 * i) × (shares (entries set) ≡ size + shares (rest set i))
+
+abbrev μ-loop : tie.MeasureT-loop
+μ-loop set count size₀ i₀ size i = count - i
+
+-- the entries from here on, where one is left and where none is
+turn : (c : tie.After-entry-at Inv-loop μ-loop)
+    → rest (c .before .before .before .before .before .args .set .now) (c .before .before .loop .i)
+    ≡ c .entry-at .result ∷ rest (c .before .before .before .before .before .args .set .now) (c .before .before .loop .i + 1)
+turn c =
+    next-entry (c .before .before .before .before .before .args .set .now) (c .before .before .before .peek .result) (c .before .before .before .peek .ensures)
+    (c .before .before .loop .i) (c .before .loop-test .taken) (c .entry-at .result) (c .entry-at .ensures)
+
+end : (c : tie.After-loop Inv-loop μ-loop) → rest (c .before .before .before .before .args .set .now) (c .before .loop .i) ≡ []
+end c =
+    no-entry (c .before .before .before .before .args .set .now) (c .before .before .peek .result) (c .before .before .peek .ensures) (c .before .loop .i) (c .loop-test .left)
+
+peek-requires : tie.Need-peek-requires Inv-loop μ-loop
+peek-requires c κs = search needs
+
+loop-holds : tie.Need-loop-holds Inv-loop μ-loop
+loop-holds c = let a = c .before .before .args in (omega arith, rw zero-add (ap shares (rest-start (a .set .now))))
+
+entry-at-requires : tie.Need-entry-at-requires Inv-loop μ-loop
+entry-at-requires c κs = search needs
+
+share-of-requires : tie.Need-share-of-requires Inv-loop μ-loop
+share-of-requires c κs = search needs
+
+add-size : tie.Need-add-size Inv-loop μ-loop
+add-size c = omega (arith, c .share-of .ensures .1)
+
+add-i : tie.Need-add-i Inv-loop μ-loop
+add-i c = search needs
+
+loop-less : tie.Need-loop-less Inv-loop μ-loop
+loop-less c = search needs
+
+loop-again : tie.Need-loop-again Inv-loop μ-loop
+loop-again c = (
+  omega (arith, c .share-of .ensures .1),
+  omega (arith, c .before .before .before .loop .inv .1, c .share-of .ensures .0, ap shares (turn (c .before)) ∙ shares-more _ _),
+)
+
+returns : tie.Need-returns Inv-loop μ-loop
+returns c = omega (arith, c .before .loop .inv .1, ap shares (end c) ∙ shares-none)
+
+pub size-of-spec : {M : Type 1} → statement M
+size-of-spec =
+    tie.close
+    (tie.spec
+    Inv-loop
+    μ-loop
+    peek-requires
+    loop-holds
+    entry-at-requires
+    share-of-requires
+    add-size
+    add-i
+    loop-less
+    loop-again
+    returns)

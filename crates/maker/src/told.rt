@@ -1,0 +1,172 @@
+// What a maker is told of a refusal: its number, why, and each piece that stands in the way, counted from 1, with its place in pieces.bin.
+use descriptors::Limits;
+use files::say;
+use files::say_number;
+ghost use Prim.Native.Nat.{_<_, _≤_};
+ghost use lib.ListN.{length};
+
+// Where the piece behind the one at a place begins; the stream's end, where that one does not end.
+fn next(stream: &[u8], at: usize) -> usize
+    requires { ⌜ at < length (now stream) ⌝ }
+    ensures { λ r. ⌜ (at < r) × (r ≤ length (now (stream .entry))) ⌝ }
+{
+    let size = set_writer::pieces::size_at(stream, at);
+    if stream.len() - at < size {
+        return stream.len();
+    }
+    at + size
+}
+
+fn is_alike(stream: &[u8], x: usize, y: usize) -> bool {
+    let p = buffers::tail(stream, x);
+    let q = buffers::tail(stream, y);
+    (octets::word(p, 0) == octets::word(q, 0)) & (octets::word(p, 2) == octets::word(q, 2))
+}
+
+// The place of the first piece with this one's type, index and language: an earlier one's, or its own.
+fn first_alike(stream: &[u8], at: usize) -> usize {
+    let mut from = 0;
+    while from < stream.len() {
+        if is_alike(stream, from, at) {
+            return from;
+        }
+        from = next(stream, from);
+    }
+    at
+}
+
+fn say_piece(n: usize, at: usize, what: &[u8]) {
+    say(b"    piece ");
+    say_number(n);
+    say(b" at byte ");
+    say_number(at);
+    say(what);
+}
+
+// 20: the piece that does not end.
+fn tell_broken(stream: &[u8], n: usize, at: usize) {
+    let size = set_writer::pieces::size_at(stream, at);
+    let left = buffers::tail(stream, at).len();
+    if left < size {
+        say_piece(n, at, b" should have ");
+        say_number(size);
+        say(b" bytes, and ");
+        say_number(left);
+        say(b" are left\n");
+    }
+}
+
+// 21, and no set is made: the first piece that is too much.
+fn tell_large(n: usize, at: usize, end: usize) {
+    if n == 65 {
+        return say_piece(n, at, b" is one too many: a set has at most 64\n");
+    }
+    if n < 65 {
+        // Where n pieces may end in the stream: each has 6 bytes of its own there, and 8 in the set behind the first 4.
+        let room = 16380 - 2 * n;
+        if (at <= room + 2) & (room < end) {
+            say_piece(
+                n,
+                at,
+                b" is too much: with it the set has over 16,384 bytes\n",
+            );
+        }
+    }
+}
+
+fn has_store(limits: Limits) -> bool {
+    descriptors::check::is_named(limits.entries, 15)
+}
+
+// The last of the types that a kind of set has.
+fn say_last(store: bool) {
+    if store {
+        return say(b", 3 and 15\n");
+    }
+    say(b" and 3\n");
+}
+
+// 21, and the opener would say 2: offsets and order are the writer's, so it is the type, the length, or a piece that was there before.
+fn tell_entry(stream: &[u8], n: usize, at: usize, limits: Limits) {
+    let kind = octets::peek(buffers::tail(stream, at), 0);
+    if !descriptors::check::is_named(limits.entries, kind) {
+        say_piece(n, at, b" has a type other than 1, 2");
+        say_last(has_store(limits));
+    }
+    if set_writer::pieces::body_at(stream, at).len() < 2 {
+        say_piece(n, at, b" has a body of less than 2 bytes\n");
+    }
+    let first = first_alike(stream, at);
+    if first != at {
+        say_piece(
+            n,
+            at,
+            b" has the type, index and language of the one at byte ",
+        );
+        say_number(first);
+        say(b"\n");
+    }
+}
+
+// 21, and the opener would say 3, 4 or 5: the pieces of that type; of the configurations those that break a rule by themselves.
+fn tell_body(stream: &[u8], n: usize, at: usize, opening: u8, limits: Limits) {
+    let kind = octets::peek(buffers::tail(stream, at), 0);
+    if (opening == 3) & (kind == 1) {
+        say_piece(n, at, b" is a device\n");
+    }
+    if (opening == 3) & (kind == 15) {
+        say_piece(n, at, b" is a BOS\n");
+    }
+    if (opening == 5) & (kind == 3) {
+        say_piece(n, at, b" is a string\n");
+    }
+    if (opening == 4) & (kind == 2) {
+        let body = set_writer::pieces::body_at(stream, at);
+        let verdict = descriptors::check::good_configuration(body, limits, &[0; 8]);
+        if verdict.good {
+            return say_piece(n, at, b" is a configuration, good by itself\n");
+        }
+        say_piece(n, at, b" is a configuration that breaks a rule by itself\n");
+    }
+}
+
+fn tell_piece(stream: &[u8], n: usize, at: usize, number: u8, opening: u8, limits: Limits)
+    requires { ⌜ at < length (now stream) ⌝ }
+{
+    if number == 20 {
+        return tell_broken(stream, n, at);
+    }
+    if opening == 0 {
+        return tell_large(n, at, next(stream, at));
+    }
+    if opening == 2 {
+        return tell_entry(stream, n, at, limits);
+    }
+    tell_body(stream, n, at, opening, limits);
+}
+
+fn tell_pieces(stream: &[u8], number: u8, opening: u8, limits: Limits) {
+    let mut n = 1;
+    let mut at = 0;
+    while at < stream.len() {
+        tell_piece(stream, n, at, number, opening, limits);
+        at = next(stream, at);
+        n += 1;
+    }
+}
+
+pub fn refused(stream: &[u8], number: u8, opening: u8, limits: Limits) {
+    files::say_refused(number, opening);
+    if stream.len() == 0 {
+        say(b"    there are no pieces\n");
+    }
+    if (opening == 3) & has_store(limits) {
+        say(
+            b"    a SuperSpeed set has one device, and one BOS of at least 5 bytes with its length in bytes 2 and 3\n",
+        );
+    }
+    if opening == 6 {
+        say(b"    unit.bin is not the serial block that the device asks for\n");
+    }
+    tell_pieces(stream, number, opening, limits);
+}

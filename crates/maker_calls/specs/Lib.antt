@@ -1,0 +1,5 @@
+pub mod Trimmed
+pub mod Explained
+pub mod Dumped
+pub mod Written
+pub mod Example

@@ -1,0 +1,2 @@
+pub mod TrimRequests
+pub mod RuleNamed

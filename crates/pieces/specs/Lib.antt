@@ -1,5 +1,0 @@
-pub mod Pieces
-pub mod Sorted
-pub mod Laid
-pub mod Shuffled
-pub mod Places

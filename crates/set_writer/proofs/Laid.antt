@@ -1,0 +1,37 @@
+-- The laws of the set that is laid out: its parts, piece by piece, and its length. No axiom.
+use Prim.Native.Nat.{ℕ, _+_, _*_}
+use native.Mathlib.Omega.{arith}
+use mathlib.Core.Path.{_≡_, refl}
+use mathlib.Core.List.{List, [], _∷_, _++_}
+use lib.ListN.{length, length-append}
+use Rattle.sets.specs.Pieces.{Piece}
+use Rattle.set_writer.specs.Laid.{entryBytes, contents, bodies, front, header, total, laid}
+
+pub contents-none : (start : ℕ) → contents start [] ≡ []
+unfolding contents
+contents-none start = refl
+
+pub contents-more : (start : ℕ) (p : Piece) (ps : List Piece) → contents start (p ∷ ps) ≡ entryBytes p start ++ contents (start + length (p .body)) ps
+unfolding contents
+contents-more start p ps = refl
+
+pub bodies-none : bodies [] ≡ []
+unfolding bodies
+bodies-none = refl
+
+pub bodies-more : (p : Piece) (ps : List Piece) → bodies (p ∷ ps) ≡ p .body ++ bodies ps
+unfolding bodies
+bodies-more p ps = refl
+
+pub laid-parts : (ps : List Piece) → laid ps ≡ header ps ++ (contents (front ps) ps ++ bodies ps)
+unfolding laid
+laid-parts ps = refl
+
+pub contents-length : (start : ℕ) (ps : List Piece) → length (contents start ps) ≡ 8 * length ps
+unfolding contents
+contents-length start [] = refl
+contents-length start (p ∷ ps) = omega (arith, contents-length (start + length (p .body)) ps)
+
+pub laid-length : (ps : List Piece) → length (laid ps) ≡ total ps
+unfolding laid
+laid-length ps = omega (arith, length-append (contents (front ps) ps) (bodies ps), contents-length (front ps) ps)

@@ -1,0 +1,80 @@
+-- `set_writer::pieces::count` meets its contract: the stream ends as what is left of it does, and has as many pieces more. No axiom.
+use Prim.Native.Nat.{_+_, _-_, _≤_}
+use native.Mathlib.Omega.{arith}
+use mathlib.Core.Path.{_≡_, refl, sym, ap, _∙_}
+use lib.ListN.{length, drop}
+use borrow.Author.Needs.{needs}
+use Rattle.set_writer.specs.Pieces.{ends, pieces}
+use Rattle.set_writer.proofs.Stream.{stream-broken, stream-ends, stream-pieces, stream-over, stream-none}
+use Rattle.set_writer.proofs.pieces.count.Statement.{statement}
+use Rattle.set_writer.proofs.pieces.count.Tie as tie
+
+abbrev Inv-loop : tie.InvT-loop
+Inv-loop stream n₀ at₀ n at =
+    (at ≤ length stream) ×
+    (n ≤ at) ×
+    (ends stream ≡ ends (drop at stream)) ×
+    (length (pieces stream) ≡ n + length (pieces (drop at stream)))
+
+abbrev μ-loop : tie.MeasureT-loop
+μ-loop stream n₀ at₀ n at = length stream - at
+
+loop-holds : tie.Need-loop-holds Inv-loop μ-loop
+loop-holds c = (omega arith, omega arith, refl, omega arith)
+
+size-at-requires : tie.Need-size-at-requires Inv-loop μ-loop
+size-at-requires c κs = search needs
+
+sub-if1 : tie.Need-sub-if1 Inv-loop μ-loop
+sub-if1 c = search needs
+
+returns : tie.Need-returns Inv-loop μ-loop
+returns c =
+    let s = c .before .before .before in
+    let stream = s .before .before .args .stream .now in
+    sym (rw (s .loop .inv .2 ∙ stream-broken stream (s .loop .at) (c .before .before .loop-test .taken) _ (c .before .size-at .ensures) (c .if1 .taken)))
+
+add-at : tie.Need-add-at Inv-loop μ-loop
+add-at c = omega arith
+
+add-n : tie.Need-add-n Inv-loop μ-loop
+add-n c = omega arith
+
+loop-less : tie.Need-loop-less Inv-loop μ-loop
+loop-less c = omega (arith, c .before .size-at .ensures)
+
+loop-again : tie.Need-loop-again Inv-loop μ-loop
+loop-again c =
+    let s = c .before .before .before in
+    let stream = s .before .before .args .stream .now in
+    let h = c .before .before .loop-test .taken in
+    let e = c .before .size-at .ensures in (
+      omega arith,
+      omega (arith, e),
+      s .loop .inv .2 ∙ stream-ends stream (s .loop .at) h _ e (c .if1 .left),
+      omega (arith, s .loop .inv .3, ap length (stream-pieces stream (s .loop .at) h _ e)),
+    )
+
+returns-2 : tie.Need-returns-2 Inv-loop μ-loop
+returns-2 c =
+    let s = c .before in
+    let stream = s .before .before .args .stream .now in
+    let l = c .loop-test .left in
+    let m : length (pieces stream) ≡ s .loop .n = omega (arith, s .loop .inv .3, ap length (stream-none stream (s .loop .at) l)) in
+    sym (rw (s .loop .inv .2 ∙ stream-over stream (s .loop .at) l, m))
+
+pub count-spec : {M : Type 1} → statement M
+count-spec =
+    tie.close
+    (tie.spec
+    Inv-loop
+    μ-loop
+    loop-holds
+    size-at-requires
+    sub-if1
+    returns
+    add-at
+    add-n
+    loop-less
+    loop-again
+    returns-2)

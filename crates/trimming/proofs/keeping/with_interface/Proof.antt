@@ -1,0 +1,24 @@
+-- `trimming::keeping::with_interface` meets its contract. No axiom.
+use borrow.Author.Tests.{eq-eqb, ne-eqb}
+use borrow.Author.Needs.{needs}
+use Rattle.trimming.proofs.keeping.with_interface.Statement.{statement}
+use Rattle.trimming.proofs.keeping.with_interface.Tie as tie
+
+peek-requires : tie.Need-peek-requires
+peek-requires c κs = search needs
+
+peek-requires-2 : tie.Need-peek-requires-2
+peek-requires-2 c κs = search needs
+
+join-requires : tie.Need-join-requires
+join-requires c κs = search needs
+
+returns : tie.Need-returns
+returns c = rw (c .join .ensures, c .before .peek2 .ensures, ← c .before .before .before .before .peek .ensures, eq-eqb (c .before .before .before .before .peek .result) 4 (c .before .before .before .if1 .taken))
+
+returns-2 : tie.Need-returns-2
+returns-2 c = rw (← c .before .peek .ensures, ne-eqb (c .before .peek .result) 4 (c .if1 .left))
+
+pub with-interface-spec : {M : Type 1} → statement M
+with-interface-spec =
+    tie.close (tie.spec peek-requires peek-requires-2 join-requires returns returns-2)

@@ -1,3 +1,0 @@
-pub mod Written
-pub mod Example
-pub mod Runs
