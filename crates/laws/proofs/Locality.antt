@@ -2,12 +2,11 @@
 -- every other interface's part, and changes the rest only by dropping what waits; one that concerns nobody answers alike, and leaves
 -- alike, records that k cannot tell apart and whose rest is the same. No axiom.
 use Prim.Native.Nat.{ℕ}
-use native.Mathlib.Omega.{arith}
 use mathlib.Core.Path.{_≡_, refl, sym, ap, subst, _∙_}
 use mathlib.Core.Bool.{Bool, true, false, false≢true}
 use mathlib.Core.List.{List}
 use mathlib.Core.Option.{Option, some, none, Option·some-injective, Option·none-ne-some}
-use lib.Dec.{eqb, leb}
+use lib.Dec.{eqb}
 use borrow.Author.Tests.{eqb-true, eqb-false}
 use Rattle.octets.specs.Sentences.{pick, any, first, isSome}
 use Rattle.sets.specs.Opening.{Board}
@@ -15,7 +14,7 @@ use Rattle.sets.specs.View.{View, byValue, unconfigured}
 use Rattle.records.specs.declared.Device.{Device}
 use Rattle.records.specs.Device.{inConfigured, nothing, testWaits, enterTestMode}
 use Rattle.records.specs.Current.{setFor, setAt, viewFor, viewAt, selectedIn, selected}
-use Rattle.records.specs.Fits.{fits, fitsOn}
+use Rattle.records.specs.Fits.{fitsOn}
 use Rattle.requests.specs.Setup.{recipient}
 use Rattle.events.specs.declared.Event.{Event}
 use Rattle.events.specs.declared.Event.the-variants.{Request, Malformed, StatusEnd, BusReset, Halt, PacketPassed, Power, Suspend, Resume, Wake}

@@ -16,10 +16,15 @@ pub mod Keeps
 pub mod Images
 pub mod Inhabited
 pub mod Selected
+pub mod Base
 pub mod Before
 pub mod OneSet
 pub mod Pairs
 pub mod TestMode
+pub mod Kept
+pub mod Power
+pub mod Sleep
+pub mod Language
 pub mod Rearranged
 pub mod Order
 pub mod InhabitedOrder

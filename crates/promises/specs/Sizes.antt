@@ -13,14 +13,14 @@ use Rattle.descriptors.proofs.HighSpeed as high
 use Rattle.descriptors.proofs.SuperSpeed as superspeed
 
 -- what a row says of bMaxPacketSize0; of wMaxPacketSize and bInterval, by transfer type (2 bulk, 3 interrupt, 1 isochronous); and of the types of entries
-pub record Says (limits : Limits) (control bulk interrupt isochronous polling period : ℕ → Bool) (types : List ℕ) : Type 0 where
-  pub control : (x : ℕ) → doubled (limits .control) x ≡ control x
-  pub bulk : (size : ℕ) → goodSize limits 2 size ≡ bulk size
-  pub interrupt : (size : ℕ) → goodSize limits 3 size ≡ interrupt size
-  pub isochronous : (size : ℕ) → goodSize limits 1 size ≡ isochronous size
+pub record Says (limits : Limits) (sizes0 bulks interrupts isochronouses pollings periods : ℕ → Bool) (types : List ℕ) : Type 0 where
+  pub control : (x : ℕ) → doubled (limits .control) x ≡ sizes0 x
+  pub bulk : (size : ℕ) → goodSize limits 2 size ≡ bulks size
+  pub interrupt : (size : ℕ) → goodSize limits 3 size ≡ interrupts size
+  pub isochronous : (size : ℕ) → goodSize limits 1 size ≡ isochronouses size
   pub free : (interval : ℕ) → goodInterval limits 2 interval ≡ true
-  pub polling : (interval : ℕ) → goodInterval limits 3 interval ≡ polling interval
-  pub period : (interval : ℕ) → goodInterval limits 1 interval ≡ period interval
+  pub polling : (interval : ℕ) → goodInterval limits 3 interval ≡ pollings interval
+  pub period : (interval : ℕ) → goodInterval limits 1 interval ≡ periods interval
   pub entries : (t : ℕ) → named (limits .entries) t ≡ member t types
 
 abbrev between : ℕ → ℕ → ℕ → Bool
