@@ -20,3 +20,4 @@ pub mod InhabitedGroups
 pub mod OpenedAs
 pub mod Makers
 pub mod Kinds
+pub mod OneSet
