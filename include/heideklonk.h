@@ -11,13 +11,13 @@
  *
  * The library keeps nothing between calls and allocates nothing. Every call checks the set, the serial block and the
  * image anew, whatever their lengths, and answers with a number: HK_DONE, or why it refused. The set and the serial block
- * are meant to stay as they are: an image fits one set, and after a change of the set only hk_open makes it fit again.
+ * are meant to stay as they are: an image fits one set, and after a change of the set only opening makes it fit again.
  *
  * What the caller owes, for every call:
- *   - A pointer and its length name memory that stays readable for the whole call (writable for image, bytes, count,
- *     part, packet and descriptor).
- *   - What is written (image, bytes, count, part, packet, descriptor) overlaps nothing else that is passed. Set, serial and setup,
- *     which are only read, may overlap each other.
+ *   - A pointer and its length name memory that stays readable for the whole call, and writable where it is not const.
+ *   - What a pointer that is not const points to (image, record, row, bytes, count, part, packet, descriptor; of a maker's
+ *     call also buffer, written, total, rule, place and hk_trim's set) overlaps nothing else that is passed. What is only
+ *     read may overlap other such memory.
  *   - A pointer whose length is 0 may be NULL. A set (or reply) of NULL and 0 leaves a part whose start is NULL and whose
  *     length is 0, and that is a valid part. This is tested and not proved.
  *   - A hk_part holds a valid value at the call: HK_NO_PART, or what an earlier call left there.
@@ -98,7 +98,7 @@ typedef struct hk_part {
  *
  * The fresh record says that the bus supplies the device: call hk_power next, with what the board senses.
  *
- * This is the only call that mends an image that does not fit. */
+ * Only opening mends an image that does not fit: this call, or hk_two_open of a board that lends two sets. */
 uint8_t hk_open(const uint8_t *set, size_t set_length, const uint8_t *serial, size_t serial_length,
                 uint8_t *image, size_t image_length);
 
@@ -107,7 +107,8 @@ uint8_t hk_open(const uint8_t *set, size_t set_length, const uint8_t *serial, si
  * HK_DONE: answer it. Either *count is 1 or 2, and so many of bytes[0] and bytes[1] are the data stage; or part->length
  * is not 0, and the part is the data stage. Cut it with hk_packet, which is told the setup's wLength too. With neither,
  * no data goes out and the status stage follows.
- * HK_REQUEST_UNKNOWN to HK_NO_SUCH_FEATURE: answer with STALL; only a waiting address was dropped, and sleep has ended.
+ * HK_REQUEST_UNKNOWN to HK_NO_SUCH_FEATURE: answer with STALL; only a waiting address (or, where two sets are lent, a
+ * waiting test mode) was dropped, and sleep has ended.
  * HK_SET_NOT_ACCEPTABLE, HK_RECORD_DOES_NOT_FIT, HK_SETUP_LENGTH_WRONG: nothing was changed.
  *
  * bytes, *count and *part are always written. What is not handed back is 0: a refusal leaves count 0 and bytes 0, 0, and
@@ -115,7 +116,8 @@ uint8_t hk_open(const uint8_t *set, size_t set_length, const uint8_t *serial, si
  *
  * A string that is asked in a language that the set does not list is given in the first listed one.
  *
- * A suspended device is awake again after any setup of 8 bytes, refused or not.
+ * A suspended device is awake again after any setup of 8 bytes, answered or refused, but for one that is refused with
+ * HK_SET_NOT_ACCEPTABLE or HK_RECORD_DOES_NOT_FIT.
  *
  * A new address only waits here: hk_status_end takes it, so that the status stage still goes out under the old one. */
 uint8_t hk_setup(const uint8_t *set, size_t set_length, const uint8_t *serial, size_t serial_length,
@@ -129,7 +131,8 @@ uint8_t hk_setup(const uint8_t *set, size_t set_length, const uint8_t *serial, s
 uint8_t hk_status_end(const uint8_t *set, size_t set_length, const uint8_t *serial, size_t serial_length,
                       uint8_t *image, size_t image_length);
 
-/* The bus was reset: makes the image the fresh record; only the power source stays.
+/* The bus was reset: makes the image the fresh record; only the power source stays. (In an entered test mode, which a board
+ * that lends two sets can have, a reset changes nothing: hk_two_event.)
  *
  * HK_DONE, HK_SET_NOT_ACCEPTABLE or HK_RECORD_DOES_NOT_FIT; the last two change nothing. On an image that does not fit,
  * this is HK_RECORD_DOES_NOT_FIT and mends nothing: call hk_open. */
@@ -165,8 +168,9 @@ uint8_t hk_packet_passed(const uint8_t *set, size_t set_length, const uint8_t *s
 uint8_t hk_power(const uint8_t *set, size_t set_length, const uint8_t *serial, size_t serial_length,
                  uint8_t *image, size_t image_length, uint8_t source);
 
-/* The bus has gone quiet: the device is suspended. It is awake again with hk_resume, hk_bus_reset, any setup of 8 bytes and
- * any packet that passes. Nothing else of the image changes; twice is as good as once.
+/* The bus has gone quiet: the device is suspended, in every state and in a test mode too. It is awake again with hk_resume,
+ * a bus reset outside a test mode, any setup of 8 bytes past HK_SET_NOT_ACCEPTABLE and HK_RECORD_DOES_NOT_FIT, and any
+ * packet that passes with HK_DONE. Nothing else of the image changes; twice is as good as once.
  *
  * HK_DONE, HK_SET_NOT_ACCEPTABLE or HK_RECORD_DOES_NOT_FIT; the last two change nothing. */
 uint8_t hk_suspend(const uint8_t *set, size_t set_length, const uint8_t *serial, size_t serial_length,
@@ -193,7 +197,7 @@ uint8_t hk_wake(const uint8_t *set, size_t set_length, const uint8_t *serial, si
  * HK_SET_NOT_ACCEPTABLE or HK_RECORD_DOES_NOT_FIT. *descriptor is always written: all but HK_DONE leave the set's first 0
  * bytes there. The image is only read: nothing changes, and a waiting address goes on waiting. */
 uint8_t hk_endpoint(const uint8_t *set, size_t set_length, const uint8_t *serial, size_t serial_length,
-                    uint8_t *image, size_t image_length, uint8_t number, hk_part *descriptor);
+                    const uint8_t *image, size_t image_length, uint8_t number, hk_part *descriptor);
 
 /* The device record as a struct, in the order of its image. On a little-endian machine its 32 bytes are the image, so
  * hk_open opens a record too: hk_open(set, set_length, serial, serial_length, (uint8_t *)&record, sizeof record). */
@@ -253,8 +257,10 @@ uint8_t hk_two_open(const uint8_t *full, size_t full_length, const uint8_t *high
  *
  * SET_FEATURE(TEST_MODE) waits for the status end, as an address does, and is dropped as an address is: then image[2] is
  * 128 plus the selector of the test mode, 1 to 5. HK_EVENT_STATUS_END enters it: then image[7] is 1 plus 16 times the
- * selector, and the board starts that test on the bus. From then on each setup of 8 bytes is HK_TEST_MODE_ENTERED, and a
- * bus reset changes nothing: only power-on (hk_two_open) ends a test mode. */
+ * selector, and the board starts that test on the bus. From then on each setup of 8 bytes is HK_TEST_MODE_ENTERED and ends
+ * sleep, as any setup does, and changes nothing else; a bus reset to HK_SPEED_FULL or HK_SPEED_HIGH is HK_DONE and changes
+ * nothing, sleep included; every other event goes on as before, HK_EVENT_SUSPEND and HK_EVENT_RESUME too. Only power-on
+ * (hk_two_open) ends a test mode. */
 uint8_t hk_two_event(const uint8_t *full, size_t full_length, const uint8_t *high, size_t high_length,
                      const uint8_t *serial, size_t serial_length, uint8_t *image, size_t image_length,
                      uint8_t event, uint8_t value, const uint8_t *setup, size_t setup_length,
@@ -263,7 +269,7 @@ uint8_t hk_two_event(const uint8_t *full, size_t full_length, const uint8_t *hig
 /* Endpoint descriptor `number` of the current settings: as hk_endpoint, of the set in use. All but HK_DONE leave the
  * full-speed set's first 0 bytes in *descriptor. */
 uint8_t hk_two_endpoint(const uint8_t *full, size_t full_length, const uint8_t *high, size_t high_length,
-                        const uint8_t *serial, size_t serial_length, uint8_t *image, size_t image_length,
+                        const uint8_t *serial, size_t serial_length, const uint8_t *image, size_t image_length,
                         uint8_t number, hk_part *descriptor);
 
 /* ---- A board with several ports: a row of records, one for each port, the same set or the same two sets at all of them,
@@ -308,7 +314,8 @@ HK_LARGE uint8_t hk_two_table_event(const uint8_t *full, size_t full_length, con
 uint8_t hk_packet(const uint8_t *reply, size_t reply_length, uint16_t asked, uint32_t size, uint32_t number,
                   hk_part *packet);
 
-/* ---- For makers, on a bench computer: these calls have an array of 16,384 bytes in their frame, and are no board's. */
+/* ---- For makers, on a bench computer; no board's. hk_write, hk_super_write and hk_import have arrays of 16,384 bytes in their
+ * frames, hk_trim has one of 516; the others need no more stack than a board's call. */
 
 /* Writes a set from its pieces, so that nobody counts offsets: contents and bodies, sorted as hk_open asks.
  *
@@ -319,7 +326,7 @@ uint8_t hk_packet(const uint8_t *reply, size_t reply_length, uint16_t asked, uin
  * HK_DONE: the set stands at the buffer's start, *written bytes long, and opens with this serial block; the bytes behind
  * it are as they were. HK_PIECES_BROKEN, HK_SET_REFUSED, HK_BUFFER_TOO_SHORT: the first of these that holds, in this
  * order; the buffer is as it was, and *written is 0. A buffer of 16,384 bytes is never too short. To learn why a set is
- * refused, use the program `maker`. The buffer and written overlap nothing else that is passed. */
+ * refused, use the program `maker`. */
 HK_MAKERS uint8_t hk_write(const uint8_t *pieces, size_t pieces_length, const uint8_t *serial, size_t serial_length,
                  uint8_t *buffer, size_t buffer_length, uint16_t *written);
 
@@ -332,8 +339,7 @@ HK_MAKERS uint8_t hk_super_write(const uint8_t *pieces, size_t pieces_length, co
  * differ in this: bMaxPacketSize0 is 9; there is one BOS entry (type 15, index 0, language 0, at least 5 bytes, bytes 2 and 3
  * its length), else HK_DEVICE_BROKEN; a companion (type 48, at least 6 bytes) stands directly after every endpoint and nowhere
  * else, else HK_CONFIGURATION_BROKEN; a bulk size is 1,024, an interrupt size 1 to 1,024, an isochronous size 0 to 1,024, and
- * the bInterval of these two is 1 to 16. Events refuse such a set with HK_SET_NOT_ACCEPTABLE. This call has no array in its
- * frame. */
+ * the bInterval of these two is 1 to 16. Events refuse such a set with HK_SET_NOT_ACCEPTABLE. */
 HK_MAKERS uint8_t hk_super_open(const uint8_t *set, size_t set_length, const uint8_t *serial, size_t serial_length,
                  uint8_t *image, size_t image_length);
 
@@ -343,14 +349,15 @@ HK_MAKERS uint8_t hk_super_open(const uint8_t *set, size_t set_length, const uin
  *
  * HK_DONE: the set stands at the buffer's start, *written bytes long, and opens with an empty serial block; the bytes
  * behind it are as they were. HK_DUMP_BROKEN, HK_SET_REFUSED, HK_BUFFER_TOO_SHORT: the first of these that holds, in this
- * order; the buffer is as it was, and *written is 0. A dump of a high-speed device gives HK_SET_REFUSED. */
+ * order; the buffer is as it was, and *written is 0. A dump is judged by full speed's rules: that of a high-speed device
+ * gives HK_SET_REFUSED where it has a bulk endpoint, whose size is 512, and may pass where it has none. */
 HK_MAKERS uint8_t hk_import(const uint8_t *dump, size_t dump_length, uint8_t *buffer, size_t buffer_length, uint16_t *written);
 
 /* The other way: the device descriptor and the configurations of a set, as they are, without the strings.
  *
  * HK_DONE: the dump stands at the buffer's start, *written bytes long; the bytes behind it are as they were.
  * HK_FRAME_BROKEN to HK_SERIAL_BROKEN: hk_open would refuse the set or the serial block; else HK_BUFFER_TOO_SHORT; the
- * buffer is as it was, and *written is 0. This call has no array in its frame. */
+ * buffer is as it was, and *written is 0. */
 HK_MAKERS uint8_t hk_export(const uint8_t *set, size_t set_length, const uint8_t *serial, size_t serial_length, uint8_t *buffer,
                   size_t buffer_length, uint16_t *written);
 
@@ -361,14 +368,14 @@ HK_MAKERS uint8_t hk_export(const uint8_t *set, size_t set_length, const uint8_t
  * HK_DONE: the set is the buffer's first *total bytes, and the freed bytes behind it are 0; it opens with the same serial
  * block, and answers every request as before but those for a dropped string. Lend its first *total bytes from now on: the
  * whole buffer is refused with HK_FRAME_BROKEN if anything was freed. HK_FRAME_BROKEN to HK_SERIAL_BROKEN: hk_open would
- * refuse the set or the serial block; the buffer is as it was, and *total is 0. This call has 516 bytes in its frame. */
+ * refuse the set or the serial block; the buffer is as it was, and *total is 0. */
 HK_MAKERS uint8_t hk_trim(uint8_t *set, size_t set_length, const uint8_t *serial, size_t serial_length, uint16_t *total);
 
 /* Tells which rule a set or its serial block breaks first, and where: hk_open's number; *rule, the rule's number in
  * docs/MAKERS.md, which is its group times 100 and its place in the group; and *place, the byte of the set, or of the serial
  * block if the number is HK_SERIAL_BROKEN, at which it is broken. A byte that is missing is told as the last that is there,
  * and as 0 where nothing is lent. HK_DONE: nothing is broken; *rule and *place are 0. The set and the serial block are only
- * read. This call has no array in its frame, but reads a configuration once for each question that it has. */
+ * read, each configuration once for each question that the call has. */
 HK_MAKERS uint8_t hk_explain(const uint8_t *set, size_t set_length, const uint8_t *serial, size_t serial_length,
                    uint16_t *rule, uint32_t *place);
 

@@ -1,4 +1,5 @@
 pub mod Exports
+pub mod Makers
 pub mod Handing
 pub mod Decided
 pub mod Ways
@@ -17,7 +18,5 @@ pub mod InhabitedTwo
 pub mod Idle
 pub mod InhabitedExports
 pub mod InhabitedGroups
-pub mod OpenedAs
-pub mod Makers
 pub mod Kinds
 pub mod OneSet

@@ -44,7 +44,7 @@ by-bit a p =
     let l : bitOf a % 16 ≡ a % 16 = omega arith in
     rw (h, l) (omega arith)
 
-own-bit : (a b : ℕ) → goodAddress a ≡ true → goodAddress b ≡ true → bitOf a ≡ bitOf b → a ≡ b
+pub own-bit : (a b : ℕ) → goodAddress a ≡ true → goodAddress b ≡ true → bitOf a ≡ bitOf b → a ≡ b
 own-bit a b p q e = by-bit a p ∙ ap (λ (x : ℕ). x % 16 + 128 * (x / 16)) e ∙ sym (by-bit b q)
 
 good-address : (limits : Limits) (d : List ℕ) → goodDescriptor limits d ≡ true → isEndpoint d ≡ true → goodAddress (bEndpointAddress d) ≡ true
@@ -69,10 +69,10 @@ good-listed limits s (d ∷ ds) p = go (both (goodDescriptor limits d) (every (g
         (λ i e. rw (i, e) (ih s r))
 
 -- ---- settings that follow one another
-abbrev Follows : Setting → Setting → Type 0
+abbrev pub Follows : Setting → Setting → Type 0
 Follows s t = ((t .interface ≡ s .interface) × (t .alternate ≡ s .alternate + 1)) ⊎ ((t .interface ≡ s .interface + 1) × (t .alternate ≡ 0))
 
-follows-is : (s t : Setting) → follows s t ≡ true → Follows s t
+pub follows-is : (s t : Setting) → follows s t ≡ true → Follows s t
 follows-is s t p = go (either _ (eqb (t .interface) (s .interface + 1) && eqb (t .alternate) 0) p)
   where
     go : ((eqb (t .interface) (s .interface) && eqb (t .alternate) (s .alternate + 1)) ≡ true) ⊎ ((eqb (t .interface) (s .interface + 1) && eqb (t .alternate) 0) ≡ true) → Follows s t
@@ -80,7 +80,7 @@ follows-is s t p = go (either _ (eqb (t .interface) (s .interface + 1) && eqb (t
     go (inr q) = let (i, a) = both (eqb (t .interface) (s .interface + 1)) _ q in inr (eqb-true _ _ i, eqb-true _ _ a)
 
 -- an endpoint stands under the setting s or under a later one
-abbrev NotBefore : Setting → Endpoint → Type 0
+abbrev pub NotBefore : Setting → Endpoint → Type 0
 NotBefore s e = (s .interface < e .interface) ⊎ ((s .interface ≡ e .interface) × (s .alternate ≤ e .alternate))
 
 notBefore : Setting → Endpoint → Bool
@@ -100,7 +100,7 @@ not-before-is s e p = go (either (ltb (s .interface) (e .interface)) (eqb (s .in
     go (inr q) = let (i, a) = both (eqb (s .interface) (e .interface)) _ q in inr (eqb-true _ _ i, leb-true _ _ a)
 
 -- what is not before t is not before an s that t follows
-further : (s t : Setting) (e : Endpoint) → Follows s t → NotBefore t e → NotBefore s e
+pub further : (s t : Setting) (e : Endpoint) → Follows s t → NotBefore t e → NotBefore s e
 further s t e (inl (p, q)) (inl l) = inl (omega arith)
 further s t e (inl (p, q)) (inr (r, l)) = inr (omega arith, omega arith)
 further s t e (inr (p, q)) (inl l) = inl (omega arith)
@@ -132,7 +132,7 @@ in-chain n s ds (g ∷ gs) p =
 abbrev marked : ℕ → Endpoint → Bool
 marked word e = bit word (bitOf (e .address))
 
-clear : Setting → Progress → Endpoint → Bool
+unfoldable pub clear : Setting → Progress → Endpoint → Bool
 clear s w e = marked (w .seen) e ⇒ (eqb (s .interface) (e .interface) && (marked (w .interface) e && not (eqb (s .alternate) (e .alternate) && marked (w .setting) e)))
 
 -- at an interface descriptor: a further setting of the interface, and a new interface
@@ -149,7 +149,7 @@ module _ (s t : Setting) (e : Endpoint) (seen interface setting : Bool) where
   new-interface p (inl m) = rw (ne-eqb (s .interface) (e .interface) (λ r. omega arith), and-false)
   new-interface p (inr (m, n)) = rw (ne-eqb (s .interface) (e .interface) (λ r. omega arith), and-false)
 
-at-interface : (s : Setting) (w : Progress) (d : List ℕ) (e : Endpoint) → isInterface d ≡ true → Follows s (begunBy d) → NotBefore (begunBy d) e
+pub at-interface : (s : Setting) (w : Progress) (d : List ℕ) (e : Endpoint) → isInterface d ≡ true → Follows s (begunBy d) → NotBefore (begunBy d) e
     → clear (begunBy d) (passed w (at s) d) e ≡ clear s w e
 unfolding clear
 at-interface s w d e i (inl (p, q)) l =
@@ -173,7 +173,7 @@ met false interface setting same false p = refl
 
 module _ (s : Setting) (w : Progress) (d : List ℕ) (e : Endpoint) (i : isInterface d ≡ false) (j : isEndpoint d ≡ true)
     (g : goodAddress (bEndpointAddress d) ≡ true) (k : goodAddress (e .address) ≡ true) (f : fresh w (bEndpointAddress d) ≡ true) where
-  at-endpoint : clear s (passed w (at s) d) e ≡ (clear s w e && apart (endpointOf s d) e)
+  pub at-endpoint : clear s (passed w (at s) d) e ≡ (clear s w e && apart (endpointOf s d) e)
   unfolding clear
   at-endpoint = cases (eqb (bEndpointAddress d) (e .address))
       (λ q. rw (i, j, alike q (w .seen), alike q (w .interface), alike q (w .setting), q)
@@ -208,7 +208,7 @@ both-asked true true false = refl
 both-asked true false true = refl
 both-asked true false false = refl
 
-own-clear : (s : Setting) (w : Progress) (d : List ℕ) → clear s w (endpointOf s d) ≡ fresh w (bEndpointAddress d)
+pub own-clear : (s : Setting) (w : Progress) (d : List ℕ) → clear s w (endpointOf s d) ≡ fresh w (bEndpointAddress d)
 unfolding clear
 own-clear s w d =
     let k = bitOf (bEndpointAddress d) in

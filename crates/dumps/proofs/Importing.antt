@@ -12,25 +12,21 @@ use borrow.Author.Tests.{lt-ltb}
 use Rattle.octets.specs.Sentences.{pick, neighbours}
 use Rattle.octets.proofs.Sentences.{or-left, or-right}
 use Rattle.descriptors.specs.Limits.{fullSpeed}
-use Rattle.set_writer.specs.Pieces.{pieces, streamOf}
+use Rattle.set_writer.specs.Writer.{pieces, precedes, sorted, laid, setOf, writing}
+use Rattle.set_writer.specs.Stream.{streamOf}
 use Rattle.sets.specs.Pieces.{Piece}
-use Rattle.set_writer.specs.Sorted.{precedes, sorted}
-use Rattle.set_writer.specs.Laid.{laid}
 use Rattle.set_writer.proofs.Stream.{stream-read, stream-whole}
 use Rattle.buffers.specs.Written as written
 use Rattle.set_writer.specs.declared.Report.{Report}
-use Rattle.set_writer.specs.Writer.{setOf, writing}
 use Rattle.set_writer.specs.Reported.{openingMade, Reported}
 use Rattle.set_writer.proofs.Writing.{answer, set-length}
 use Rattle.set_writer.proofs.Shuffled.{itself}
 use Rattle.set_writer.proofs.Ascending.{neighbours-ascend}
 use Rattle.set_writer.proofs.Precedes.{transitive}
 use Rattle.set_writer.proofs.Order.{sorted-is}
-use Rattle.dumps.specs.Dump.{splits, deviceIn, configurationsIn}
-use Rattle.dumps.specs.Zeroed.{zeroedDevice, zeroedConfiguration}
-use Rattle.dumps.specs.Imported.{devicePiece, configurationPiece, numbered, piecesFor, imported}
+use Rattle.dumps.specs.Dump.{splits, deviceIn, configurationsIn, zeroedDevice, zeroedConfiguration, devicePiece, configurationPiece, numbered, piecesFor, imported, tooLarge, importing}
 use Rattle.dumps.proofs.Streaming.{stream-size}
-use Rattle.dumps.specs.Import.{tooLarge, importing, openingImported, Imports}
+use Rattle.dumps.specs.Import.{openingImported, Imports}
 
 module _ (dump : List ℕ) where
   abbrev device : List ℕ

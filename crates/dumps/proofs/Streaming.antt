@@ -9,17 +9,16 @@ use lib.Seq.{length-take-le}
 use lib.Dec.{ltb}
 use borrow.Author.Tests.{ltb-true}
 use Rattle.octets.proofs.Sentences.{both}
-use Rattle.descriptors.specs.Walk.{before, collected}
-use Rattle.set_writer.specs.Pieces.{pieceHead, streamOf}
+use Rattle.descriptors.specs.Cut.{cut, descriptorsOf}
+use Rattle.set_writer.specs.Stream.{pieceHead, streamOf}
 use Rattle.sets.specs.Pieces.{Piece}
-use Rattle.dumps.specs.Dump.{flat, splitsAfter, splits, deviceIn, configurationsIn}
-use Rattle.dumps.specs.Zeroed.{nameAt, zeroedDevice, zeroedConfiguration}
-use Rattle.dumps.specs.Imported.{devicePiece, numbered, piecesFor, headed}
+use Rattle.dumps.specs.Dump.{flat, splitsAfter, splits, deviceIn, configurationsIn, namesFrom, zeroedDevice, zeroedConfiguration, devicePiece, numbered, piecesFor}
+use Rattle.dumps.specs.Import.{headed}
 use Rattle.dumps.proofs.Splitting.{splitting, bodies, sizeOf, dump-bodies, dump-least, dump-fits, dump-none, flat-bodies}
 use Rattle.dumps.proofs.Blanking.{blanked-length}
 
 pub zeroed-length : (body : List ℕ) → length (zeroedConfiguration body) ≡ length body
-zeroed-length body = blanked-length (6 ∷ collected nameAt body before 0) body
+zeroed-length body = blanked-length (6 ∷ namesFrom 0 (descriptorsOf (cut body))) body
 
 abbrev pub streamed : ℕ → List (List ℕ) → List ℕ
 streamed i bs = streamOf (numbered i (map zeroedConfiguration bs))

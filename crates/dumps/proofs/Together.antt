@@ -21,9 +21,9 @@ use Rattle.sets.specs.Opening.{opening, lent}
 use Rattle.sets.proofs.Entries.{only-later, only-empty, every-cons}
 use Rattle.sets.proofs.Groups.{groups, one-device}
 use Rattle.sets.proofs.Pieces.{bodies-of}
-use Rattle.dumps.specs.Dump.{flat}
+use Rattle.dumps.specs.Dump.{flat, exported, exporting}
 use Rattle.dumps.specs.declared.export.Dumped.{Dumped}
-use Rattle.dumps.specs.Export.{exported, exporting, share, shares, Exports}
+use Rattle.dumps.specs.Export.{share, shares, Exports}
 
 -- ---- the types go up
 abbrev pub Up : ℕ → List Entry → Type 0

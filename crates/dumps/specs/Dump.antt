@@ -1,14 +1,21 @@
--- A dump and its bodies (document 02, L5: "18 bytes are followed by one or more bodies that each end at their wTotalLength, at least 9, the last at the dump's end").
-use Prim.Native.Nat.{ℕ, zero, suc, _-_}
-use mathlib.Core.List.{List, [], _∷_, _++_}
-use mathlib.Core.Bool.{Bool, true, false, _&&_}
-use lib.ListN.{length, take, drop}
-use lib.Dec.{leb, ltb}
-use Rattle.octets.specs.Octets.{word}
+-- Raw dumps (document 02, L5): a dump and its bodies, the set that it is imported into, and the dump that a set is exported to.
+use Prim.Native.Nat.{ℕ, zero, suc, _+_, _-_}
+use mathlib.Core.List.{List, [], _∷_, _++_, map}
+use mathlib.Core.Bool.{Bool, true, false, _&&_, _||_, not}
+use lib.ListN.{length, take, drop, set}
+use lib.Dec.{eqb, leb, ltb}
+use Rattle.octets.specs.Octets.{byte, word}
 use Rattle.octets.specs.Sentences.{pick}
-use Rattle.dumps.specs.declared.Shape.{Shape}
-use Rattle.dumps.specs.declared.Shape.the-variants.{Broken, Bodies}
+use Rattle.descriptors.specs.Limits.{fullSpeed}
+use Rattle.descriptors.specs.Cut.{cut, descriptorsOf}
+use Rattle.descriptors.specs.Descriptor.{isInterface}
+use Rattle.sets.specs.Contents.{bodies}
+use Rattle.sets.specs.Device.{deviceBody}
+use Rattle.sets.specs.Pieces.{Piece}
+use Rattle.sets.specs.Opening.{lent, opening}
+use Rattle.set_writer.specs.Writer.{laid, handing}
 
+-- ---- "18 bytes are followed by one or more bodies that each end at their wTotalLength, at least 9, the last at the dump's end"
 -- lists end to end
 unfoldable pub flat : List (List ℕ) → List ℕ
 flat [] = []
@@ -35,6 +42,65 @@ deviceIn dump = take 18 dump
 abbrev pub configurationsIn : List ℕ → List (List ℕ)
 configurationsIn dump = bodiesAfter 0 (drop 18 dump)
 
--- a working definition: what splitting answers
-abbrev pub splitOf : List ℕ → Shape
-splitOf dump = pick (splits dump) (Bodies (length (configurationsIn dump))) Broken
+-- ---- "with string references set to zero": the five reference fields
+-- bytes with 0 at some places; a place past the end is none
+unfoldable pub blanked : List ℕ → List ℕ → List ℕ
+blanked [] bytes = bytes
+blanked (p ∷ ps) bytes = blanked ps (set bytes p 0)
+
+-- a descriptor of type 4 that has an iInterface; one that runs past the body's end is none
+abbrev pub hasName : List ℕ → Bool
+hasName d = isInterface d && leb 9 (length d) && eqb (byte d 0) (length d)
+
+-- the places of iInterface, byte 8, in descriptors of which the first begins at a place
+unfoldable pub namesFrom : ℕ → List (List ℕ) → List ℕ
+namesFrom at [] = []
+namesFrom at (d ∷ ds) = pick (hasName d) ((at + 8) ∷ namesFrom (at + length d) ds) (namesFrom (at + length d) ds)
+
+-- iManufacturer, iProduct, iSerialNumber
+abbrev pub zeroedDevice : List ℕ → List ℕ
+zeroedDevice body = blanked (14 ∷ 15 ∷ 16 ∷ []) body
+
+-- iConfiguration, and the iInterface of every setting
+abbrev pub zeroedConfiguration : List ℕ → List ℕ
+zeroedConfiguration body = blanked (6 ∷ namesFrom 0 (descriptorsOf (cut body))) body
+
+-- a dump with its references zeroed
+abbrev pub zeroed : List ℕ → List ℕ
+zeroed dump = zeroedDevice (deviceIn dump) ++ flat (map zeroedConfiguration (configurationsIn dump))
+
+-- ---- "Import it into a set without strings"
+abbrev pub devicePiece : List ℕ → Piece
+devicePiece body = record { kind = 1; index = 0; language = 0; body = body }
+
+abbrev pub configurationPiece : ℕ → List ℕ → Piece
+configurationPiece i body = record { kind = 2; index = i; language = 0; body = body }
+
+unfoldable pub numbered : ℕ → List (List ℕ) → List Piece
+numbered i [] = []
+numbered i (b ∷ bs) = configurationPiece i b ∷ numbered (i + 1) bs
+
+-- the pieces of the set, and the set
+abbrev pub piecesFor : List ℕ → List Piece
+piecesFor dump = devicePiece (zeroedDevice (deviceIn dump)) ∷ numbered 0 (map zeroedConfiguration (configurationsIn dump))
+
+abbrev pub imported : List ℕ → List ℕ
+imported dump = laid (piecesFor dump)
+
+-- "over 64 pieces or 16,384 bytes"
+abbrev pub tooLarge : List ℕ → Bool
+tooLarge dump = ltb 64 (length (piecesFor dump)) || ltb 16384 (length (imported dump))
+
+-- "the resulting set opens with an empty serial block"
+abbrev pub importing : List ℕ → ℕ → ℕ
+importing dump room = pick (not (splits dump)) 23 (pick (tooLarge dump) 21 (handing fullSpeed (imported dump) [] room))
+
+-- ---- "export a set's device and configuration bodies in that form"
+-- "the device descriptor followed by its configuration bodies"
+abbrev pub exported : List ℕ → List ℕ
+exported set = deviceBody set ++ flat (bodies 2 set)
+
+-- "export gives the opening number, then 22"
+abbrev pub exporting : List ℕ → List ℕ → ℕ → ℕ
+exporting set serial room =
+    pick (eqb (opening fullSpeed (lent set serial)) 0) (pick (ltb room (length (exported set))) 22 0) (opening fullSpeed (lent set serial))

@@ -1,27 +1,27 @@
--- Import (document 02, L5: "Refusals: 23 dump does not split, then 21 and 22 as in L1").
-use Prim.Native.Nat.{ℕ, _≤_}
+-- What import's functions answer, whole, and when import accepts, as a promise says it.
+use Prim.Native.Nat.{ℕ, _/_, _%_, _≤_}
 use mathlib.Core.Path.{_≡_}
-use mathlib.Core.Bool.{Bool, true, _||_, not}
-use mathlib.Core.List.{List, []}
+use mathlib.Core.Bool.{true, _||_, not}
+use mathlib.Core.List.{List, [], _∷_}
 use lib.ListN.{length}
-use lib.Dec.{ltb}
 use Rattle.octets.specs.Sentences.{pick}
 use Rattle.descriptors.specs.Limits.{fullSpeed}
 use Rattle.sets.specs.Opening.{lent, opening}
 use Rattle.set_writer.specs.declared.Report.{Report}
-use Rattle.set_writer.specs.Writer.{opensAs, handing, Filled}
-use Rattle.dumps.specs.Dump.{splits}
-use Rattle.dumps.specs.Imported.{piecesFor, imported}
+use Rattle.set_writer.specs.Writer.{opensAs, Filled}
+use Rattle.dumps.specs.declared.Shape.{Shape}
+use Rattle.dumps.specs.declared.Shape.the-variants.{Broken, Bodies}
+use Rattle.dumps.specs.Dump.{splits, configurationsIn, imported, tooLarge, importing}
 
--- "over 64 pieces or 16,384 bytes"
-abbrev pub tooLarge : List ℕ → Bool
-tooLarge dump = ltb 64 (length (piecesFor dump)) || ltb 16384 (length (imported dump))
+-- what splitting answers
+abbrev pub splitOf : List ℕ → Shape
+splitOf dump = pick (splits dump) (Bodies (length (configurationsIn dump))) Broken
 
--- "the resulting set opens with an empty serial block"
-abbrev pub importing : List ℕ → ℕ → ℕ
-importing dump room = pick (not (splits dump)) 23 (pick (tooLarge dump) 21 (handing fullSpeed (imported dump) [] room))
+-- what stands before a body in the stream of these pieces, whose language is 0
+abbrev pub headed : ℕ → ℕ → ℕ → List ℕ
+headed kind index size = kind ∷ index ∷ 0 ∷ 0 ∷ size % 256 ∷ size / 256 ∷ []
 
--- a working definition: why 21, the opening number of the resulting set; 0 where no set is made
+-- why 21, the opening number of the resulting set; 0 where no set is made
 abbrev pub openingImported : List ℕ → ℕ
 openingImported dump = pick (not (splits dump) || tooLarge dump) 0 (opening fullSpeed (lent (imported dump) []))
 

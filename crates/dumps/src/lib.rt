@@ -8,10 +8,9 @@ ghost use lib.Dec.{ltb};
 ghost use Rattle.octets.specs.Octets.{word};
 ghost use Rattle.octets.specs.Sentences.{pick};
 ghost use Rattle.buffers.specs.Written.{Room, Wrote};
-ghost use Rattle.dumps.specs.Dump.{splits, splitOf, configurationsIn};
-ghost use Rattle.dumps.specs.Zeroed.{hasName, zeroedDevice, zeroedConfiguration};
-ghost use Rattle.dumps.specs.Imported.{numbered, piecesFor, headed};
-ghost use Rattle.set_writer.specs.Pieces.{streamOf};
+ghost use Rattle.dumps.specs.Dump.{splits, configurationsIn, hasName, zeroedDevice, zeroedConfiguration, numbered, piecesFor};
+ghost use Rattle.dumps.specs.Import.{splitOf, headed};
+ghost use Rattle.set_writer.specs.Stream.{streamOf};
 
 pub mod export;
 pub mod import;

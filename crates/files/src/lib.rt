@@ -26,17 +26,22 @@ pub fn say(text: &[u8]) {
     io::write_all(STDOUT_FILENO, text);
 }
 
-pub fn say_number(number: usize) {
+// A number between two texts.
+pub fn tell(before: &[u8], number: usize, behind: &[u8]) {
+    say(before);
     io::print_decimal(STDOUT_FILENO, number as u64);
+    say(behind);
 }
 
 // What a maker is told first of a refusal: its number, and the opening number that says why.
-pub fn say_refused(number: u8, opening: u8) {
-    say(b"refused ");
-    say_number(number as usize);
+pub fn tell_refused(number: u8, opening: u8) {
+    tell(b"refused ", number as usize, b"");
     if opening != 0 {
-        say(b": the opener would refuse the set with ");
-        say_number(opening as usize);
+        tell(
+            b": the opener would refuse the set with ",
+            opening as usize,
+            b"",
+        );
     }
     say(b"\n");
 }
@@ -51,7 +56,5 @@ pub fn write(path: &[u8], bytes: &[u8]) {
     libc::close(file);
     say(b"wrote ");
     say(path);
-    say(b": ");
-    say_number(bytes.len());
-    say(b" bytes\n");
+    tell(b": ", bytes.len(), b" bytes\n");
 }

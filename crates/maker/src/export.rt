@@ -3,7 +3,7 @@ pub fn export(set: &[u8], serial: &[u8]) {
     let mut dump = [0u8; 16384];
     let dumped = dumps::export::export(set, serial, &mut dump);
     if dumped.number != 0 {
-        return files::say_refused(dumped.number, 0);
+        return files::tell_refused(dumped.number, 0);
     }
     files::write(
         b"descriptors",

@@ -1,6 +1,6 @@
 // A dump becomes a set, or what stands in the way is told.
 use files::say;
-use files::say_number;
+use files::tell;
 ghost use Prim.Native.Nat.{_<_, _≤_};
 ghost use lib.ListN.{length};
 
@@ -27,11 +27,8 @@ fn next(dump: &[u8], at: usize) -> usize
 }
 
 fn say_body(n: usize, at: usize, what: &[u8]) {
-    say(b"    configuration ");
-    say_number(n);
-    say(b" at byte ");
-    say_number(at);
-    say(what);
+    tell(b"    configuration ", n, b" at byte ");
+    tell(b"", at, what);
 }
 
 // 23: the body that does not end where its wTotalLength says. 21: the body that breaks a rule by itself.
@@ -41,10 +38,8 @@ fn tell_body(dump: &[u8], n: usize, at: usize, number: u8) {
     if number == 23 {
         if (size < 9) | (left < size) {
             say_body(n, at, b" says wTotalLength ");
-            say_number(size);
-            say(b", and ");
-            say_number(left);
-            say(b" bytes are left\n");
+            tell(b"", size, b", and ");
+            tell(b"", left, b" bytes are left\n");
         }
         return;
     }
@@ -66,7 +61,7 @@ fn tell_bodies(dump: &[u8], number: u8) {
 }
 
 fn refused(dump: &[u8], number: u8, opening: u8) {
-    files::say_refused(number, opening);
+    files::tell_refused(number, opening);
     if dump.len() <= 18 {
         return say(b"    a device descriptor of 18 bytes and a configuration are not there\n");
     }

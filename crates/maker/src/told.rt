@@ -1,7 +1,7 @@
 // What a maker is told of a refusal: its number, why, and each piece that stands in the way, counted from 1, with its place in pieces.bin.
-use descriptors::Limits;
+use crate::write::kind;
 use files::say;
-use files::say_number;
+use files::tell;
 ghost use Prim.Native.Nat.{_<_, _≤_};
 ghost use lib.ListN.{length};
 
@@ -36,11 +36,8 @@ fn first_alike(stream: &[u8], at: usize) -> usize {
 }
 
 fn say_piece(n: usize, at: usize, what: &[u8]) {
-    say(b"    piece ");
-    say_number(n);
-    say(b" at byte ");
-    say_number(at);
-    say(what);
+    tell(b"    piece ", n, b" at byte ");
+    tell(b"", at, what);
 }
 
 // 20: the piece that does not end.
@@ -49,10 +46,8 @@ fn tell_broken(stream: &[u8], n: usize, at: usize) {
     let left = buffers::tail(stream, at).len();
     if left < size {
         say_piece(n, at, b" should have ");
-        say_number(size);
-        say(b" bytes, and ");
-        say_number(left);
-        say(b" are left\n");
+        tell(b"", size, b" bytes, and ");
+        tell(b"", left, b" are left\n");
     }
 }
 
@@ -74,24 +69,24 @@ fn tell_large(n: usize, at: usize, end: usize) {
     }
 }
 
-fn has_store(limits: Limits) -> bool {
-    descriptors::check::is_named(limits.entries, 15)
+fn is_entry(its_type: u8) -> bool {
+    let limits = kind();
+    descriptors::check::is_named(limits.entries, its_type)
 }
 
-// The last of the types that a kind of set has.
-fn say_last(store: bool) {
-    if store {
+// The last of the types that the kind of set has.
+fn say_last() {
+    if is_entry(15) {
         return say(b", 3 and 15\n");
     }
     say(b" and 3\n");
 }
 
 // 21, and the opener would say 2: offsets and order are the writer's, so it is the type, the length, or a piece that was there before.
-fn tell_entry(stream: &[u8], n: usize, at: usize, limits: Limits) {
-    let kind = octets::peek(buffers::tail(stream, at), 0);
-    if !descriptors::check::is_named(limits.entries, kind) {
+fn tell_entry(stream: &[u8], n: usize, at: usize) {
+    if !is_entry(octets::peek(buffers::tail(stream, at), 0)) {
         say_piece(n, at, b" has a type other than 1, 2");
-        say_last(has_store(limits));
+        say_last();
     }
     if set_writer::pieces::body_at(stream, at).len() < 2 {
         say_piece(n, at, b" has a body of less than 2 bytes\n");
@@ -103,26 +98,25 @@ fn tell_entry(stream: &[u8], n: usize, at: usize, limits: Limits) {
             at,
             b" has the type, index and language of the one at byte ",
         );
-        say_number(first);
-        say(b"\n");
+        tell(b"", first, b"\n");
     }
 }
 
 // 21, and the opener would say 3, 4 or 5: the pieces of that type; of the configurations those that break a rule by themselves.
-fn tell_body(stream: &[u8], n: usize, at: usize, opening: u8, limits: Limits) {
-    let kind = octets::peek(buffers::tail(stream, at), 0);
-    if (opening == 3) & (kind == 1) {
+fn tell_body(stream: &[u8], n: usize, at: usize, opening: u8) {
+    let its_type = octets::peek(buffers::tail(stream, at), 0);
+    if (opening == 3) & (its_type == 1) {
         say_piece(n, at, b" is a device\n");
     }
-    if (opening == 3) & (kind == 15) {
+    if (opening == 3) & (its_type == 15) {
         say_piece(n, at, b" is a BOS\n");
     }
-    if (opening == 5) & (kind == 3) {
+    if (opening == 5) & (its_type == 3) {
         say_piece(n, at, b" is a string\n");
     }
-    if (opening == 4) & (kind == 2) {
+    if (opening == 4) & (its_type == 2) {
         let body = set_writer::pieces::body_at(stream, at);
-        let verdict = descriptors::check::good_configuration(body, limits, &[0; 8]);
+        let verdict = descriptors::check::good_configuration(body, kind(), &[0; 8]);
         if verdict.good {
             return say_piece(n, at, b" is a configuration, good by itself\n");
         }
@@ -130,7 +124,7 @@ fn tell_body(stream: &[u8], n: usize, at: usize, opening: u8, limits: Limits) {
     }
 }
 
-fn tell_piece(stream: &[u8], n: usize, at: usize, number: u8, opening: u8, limits: Limits)
+fn tell_piece(stream: &[u8], n: usize, at: usize, number: u8, opening: u8)
     requires { ⌜ at < length (now stream) ⌝ }
 {
     if number == 20 {
@@ -140,27 +134,27 @@ fn tell_piece(stream: &[u8], n: usize, at: usize, number: u8, opening: u8, limit
         return tell_large(n, at, next(stream, at));
     }
     if opening == 2 {
-        return tell_entry(stream, n, at, limits);
+        return tell_entry(stream, n, at);
     }
-    tell_body(stream, n, at, opening, limits);
+    tell_body(stream, n, at, opening);
 }
 
-fn tell_pieces(stream: &[u8], number: u8, opening: u8, limits: Limits) {
+fn tell_pieces(stream: &[u8], number: u8, opening: u8) {
     let mut n = 1;
     let mut at = 0;
     while at < stream.len() {
-        tell_piece(stream, n, at, number, opening, limits);
+        tell_piece(stream, n, at, number, opening);
         at = next(stream, at);
         n += 1;
     }
 }
 
-pub fn refused(stream: &[u8], number: u8, opening: u8, limits: Limits) {
-    files::say_refused(number, opening);
+pub fn refused(stream: &[u8], number: u8, opening: u8) {
+    files::tell_refused(number, opening);
     if stream.len() == 0 {
         say(b"    there are no pieces\n");
     }
-    if (opening == 3) & has_store(limits) {
+    if (opening == 3) & is_entry(15) {
         say(
             b"    a SuperSpeed set has one device, and one BOS of at least 5 bytes with its length in bytes 2 and 3\n",
         );
@@ -168,5 +162,5 @@ pub fn refused(stream: &[u8], number: u8, opening: u8, limits: Limits) {
     if opening == 6 {
         say(b"    unit.bin is not the serial block that the device asks for\n");
     }
-    tell_pieces(stream, number, opening, limits);
+    tell_pieces(stream, number, opening);
 }

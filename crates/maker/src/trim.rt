@@ -1,14 +1,5 @@
 // What a trim saves is told, and the trimmed set goes to a file of its own.
-use files::say;
-use files::say_number;
-
-fn saved(strings: u8, bytes: usize) {
-    say(b"strings dropped: ");
-    say_number(strings as usize);
-    say(b", bytes saved: ");
-    say_number(bytes);
-    say(b"\n");
-}
+use files::tell;
 
 fn less(x: u8, y: u8) -> u8 {
     if x < y {
@@ -22,10 +13,12 @@ pub fn trim(set: &mut [u8], serial: &[u8]) {
     let strings = octets::peek(set, 2);
     let number = trimming::trim(set, serial, descriptors::full_speed());
     if number != 0 {
-        return files::say_refused(number, 0);
+        return files::tell_refused(number, 0);
     }
     let trimmed = buffers::head(set, octets::word(set, 0) as usize);
     let freed = buffers::tail(set, trimmed.len()).len();
-    saved(less(strings, octets::peek(set, 2)), freed);
+    let dropped = less(strings, octets::peek(set, 2)) as usize;
+    tell(b"strings dropped: ", dropped, b", bytes saved: ");
+    tell(b"", freed, b"\n");
     files::write(b"trimmed.bin", trimmed);
 }

@@ -3,21 +3,21 @@ use crate::told;
 use descriptors::Limits;
 
 // The kind of set that was asked for.
-fn kind() -> Limits {
+pub fn kind() -> Limits {
     if files::is_argument(2, b"super") {
         return descriptors::super_speed();
     }
     descriptors::full_speed()
 }
 
-fn write(stream: &[u8], serial: &[u8], limits: Limits) {
+fn write(stream: &[u8], serial: &[u8]) {
     let mut set = [0u8; 16384];
-    let report = set_writer::write(stream, serial, limits, &mut set);
+    let report = set_writer::write(stream, serial, kind(), &mut set);
     if report.number == 0 {
         let size = set_writer::length_written(report.number, &set) as usize;
         return files::write(b"set.bin", buffers::head(&set, size));
     }
-    told::refused(stream, report.number, report.opening, limits);
+    told::refused(stream, report.number, report.opening);
 }
 
 pub fn run() {
@@ -29,5 +29,5 @@ pub fn run() {
     if size == 65535 {
         return files::say(b"pieces.bin is too long: a set has at most 16,384 bytes\n");
     }
-    write(&stream[..size], &serial[..serial_size], kind());
+    write(&stream[..size], &serial[..serial_size]);
 }

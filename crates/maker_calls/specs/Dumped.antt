@@ -14,14 +14,11 @@ use Rattle.sets.specs.Contents.{entries}
 use Rattle.sets.specs.Opening.{lent, opening}
 use Rattle.sets.specs.Pieces.{piecesIn}
 use Rattle.sets.specs.Strings.{references}
-use Rattle.set_writer.specs.Laid.{laid}
-use Rattle.set_writer.specs.Writer.{opensAs}
+use Rattle.set_writer.specs.Writer.{laid, opensAs}
 use Rattle.set_writer.proofs.Filling.{there, behind, untouched}
-use Rattle.dumps.specs.Dump.{splits}
-use Rattle.dumps.specs.Zeroed.{zeroed}
-use Rattle.dumps.specs.Imported.{imported}
-use Rattle.dumps.specs.Import.{tooLarge, importing, Accepted}
-use Rattle.dumps.specs.Export.{exported, exporting, own}
+use Rattle.dumps.specs.Dump.{splits, zeroed, imported, tooLarge, importing, exported, exporting}
+use Rattle.dumps.specs.Import.{Accepted}
+use Rattle.dumps.specs.Export.{own}
 use Rattle.maker_promises.specs.Returned.{accepted, accepts, again, sameLength, exports, twice, exportedSplits}
 use Rattle.maker_promises.specs.Returned as returned
 use Rattle.maker_laws.proofs.DumpHome.{back as home-pieces}

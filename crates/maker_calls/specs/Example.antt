@@ -9,7 +9,7 @@ use Rattle.descriptors.specs.Limits.{fullSpeed}
 use Rattle.sets.specs.Opening.{lent}
 use Rattle.records.specs.Image.{imageOf}
 use Rattle.events.specs.Step.{setupEvent}
-use Rattle.dumps.specs.Zeroed.{zeroed}
+use Rattle.dumps.specs.Dump.{zeroed}
 use Rattle.trimming.specs.Trim.{trimmed, padded}
 use Rattle.promises.specs.Examples.{bytes, computed, S, T}
 use Rattle.promises.specs.Bench.{stands}

@@ -3,3 +3,4 @@ pub mod Explained
 pub mod Dumped
 pub mod Written
 pub mod Example
+pub mod StringExample

@@ -35,8 +35,7 @@ use Rattle.events.specs.Answer.{numberOf, partOf}
 use Rattle.events.specs.Places.{bytesAt}
 use Rattle.events.specs.Requests.{isEntry, bodyAt, languageFor, locateString, locate, describe, getDescriptor}
 use Rattle.events.specs.Step.{request, refusalFor, answerSetup, step, Reply, event, setupEvent}
-use Rattle.set_writer.specs.Pieces.{pieces}
-use Rattle.set_writer.specs.Writer.{setOf, writing}
+use Rattle.set_writer.specs.Writer.{pieces, setOf, writing}
 use Rattle.laws.proofs.Outcomes.{chosen}
 use Rattle.maker_laws.proofs.TrimRequests.{cut-body}
 use Rattle.promises.specs.Refusal.{freshImage}

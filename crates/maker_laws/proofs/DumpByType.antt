@@ -9,9 +9,9 @@ use Rattle.sets.specs.Contents as contents
 use Rattle.sets.specs.Device.{deviceBodyOf, deviceBody}
 use Rattle.sets.specs.Pieces.{Piece, piecesIn, piecesOf, bodiesOf, kindOf, bodyIs, headBody}
 use Rattle.sets.proofs.Pieces.{bodies-of}
-use Rattle.set_writer.specs.Laid.{laid}
+use Rattle.set_writer.specs.Writer.{laid}
 use Rattle.set_writer.proofs.ReadBack.{read-back}
-use Rattle.dumps.specs.Imported.{devicePiece, configurationPiece, numbered}
+use Rattle.dumps.specs.Dump.{devicePiece, configurationPiece, numbered}
 
 -- ---- a device and numbered configurations
 numbered-none : (t : ℕ) → eqb 2 t ≡ false → (i : ℕ) (bs : List (List ℕ)) → only (kindOf t) (numbered i bs) ≡ []

@@ -22,10 +22,8 @@ use Rattle.sets.proofs.References.{references-set}
 use Rattle.set_writer.specs.Writer.{opensAs}
 use Rattle.sets.specs.Pieces.{Piece, piecesIn, piecesOf, kindOf, bodyIs, headBody, hasIndex, hasNoLanguage, sole}
 use Rattle.set_writer.proofs.ReadBack.{read-back}
-use Rattle.dumps.specs.Dump.{splits, deviceIn, configurationsIn}
-use Rattle.dumps.specs.Zeroed.{zeroedDevice, zeroedConfiguration}
-use Rattle.dumps.specs.Imported.{devicePiece, configurationPiece, numbered, piecesFor, imported}
-use Rattle.dumps.specs.Export.{exported, own}
+use Rattle.dumps.specs.Dump.{splits, deviceIn, configurationsIn, zeroedDevice, zeroedConfiguration, devicePiece, configurationPiece, numbered, piecesFor, imported, exported}
+use Rattle.dumps.specs.Export.{own}
 use Rattle.maker_laws.proofs.DumpKept.{Sized, sized, same-body, blanked-same, joined-splits, joined-device, joined-configurations}
 
 map-same : (f : List ℕ → List ℕ) (bs : List (List ℕ)) → ((b : List ℕ) → List·Memᴰ b bs → f b ≡ b) → map f bs ≡ bs

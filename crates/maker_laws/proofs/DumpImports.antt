@@ -17,16 +17,12 @@ use Rattle.sets.specs.Strings.{references, goodStrings}
 use Rattle.sets.specs.Opening.{lent, opening}
 use Rattle.sets.proofs.Groups.{groups, texts-in}
 use Rattle.sets.specs.Pieces.{Piece, piecesIn, piecesOf}
-use Rattle.set_writer.specs.Laid.{laid}
-use Rattle.set_writer.specs.Writer.{opensAs, handing}
-use Rattle.dumps.specs.Dump.{flat, splits, deviceIn, configurationsIn}
-use Rattle.dumps.specs.Zeroed.{zeroedDevice, zeroedConfiguration, zeroed}
-use Rattle.dumps.specs.Imported.{piecesFor, imported}
+use Rattle.set_writer.specs.Writer.{laid, opensAs, handing}
+use Rattle.dumps.specs.Dump.{flat, splits, deviceIn, configurationsIn, zeroedDevice, zeroedConfiguration, zeroed, piecesFor, imported, exported, exporting, tooLarge, importing}
 use Rattle.dumps.proofs.Splitting.{flat-bodies}
 use Rattle.dumps.proofs.Blanking.{blanked-length}
 use Rattle.dumps.proofs.Streaming.{zeroed-length, whole-splits, device-size}
-use Rattle.dumps.specs.Export.{exported, exporting}
-use Rattle.dumps.specs.Import.{tooLarge, importing, Accepted}
+use Rattle.dumps.specs.Import.{Accepted}
 use Rattle.maker_laws.proofs.DumpByType.{device-again, configurations-again, no-strings}
 
 -- ---- "Import accepts exactly if the dump splits, the resulting set opens with an empty serial block and the buffer holds it."

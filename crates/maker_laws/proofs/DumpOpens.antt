@@ -17,13 +17,11 @@ use Rattle.sets.specs.Device.{deviceBodyOf, iSerialNumber, goodDevice}
 use Rattle.sets.specs.Strings.{referencesOf, isNonzero, goodStrings}
 use Rattle.sets.specs.Opening.{lent, numberedFrom, valueNonzero, distinctValues, goodDevices, goodConfigurations, goodBlock, opening}
 use Rattle.sets.proofs.Groups.{all-six, texts-out, no-texts}
-use Rattle.set_writer.specs.Laid as pieces
-use Rattle.set_writer.specs.Laid.{bodies, laid}
+use Rattle.set_writer.specs.Writer as pieces
+use Rattle.set_writer.specs.Writer.{bodies, laid, opensAs}
 use Rattle.set_writer.proofs.LaidOut.{laid-frame, laid-contents}
 use Rattle.set_writer.proofs.ReadBack.{read-back}
-use Rattle.set_writer.specs.Writer.{opensAs}
-use Rattle.dumps.specs.Dump.{flat}
-use Rattle.dumps.specs.Imported.{devicePiece, numbered}
+use Rattle.dumps.specs.Dump.{flat, devicePiece, numbered}
 use Rattle.dumps.proofs.Importing.{numbered-up, pieces-up, numbered-length}
 use Rattle.maker_laws.proofs.DumpByType.{only-1, only-2, only-3, device-is, bodies-are}
 

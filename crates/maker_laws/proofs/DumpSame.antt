@@ -16,15 +16,12 @@ use Rattle.octets.specs.Octets.{Bytes}
 use Rattle.sets.proofs.Entries.{every-cons}
 use Rattle.sets.specs.Opening.{lent}
 use Rattle.sets.specs.Pieces.{Piece, pieceFor, piecesIn}
-use Rattle.set_writer.specs.Laid.{laid}
-use Rattle.set_writer.specs.Writer.{opensAs}
+use Rattle.set_writer.specs.Writer.{laid, opensAs}
 use Rattle.sets.proofs.Pieces.{of-kind}
 use Rattle.set_writer.proofs.Canonical.{canonical}
 use Rattle.set_writer.proofs.ReadBack.{read-back}
-use Rattle.dumps.specs.Dump.{deviceIn, configurationsIn}
-use Rattle.dumps.specs.Zeroed.{zeroedDevice, zeroedConfiguration, zeroed}
-use Rattle.dumps.specs.Imported.{piecesFor, imported}
-use Rattle.dumps.specs.Export.{exported, own}
+use Rattle.dumps.specs.Dump.{deviceIn, configurationsIn, zeroedDevice, zeroedConfiguration, zeroed, piecesFor, imported, exported}
+use Rattle.dumps.specs.Export.{own}
 use Rattle.dumps.proofs.Together.{Up, all-up, none-below}
 use Rattle.maker_laws.proofs.DumpByType.{only-1, only-2}
 use Rattle.maker_laws.proofs.DumpHome.{held, back}

@@ -18,13 +18,11 @@ use Rattle.sets.specs.Pieces.{Piece, pieceFor, piecesIn, piecesOf, kindOf}
 use Rattle.sets.specs.Strings.{references, referencesOf}
 use Rattle.sets.proofs.Pieces.{bodies-of}
 use Rattle.sets.specs.Opening.{lent, opening}
-use Rattle.set_writer.specs.Laid.{laid}
-use Rattle.set_writer.specs.Writer.{opensAs}
+use Rattle.set_writer.specs.Writer.{laid, opensAs}
 use Rattle.set_writer.proofs.Canonical.{entries-length}
-use Rattle.dumps.specs.Imported.{imported}
-use Rattle.dumps.specs.Export.{exported, own}
+use Rattle.dumps.specs.Dump.{imported, exported, importing}
+use Rattle.dumps.specs.Export.{own}
 use Rattle.dumps.proofs.Together.{dump}
-use Rattle.dumps.specs.Import.{importing}
 use Rattle.maker_laws.proofs.DumpByType.{device-is, bodies-are}
 use Rattle.maker_laws.proofs.DumpKept.{sized}
 use Rattle.maker_laws.proofs.DumpHome.{held, device, device-long, configurations-many, configurations-held, good-body, exported-splits, own-pieces, no-serial, back}

@@ -18,7 +18,7 @@ use Rattle.sets.proofs.Groups.{each-rule}
 use Rattle.rules.specs.Findings.{Finding}
 use Rattle.rules.specs.Frame.{frameFindings, contentsFindings, noEntry}
 use Rattle.rules.specs.Device.{deviceFindings, serialFindings}
-use Rattle.rules.specs.Configuration.{configurationsFindings}
+use Rattle.rules.specs.Configurations.{configurationsFindings}
 use Rattle.rules.specs.Strings.{stringsFindings}
 use Rattle.rules.specs.Explained.{findings, isBroken, faultOf, explained}
 use Rattle.rules.proofs.Grouped.{all-rules, frames, contents, devices, serials, configurations, group-5}

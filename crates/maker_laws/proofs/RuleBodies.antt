@@ -10,7 +10,7 @@ use lib.Seq.{length-take-le, getD-take}
 use lib.Dec.{leb}
 use borrow.Author.Tests.{eq-eqb, leb-true, leb-false}
 use Rattle.octets.specs.Octets.{byte}
-use Rattle.octets.specs.Sentences.{pick, _⇒_, every, only, pairs}
+use Rattle.octets.specs.Sentences.{pick, _⇒_, every, only, first, pairs, isSome}
 use Rattle.octets.proofs.Sentences.{cases, every-append}
 use Rattle.descriptors.specs.declared.Limits.{Limits}
 use Rattle.descriptors.specs.declared.Setting.{Setting}
@@ -34,6 +34,9 @@ use Rattle.sets.specs.Pieces.{Piece, pieceWith, pieceFor, piecesIn, piecesOf, b
 use Rattle.sets.specs.Opening.{numberedFrom, valueNonzero, distinctValues, goodConfigurations}
 use Rattle.sets.proofs.Configurations.{every-both, ordered}
 use Rattle.rules.specs.Findings.{Finding, asked, byteAt}
+use Rattle.rules.specs.Configurations as list
+use Rattle.rules.specs.Explained.{isBroken}
+use Rattle.rules.proofs.Bodies.{configurations-told}
 use Rattle.rules.specs.Configuration.{isWhole, headFindings, headNumbers, placedFindings, surplus, descriptorFindings, restFindings, cutFindings, bodyFindings, configurationFindings, distinctFrom, configurationsFrom, configurationsFindings}
 use Rattle.maker_laws.proofs.RuleFrames.{allHold}
 
@@ -204,6 +207,16 @@ configuration-same limits single at n distinct e body =
     ∙ ap (λ g. g && (v && (distinct && true))) (body-same limits single (e .offset) body))
     ∙ five (hasIndex n p) (hasNoLanguage p) (goodConfiguration limits body) v distinct
 
+-- all hold where none is the first that is broken
+none-broken : (xs : List Finding) → allHold xs ≡ not (isSome (first isBroken xs))
+unfolding every first
+none-broken [] = refl
+none-broken (x ∷ xs) = go (x .holds) (none-broken xs)
+  where
+    go : (b : Bool) → allHold xs ≡ not (isSome (first isBroken xs)) → (b && allHold xs) ≡ not (isSome (pick (not b) (some x) (first isBroken xs)))
+    go true p = p
+    go false p = refl
+
 module _ (limits : Limits) (set : List ℕ) where
   -- the configurations that are left, from index n on
   unfoldable goodFrom : ℕ → List (List ℕ) → List Piece → Bool
@@ -246,6 +259,12 @@ module _ (limits : Limits) (set : List ℕ) where
       go true p q = every-append (λ x. x .holds) found later ∙ ap (λ b. allHold found && b) p ∙ more single at n earlier e rest
       go false p q = q
 
-  pub configurations-same : limits .companions ≡ false → allHold (configurationsFindings limits set) ≡ goodConfigurations limits (piecesIn set)
+  walked-same : limits .companions ≡ false → allHold (configurationsFindings limits set) ≡ goodConfigurations limits (piecesIn set)
   unfolding goodConfigurations goodFrom
-  configurations-same single = from-same single 4 0 [] (entries set) ∙ rw (all-distinct (bodiesOf 2 (piecesIn set)))
+  walked-same single = from-same single 4 0 [] (entries set) ∙ rw (all-distinct (bodiesOf 2 (piecesIn set)))
+
+  -- the list of rules breaks where the walk does
+  pub configurations-same : limits .companions ≡ false → allHold (list.configurationsFindings limits set) ≡ goodConfigurations limits (piecesIn set)
+  configurations-same single =
+      none-broken (list.configurationsFindings limits set) ∙ ap (λ o. not (isSome o)) (sym (configurations-told limits set))
+      ∙ sym (none-broken (configurationsFindings limits set)) ∙ walked-same single

@@ -18,10 +18,9 @@ use Rattle.sets.specs.Contents.{entries}
 use Rattle.sets.specs.Found.{isAt}
 use Rattle.sets.specs.Pieces.{Piece, pieceFor, piecesIn, kindOf}
 use Rattle.sets.proofs.Pieces.{map-only}
-use Rattle.set_writer.specs.Laid.{laid}
+use Rattle.set_writer.specs.Writer.{laid}
 use Rattle.set_writer.proofs.ReadBack.{read-back}
-use Rattle.trimming.specs.Keeping.{named, namedString, zeroStays, kept}
-use Rattle.trimming.specs.Trim.{keptPieces, trimmed, padded, Trims}
+use Rattle.trimming.specs.Trim.{named, namedString, zeroStays, kept, keptPieces, trimmed, padded, Trims}
 use Rattle.trimming.specs.Asked.{bodyIn, bodyUnder, left}
 use Rattle.set_writer.proofs.InPieces.{only-only, any-only, first-only, Alike, same-device, same-references}
 

@@ -23,12 +23,11 @@ use Rattle.sets.specs.Found.{isAt}
 use Rattle.sets.proofs.Groups.{groups}
 use Rattle.sets.proofs.Strings.{string-zero}
 use Rattle.sets.specs.Pieces.{Piece, pieceFor}
-use Rattle.set_writer.specs.Laid.{total, laid}
+use Rattle.set_writer.specs.Writer.{total, laid}
 use Rattle.set_writer.proofs.Laid.{laid-length}
 use Rattle.set_writer.proofs.Canonical.{canonical}
 use Rattle.set_writer.proofs.Stream.{two-bytes}
-use Rattle.trimming.specs.Keeping.{zeroStays, kept}
-use Rattle.trimming.specs.Trim.{keptPieces, trimmed, padded, Trims}
+use Rattle.trimming.specs.Trim.{zeroStays, kept, keptPieces, trimmed, padded, Trims}
 use Rattle.trimming.specs.Asked.{bodyIn, bodyUnder, left}
 use Rattle.set_writer.proofs.InPieces.{same-bodies, same-device}
 use Rattle.maker_laws.proofs.TrimAgain.{alike, same-bytes, there, unchanged}

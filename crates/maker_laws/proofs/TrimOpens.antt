@@ -17,14 +17,12 @@ use Rattle.sets.specs.Opening.{lent, opening}
 use Rattle.sets.proofs.Groups.{Groups, groups, all-six, one-device, GoodTexts, texts-in, texts-out}
 use Rattle.octets.specs.Octets.{Bytes}
 use Rattle.sets.specs.Pieces.{Piece, pieceFor, piecesIn, kindOf, piecesOf, sole}
-use Rattle.set_writer.specs.Sorted.{precedes}
-use Rattle.set_writer.specs.Laid.{total, laid}
+use Rattle.set_writer.specs.Writer.{precedes, total, laid}
 use Rattle.set_writer.proofs.Laid.{laid-length}
 use Rattle.set_writer.proofs.Canonical.{canonical}
 use Rattle.set_writer.proofs.Ascending.{neighbours-ascend}
 use Rattle.set_writer.proofs.Precedes.{transitive}
-use Rattle.trimming.specs.Keeping.{zeroStays}
-use Rattle.trimming.specs.Trim.{trimmed}
+use Rattle.trimming.specs.Trim.{zeroStays, trimmed}
 use Rattle.trimming.proofs.Rebuilding.{framed, entries-length}
 use Rattle.set_writer.proofs.InPieces.{only-only, same-devices, same-configurations, same-block}
 use Rattle.maker_laws.proofs.TrimAgain.{keptPiece, stringNamed, kept-pieces, reads-back, alike, zero-pieces, not-string}

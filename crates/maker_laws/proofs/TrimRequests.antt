@@ -41,9 +41,9 @@ use Rattle.events.specs.Places.{bytesIn}
 use Rattle.events.specs.Requests.{isEntry, bodyAt, byIndex, languageFor, locateString, locate, describe, getStatus, clearFeature, setFeature, setAddress, getDescriptor, getConfiguration, setConfiguration, getInterface, setInterface}
 use Rattle.events.specs.Step.{request, stateFor, setupFor, refusalFor, answerSetup, halt, packetPassed, respond, step, Reply, replyOf, event}
 use Rattle.set_writer.proofs.InPieces.{same-bodies}
-use Rattle.trimming.specs.Keeping.{named, namedString, zeroStays, kept, deviceNames, entryNames}
+use Rattle.trimming.specs.Trim.{named, namedString, zeroStays, kept, trimmed}
+use Rattle.trimming.specs.Keeping.{deviceNames, entryNames}
 use Rattle.trimming.proofs.Naming.{named-by}
-use Rattle.trimming.specs.Trim.{trimmed}
 use Rattle.trimming.specs.Asked.{bodyIn, bodyUnder, left}
 use Rattle.laws.proofs.Outcomes.{Answered, reads, fromSet, fromSerial, changes, refusedWith, inTest, Responded, answers, leaves, becomes, refuses, responded}
 use Rattle.maker_laws.specs.TrimRequests.{dropped, asksDropped, SaysSame}

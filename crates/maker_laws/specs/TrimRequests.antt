@@ -12,7 +12,7 @@ use Rattle.events.specs.Answer.{numberOf, bytesOf, partOf}
 use Rattle.events.specs.Places.{bytesIn}
 use Rattle.octets.specs.Sentences.{any}
 use Rattle.sets.specs.Contents.{entries, isKind}
-use Rattle.trimming.specs.Keeping.{kept}
+use Rattle.trimming.specs.Trim.{kept}
 
 -- a dropped string, by its index, in whatever language: a string entry had it, which trimming does not keep
 abbrev pub dropped : List ℕ → ℕ → Bool

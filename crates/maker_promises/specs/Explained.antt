@@ -17,7 +17,7 @@ use Rattle.sets.specs.Opening.{Board, opening, goodDevices, goodConfigurations,
 use Rattle.rules.specs.Findings.{Finding}
 use Rattle.rules.specs.Frame.{frameFindings, contentsFindings}
 use Rattle.rules.specs.Device.{deviceFindings, serialFindings}
-use Rattle.rules.specs.Configuration.{configurationsFindings}
+use Rattle.rules.specs.Configurations.{configurationsFindings}
 use Rattle.rules.specs.Strings.{stringsFindings}
 use Rattle.rules.specs.Explained.{isBroken, inside, explained}
 use Rattle.rules.proofs.Told.{told-number}

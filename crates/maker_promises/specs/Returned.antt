@@ -13,14 +13,11 @@ use Rattle.sets.specs.Device.{deviceBody}
 use Rattle.sets.specs.Strings.{references}
 use Rattle.octets.specs.Octets.{Bytes}
 use Rattle.sets.specs.Pieces.{piecesIn}
-use Rattle.set_writer.specs.Laid.{laid}
-use Rattle.set_writer.specs.Writer.{opensAs, Filled}
+use Rattle.set_writer.specs.Writer.{laid, opensAs, Filled}
 use Rattle.set_writer.proofs.Filling.{there}
-use Rattle.dumps.specs.Dump.{splits, deviceIn, configurationsIn}
-use Rattle.dumps.specs.Zeroed.{zeroed}
-use Rattle.dumps.specs.Imported.{imported}
-use Rattle.dumps.specs.Export.{exported, exporting, own}
-use Rattle.dumps.specs.Import.{importing, Accepted}
+use Rattle.dumps.specs.Dump.{splits, deviceIn, configurationsIn, zeroed, imported, exported, exporting, importing}
+use Rattle.dumps.specs.Export.{own}
+use Rattle.dumps.specs.Import.{Accepted}
 use Rattle.maker_laws.proofs.DumpHome as laws
 use Rattle.maker_laws.proofs.DumpImports as imports
 use Rattle.maker_laws.proofs.DumpSame as same

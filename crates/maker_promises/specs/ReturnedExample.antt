@@ -4,17 +4,12 @@ use mathlib.Core.Path.{_≡_, refl}
 use mathlib.Core.List.{List, [], _∷_, _++_}
 use lib.ListN.{take}
 use Rattle.promises.specs.Examples.{bytes, computed, S}
-use Rattle.set_writer.specs.Laid.{contents, bodies, laid}
-use Rattle.dumps.specs.Dump.{flat, splitsAfter, bodiesAfter}
-use Rattle.descriptors.specs.Walk.{walked}
-use Rattle.dumps.specs.Zeroed.{blanked, zeroed}
-use Rattle.dumps.specs.Imported.{numbered, imported}
-use Rattle.dumps.specs.Export.{exported, exporting}
-use Rattle.dumps.specs.Import.{importing}
+use Rattle.set_writer.specs.Writer.{contents, bodies, laid}
+use Rattle.dumps.specs.Dump.{flat, splitsAfter, bodiesAfter, namesFrom, blanked, zeroed, numbered, imported, exported, exporting, importing}
 
 -- a statement that says `unfolding parted` computes with the definitions of dumps
 unfoldable pub parted : ℕ
-unfolding flat splitsAfter bodiesAfter walked blanked numbered contents bodies laid computed
+unfolding flat splitsAfter bodiesAfter namesFrom blanked numbered contents bodies laid computed
 parted = 0
 
 -- the bench set's device and configuration, with references 1 to 5

@@ -20,8 +20,7 @@ use Rattle.records.specs.Fits.{fitsOn}
 use Rattle.events.specs.declared.Event.{Event}
 use Rattle.events.specs.Step.{step, event}
 use Rattle.sets.specs.Pieces.{Piece, piecesIn, kindOf}
-use Rattle.trimming.specs.Keeping.{named, zeroStays, kept}
-use Rattle.trimming.specs.Trim.{trimmed, Trims}
+use Rattle.trimming.specs.Trim.{named, zeroStays, kept, trimmed, Trims}
 use Rattle.trimming.specs.Asked.{bodyUnder, left}
 use Rattle.maker_laws.specs.TrimRequests.{asksDropped, SaysSame}
 use Rattle.maker_laws.proofs.TrimAgain as again

@@ -8,7 +8,7 @@ use Rattle.sets.specs.Opening.{lent, opening}
 use Rattle.events.specs.Answer.{numberOf}
 use Rattle.events.specs.Step.{step, setupEvent}
 use Rattle.sets.specs.Pieces.{piecesIn}
-use Rattle.set_writer.specs.Laid.{contents, bodies, laid}
+use Rattle.set_writer.specs.Writer.{contents, bodies, laid}
 use Rattle.promises.specs.Examples.{bytes, computed, S, T}
 use Rattle.promises.specs.Inhabited.{acceptedT, bytesT, configured}
 use Rattle.trimming.specs.Trim.{trimmed}

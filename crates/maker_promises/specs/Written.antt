@@ -16,10 +16,9 @@ use Rattle.descriptors.specs.declared.Limits.{Limits}
 use Rattle.sets.specs.declared.Entry.{Entry}
 use Rattle.sets.specs.Contents.{entries, bodyOf, total, count, bodiesAt, goodFrame}
 use Rattle.sets.specs.Found.{isAt}
-use Rattle.set_writer.specs.Pieces.{ends, pieces, streamOf}
+use Rattle.set_writer.specs.Writer.{ends, pieces, precedes, sorted, laid, setOf, opensAs, writing, Filled}
+use Rattle.set_writer.specs.Stream.{streamOf}
 use Rattle.sets.specs.Pieces.{Piece, pieceFor, piecesIn}
-use Rattle.set_writer.specs.Sorted.{precedes, sorted}
-use Rattle.set_writer.specs.Laid.{laid}
 use Rattle.set_writer.specs.Shuffled.{Shuffled}
 use Rattle.set_writer.proofs.Ascending.{Ascends}
 use Rattle.set_writer.proofs.Bytewise.{small-pieces, laid-bytes}
@@ -30,7 +29,6 @@ use Rattle.set_writer.proofs.ReadBack.{read-back}
 use Rattle.set_writer.proofs.Shuffled.{itself, back, among}
 use Rattle.set_writer.proofs.Sizes.{sorted-length}
 use Rattle.set_writer.proofs.Stream.{stream-read, stream-whole}
-use Rattle.set_writer.specs.Writer.{setOf, opensAs, writing, Filled}
 use Rattle.set_writer.proofs.Filling as filling
 use Rattle.set_writer.proofs.Accepted.{mapped, mapping, zero-opens, framed, ascends, entries-ascend, looked-up, same-sorted, answer-accepted, answer-refused}
 

@@ -5,10 +5,7 @@ use mathlib.Core.List.{List, [], _∷_, _++_}
 use lib.ListN.{take}
 use Rattle.descriptors.specs.Limits.{fullSpeed}
 use Rattle.promises.specs.Examples.{bytes, computed, S}
-use Rattle.set_writer.specs.Pieces.{endsAfter, piecesAfter}
-use Rattle.set_writer.specs.Sorted.{insert, sortInto}
-use Rattle.set_writer.specs.Laid.{contents, bodies, laid}
-use Rattle.set_writer.specs.Writer.{setOf, writing}
+use Rattle.set_writer.specs.Writer.{endsAfter, piecesAfter, insert, sortInto, contents, bodies, laid, setOf, writing}
 
 -- a statement that says `unfolding assembled` computes with the writer's definitions
 unfoldable pub assembled : ℕ

@@ -11,7 +11,7 @@ use Rattle.records.specs.declared.Device.{Device}
 use Rattle.records.specs.Fits.{fits}
 use Rattle.records.specs.Device.{Sized}
 use Rattle.events.specs.declared.Event.{Event}
-use Rattle.set_writer.specs.Pieces.{streamOf}
+use Rattle.set_writer.specs.Stream.{streamOf}
 use Rattle.sets.specs.Pieces.{piecesIn}
 use Rattle.set_writer.specs.Writer.{setOf, writing}
 use Rattle.promises.specs.Keeps.{FitImage, Reached, reachedFits}

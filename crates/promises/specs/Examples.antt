@@ -13,7 +13,7 @@ use Rattle.sets.specs.Opening.{Board, lent, goodDevices, numberedFrom, goodConf
 use Rattle.sets.specs.Pair.{same, qualifies, mirrorsAll, mirrors, openingTwo}
 use Rattle.sets.specs.View.{viewOf}
 use Rattle.sets.specs.Pieces.{Piece}
-use Rattle.set_writer.specs.Laid.{contents, bodies, laid}
+use Rattle.set_writer.specs.Writer.{contents, bodies, laid}
 use Rattle.records.specs.Image.{fourBytes, bytesOfFour, deviceOf, imageOf}
 use Rattle.records.specs.Fits.{fits}
 use Rattle.requests.specs.Table.{refusal}

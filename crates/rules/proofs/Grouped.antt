@@ -4,6 +4,7 @@ use native.Mathlib.Omega.{arith}
 use mathlib.Core.Path.{_≡_, refl, ap, _∙_}
 use mathlib.Core.List.{List, [], _∷_, _++_}
 use mathlib.Core.Bool.{Bool, true, false, _&&_, not}
+use mathlib.Core.Option.{Option, some, none}
 use lib.ListN.{length}
 use lib.Dec.{eqb}
 use borrow.Author.Tests.{eqb-true, ne-eqb}
@@ -11,13 +12,11 @@ use Rattle.octets.specs.Sentences.{pick, every}
 use Rattle.octets.proofs.Sentences.{both, joined, every-append}
 use Rattle.descriptors.specs.declared.Limits.{Limits}
 use Rattle.descriptors.specs.declared.Setting.{Setting}
-use Rattle.descriptors.specs.declared.Stand.{Stand}
-use Rattle.descriptors.specs.declared.check.Progress.{Progress}
+use Rattle.descriptors.specs.declared.Endpoint.{Endpoint}
 use Rattle.descriptors.specs.Cut.{Cutting, whole, broken, descriptor, cut}
 use Rattle.descriptors.specs.Descriptor.{isInterface, isEndpoint, iInterface}
+use Rattle.descriptors.specs.Interfaces.{Group, begunBy}
 use Rattle.descriptors.specs.Configuration.{bNumInterfaces}
-use Rattle.descriptors.specs.Walk.{settingAt, before, standOf}
-use Rattle.descriptors.specs.Check.{onward, beginning}
 use Rattle.sets.specs.declared.Entry.{Entry}
 use Rattle.sets.specs.Contents.{bodyOf, isKind, entries, entriesOf, total, bodiesAt}
 use Rattle.sets.specs.Device.{deviceBody, iSerialNumber}
@@ -27,7 +26,7 @@ use Rattle.sets.specs.Opening.{Board}
 use Rattle.rules.specs.Findings.{Finding}
 use Rattle.rules.specs.Frame.{frameFindings, contentsAsked, contentsFindings, noEntry}
 use Rattle.rules.specs.Device.{deviceEntryFindings, deviceFindings, serialAsked, serialFindings}
-use Rattle.rules.specs.Configuration.{isWhole, placedFindings, interfaceFindings, endpointFindings, typeFindings, restFindings, cutFindings, bodyFindings, configurationFindings, distinctFrom, configurationsFrom, configurationsFindings}
+use Rattle.rules.specs.Configurations.{isWhole, beginFindings, interfaceFindings, endpointFindings, groupAfter, endpointsAfter, restFindings, cutFindings, bodyFindings, configurationFindings, distinctFrom, configurationsFrom, configurationsFindings}
 use Rattle.rules.specs.Strings.{languagesFrom, languageFindings, stringEntryFindings, stringsFrom, referenceFindings, interfacesFrom, bodyReferences, referencesFrom, stringsFindings}
 use Rattle.rules.specs.Explained.{findings}
 use Rattle.rules.proofs.After.{isNumbered}
@@ -40,16 +39,16 @@ inGroup g x = eqb (x .rule / 100) g
 abbrev pub Of : ℕ → List Finding → Type 0
 Of g xs = every (inGroup g) xs ≡ true
 
-then : (g : ℕ) (xs ys : List Finding) → Of g xs → Of g ys → Of g (xs ++ ys)
+pub then : (g : ℕ) (xs ys : List Finding) → Of g xs → Of g ys → Of g (xs ++ ys)
 then g xs ys p q = every-append (inGroup g) xs ys ∙ joined p q
 
-choice : (g : ℕ) (b : Bool) (xs ys : List Finding) → Of g xs → Of g ys → Of g (pick b xs ys)
+pub choice : (g : ℕ) (b : Bool) (xs ys : List Finding) → Of g xs → Of g ys → Of g (pick b xs ys)
 choice g true xs ys p q = p
 choice g false xs ys p q = q
 
-none : (g : ℕ) → Of g []
+pub nothing : (g : ℕ) → Of g []
 unfolding every
-none g = refl
+nothing g = refl
 
 pub frames : (set : List ℕ) → Of 1 (frameFindings set)
 unfolding every
@@ -72,40 +71,39 @@ serials true block = refl
 serials false block = refl
 
 -- ---- group 4
-placed : (inside : Bool) (start at : ℕ) (s t : Setting) → Of 4 (placedFindings inside start at s t)
+begins : (start at : ℕ) (g : Option Group) (t : Setting) → Of 4 (beginFindings start at g t)
 unfolding every
-placed true start at s t = refl
-placed false start at s t = refl
+begins start at none t = refl
+begins start at (some g) t = refl
 
-interfaces : (start at head : ℕ) (w : Progress) (last stand : Stand) (d : List ℕ) → Of 4 (interfaceFindings start at head w last stand d)
+interfaces : (start at head : ℕ) (g : Option Group) (d : List ℕ) → Of 4 (interfaceFindings start at head g d)
 unfolding every
-interfaces start at head w last stand d = then 4 (placedFindings (last .inside) start at (settingAt last) (settingAt stand)) _ (placed (last .inside) start at (settingAt last) (settingAt stand)) refl
+interfaces start at head g d = then 4 (beginFindings start at g (begunBy d)) _ (begins start at g (begunBy d)) refl
 
-endpoints : (limits : Limits) (start at head : ℕ) (w : Progress) (inside : Bool) (interface alternate : ℕ) (d : List ℕ)
-    → Of 4 (endpointFindings limits start at head w (record { inside = inside; interface = interface; alternate = alternate }) d)
+endpoints : (limits : Limits) (start at head : ℕ) (g : Option Group) (es : List Endpoint) (d : List ℕ) → Of 4 (endpointFindings limits start at head g es d)
 unfolding every
-endpoints limits start at head w true interface alternate d = refl
-endpoints limits start at head w false interface alternate d = refl
+endpoints limits start at head none es d = refl
+endpoints limits start at head (some g) es d = refl
 
-types : (limits : Limits) (start at head : ℕ) (w : Progress) (last stand : Stand) (d : List ℕ) → Of 4 (typeFindings limits start at head w last stand d)
-types limits start at head w last stand d =
-    choice 4 (isInterface d) (interfaceFindings start at head w last stand d) _ (interfaces start at head w last stand d)
-    (choice 4 (isEndpoint d) (endpointFindings limits start at head w last d) [] (endpoints limits start at head w (last .inside) (last .interface) (last .alternate) d) (none 4))
+types : (limits : Limits) (start at head : ℕ) (g : Option Group) (es : List Endpoint) (d : List ℕ)
+    → Of 4 (pick (isInterface d) (interfaceFindings start at head g d) (pick (isEndpoint d) (endpointFindings limits start at head g es d) []))
+types limits start at head g es d =
+    choice 4 (isInterface d) (interfaceFindings start at head g d) _ (interfaces start at head g d)
+    (choice 4 (isEndpoint d) (endpointFindings limits start at head g es d) [] (endpoints limits start at head g es d) (nothing 4))
 
-rest : (limits : Limits) (start n at head : ℕ) (w : Progress) (last : Stand) (cs : Cutting) → Of 4 (restFindings limits start n at head w last cs)
+rest : (limits : Limits) (start n at head : ℕ) (g : Option Group) (es : List Endpoint) (cs : Cutting) → Of 4 (restFindings limits start n at head g es cs)
 unfolding every restFindings
-rest limits start n at head w last whole = refl
-rest limits start n at head w last broken = refl
-rest limits start n at head w last (descriptor d ds) =
-    let stand = standOf last d in
-    then 4 (typeFindings limits start at head w last stand d) _ (types limits start at head w last stand d)
-    (rest limits start n (at + length d) (pick (isInterface d) at head) (onward w last stand d) stand ds)
+rest limits start n at head g es whole = refl
+rest limits start n at head g es broken = refl
+rest limits start n at head g es (descriptor d ds) =
+    then 4 (pick (isInterface d) (interfaceFindings start at head g d) (pick (isEndpoint d) (endpointFindings limits start at head g es d) [])) _ (types limits start at head g es d)
+    (rest limits start n (at + length d) (pick (isInterface d) at head) (groupAfter g d) (endpointsAfter g es d) ds)
 
 cuts : (limits : Limits) (size start : ℕ) (cs : Cutting) → Of 4 (cutFindings limits size start cs)
 unfolding every
 cuts limits size start whole = refl
 cuts limits size start broken = refl
-cuts limits size start (descriptor d ds) = rest limits start (bNumInterfaces d) (length d) 0 beginning before ds
+cuts limits size start (descriptor d ds) = rest limits start (bNumInterfaces d) (length d) 0 none [] ds
 
 configuration : (limits : Limits) (at n : ℕ) (distinct : Bool) (e : Entry) (body : List ℕ) → Of 4 (configurationFindings limits at n distinct e body)
 unfolding every
@@ -156,7 +154,7 @@ group-5 set = then 5 (stringsFrom set (languages set) (iSerialNumber (deviceBody
 
 -- ---- all: what holds of every rule whose number has a group holds of all that are asked
 module _ (p : Finding → Bool) (f : (x : Finding) → 1 ≤ x .rule / 100 → p x ≡ true) where
-  every-in : (g : ℕ) → 0 < g → (xs : List Finding) → Of g xs → every p xs ≡ true
+  pub every-in : (g : ℕ) → 0 < g → (xs : List Finding) → Of g xs → every p xs ≡ true
   unfolding every
   every-in g h [] q = refl
   every-in g h (x ∷ xs) q =
@@ -164,7 +162,7 @@ module _ (p : Finding → Bool) (f : (x : Finding) → 1 ≤ x .rule / 100 → p
       let e = eqb-true (x .rule / 100) g r in
       joined (f x (omega arith)) (every-in g h xs s)
 
-  before-others : (g : ℕ) → 0 < g → (xs ys : List Finding) → Of g xs → every p ys ≡ true → every p (xs ++ ys) ≡ true
+  pub before-others : (g : ℕ) → 0 < g → (xs ys : List Finding) → Of g xs → every p ys ≡ true → every p (xs ++ ys) ≡ true
   before-others g h xs ys q r = every-append p xs ys ∙ joined (every-in g h xs q) r
 
   pub all-rules : (limits : Limits) (b : Board) → every p (findings limits b) ≡ true
@@ -178,5 +176,6 @@ module _ (p : Finding → Bool) (f : (x : Finding) → 1 ≤ x .rule / 100 → p
       (before-others 5 (omega arith) (stringsFindings set) _ (group-5 set)
       (every-in 6 (omega arith) (serialFindings (iSerialNumber (deviceBody set)) (b .serial)) (serials (eqb (iSerialNumber (deviceBody set)) 0) (b .serial)))))))
 
-pub numbered : (limits : Limits) (b : Board) → every isNumbered (findings limits b) ≡ true
-numbered = all-rules isNumbered (λ x h. ap not (ne-eqb (x .rule) 0 (λ z. omega arith)))
+-- so it has a number
+pub has-number : (x : Finding) → 1 ≤ x .rule / 100 → isNumbered x ≡ true
+has-number x h = ap not (ne-eqb (x .rule) 0 (λ z. omega arith))

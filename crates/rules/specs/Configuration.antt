@@ -1,55 +1,29 @@
--- Group 4, rule by rule: entry by entry, and in a body descriptor by descriptor. Places are bytes of the set.
+-- Working definitions: group 4 as the code's walk asks it, with a bit for each address that came; no promise cites them.
 use Prim.Native.Nat.{ℕ, _+_}
 use mathlib.Core.List.{List, [], _∷_, _++_}
-use mathlib.Core.Bool.{Bool, true, false, _||_}
+use mathlib.Core.Bool.{Bool, true, false}
 use lib.ListN.{length}
-use lib.Dec.{eqb}
-use Rattle.octets.specs.Octets.{byte}
-use Rattle.octets.specs.Sentences.{pick, every}
+use Rattle.octets.specs.Sentences.{pick}
 use Rattle.descriptors.specs.declared.Limits.{Limits}
 use Rattle.descriptors.specs.declared.Setting.{Setting}
 use Rattle.descriptors.specs.declared.Stand.{Stand}
 use Rattle.descriptors.specs.declared.check.Progress.{Progress}
 use Rattle.descriptors.specs.Cut.{Cutting, whole, broken, descriptor, cut}
 use Rattle.descriptors.specs.Descriptor.{bDescriptorType, isInterface, isEndpoint, bEndpointAddress, bmAttributes, wMaxPacketSize, bInterval, transferType}
-use Rattle.descriptors.specs.Descriptor.{addressBitsZero, numberNotZero, highBitsZero, notControl, middleBitsZero, bulkSize, interruptSize, isochronousSize, interruptInterval, isochronousInterval, endpointLongEnough, typeAllowed, interfaceLongEnough}
-use Rattle.descriptors.specs.Interfaces.{numberZero, alternateZero, sameNumber, nextNumber, follows, alternateWithin}
-use Rattle.descriptors.specs.Configuration.{bNumInterfaces, isConfiguration, headLongEnough, totalIsSize, bitSevenOne, lowBitsZero, powerWithin, countsInterface, atMost16Interfaces}
+use Rattle.descriptors.specs.Descriptor.{endpointLongEnough, typeAllowed, interfaceLongEnough}
+use Rattle.descriptors.specs.Interfaces.{numberZero, alternateZero, follows, alternateWithin}
+use Rattle.descriptors.specs.Configuration.{bNumInterfaces}
 use Rattle.descriptors.specs.Walk.{settingAt, before, standOf}
 use Rattle.descriptors.specs.Check.{onceInSetting, inNoSecondInterface, allCame, oneMayCome, onward, reachesLast, beginning}
 use Rattle.sets.specs.declared.Entry.{Entry}
 use Rattle.sets.specs.Contents.{bodyOf, isKind, entries}
 use Rattle.sets.specs.Pieces.{pieceWith, hasIndex, hasNoLanguage}
-use Rattle.sets.specs.Opening.{valueNonzero, distinctValues}
+use Rattle.sets.specs.Opening.{valueNonzero}
 use Rattle.rules.specs.Findings.{Finding, asked, byteAt}
+pub use Rattle.rules.specs.Configurations.{isWhole, headFindings, headNumbers, mayNumber, numberFindings, sizeFindings, intervalFindings, distinctFrom}
 
 -- ---- one descriptor, which begins at `at` of a body that begins at `start`
--- "every bLength at least 2 and inside the body": a descriptor that is cut off by the body's end is shorter than its bLength
-abbrev pub isWhole : List ℕ → Bool
-isWhole d = eqb (length d) (byte d 0)
-
--- the first, of a body of so many bytes: "type 2, at least 9 long; wTotalLength equals the body's length; bmAttributes has bit 7 one and bits 4–0 zero;
--- bMaxPower at most 250", "bNumInterfaces 1–16"
-abbrev pub headFindings : ℕ → ℕ → List ℕ → List Finding
-headFindings size start d =
-    asked 404 (byteAt start 0 0) (isWhole d) ∷
-    asked 405 (byteAt start 0 1) (isConfiguration d) ∷
-    asked 406 (byteAt start 0 0) (headLongEnough d) ∷
-    asked 407 (byteAt start 0 2) (totalIsSize size d) ∷ []
-
-abbrev pub headNumbers : ℕ → List ℕ → List Finding
-headNumbers start d =
-    asked 408 (byteAt start 0 7) (bitSevenOne d) ∷
-    asked 409 (byteAt start 0 7) (lowBitsZero d) ∷
-    asked 410 (byteAt start 0 8) (powerWithin d) ∷
-    asked 414 (byteAt start 0 4) (countsInterface d) ∷
-    asked 415 (byteAt start 0 4) (atMost16Interfaces d) ∷ []
-
--- the setting that an interface descriptor begins, after a descriptor that stands at `last`: "The first is number 0, alternate 0; each later one has either the same
--- number and the alternate one higher, or the number one higher and alternate 0". Where its number may stand, its alternate setting is wrong
-abbrev pub mayNumber : Setting → Setting → Bool
-mayNumber s t = sameNumber s t || nextNumber s t
-
+-- the setting that an interface descriptor begins, after a descriptor that stands at `last`
 abbrev pub placedFindings : Bool → ℕ → ℕ → Setting → Setting → List Finding
 placedFindings true start at s t = asked 418 (byteAt start at (pick (mayNumber s t) 3 2)) (follows s t) ∷ []
 placedFindings false start at s t = asked 416 (byteAt start at 2) (numberZero t) ∷ asked 417 (byteAt start at 3) (alternateZero t) ∷ []
@@ -66,29 +40,6 @@ interfaceFindings start at head w last stand d =
 abbrev pub surplus : Bool → ℕ → ℕ → ℕ → Progress → Finding
 surplus true start at head w = asked 421 (byteAt start head 4) (oneMayCome w)
 surplus false start at head w = asked 422 (byteAt start at 0) (oneMayCome w)
-
--- an endpoint descriptor: "address bits 6–4 zero, number 1–15. Attributes bits 7–6 zero; transfer type 1 (isochronous), 2 (bulk) or 3 (interrupt);
--- bits 5–2 zero unless isochronous"
-abbrev pub numberFindings : ℕ → ℕ → ℕ → ℕ → List Finding
-numberFindings start at address attributes =
-    asked 423 (byteAt start at 2) (addressBitsZero address) ∷
-    asked 424 (byteAt start at 2) (numberNotZero address) ∷
-    asked 425 (byteAt start at 3) (highBitsZero attributes) ∷
-    asked 426 (byteAt start at 3) (notControl attributes) ∷
-    asked 427 (byteAt start at 3) (middleBitsZero attributes) ∷ []
-
--- "wMaxPacketSize: bulk 8, 16, 32 or 64; interrupt 0–64; isochronous 0–1,023"
-abbrev pub sizeFindings : Limits → ℕ → ℕ → ℕ → ℕ → List Finding
-sizeFindings limits start at transfer size =
-    asked 428 (byteAt start at 4) (bulkSize limits transfer size) ∷
-    asked 429 (byteAt start at 4) (interruptSize limits transfer size) ∷
-    asked 430 (byteAt start at 4) (isochronousSize limits transfer size) ∷ []
-
--- "bInterval: interrupt 1–255, isochronous 1–16, bulk free"
-abbrev pub intervalFindings : Limits → ℕ → ℕ → ℕ → ℕ → List Finding
-intervalFindings limits start at transfer interval =
-    asked 431 (byteAt start at 6) (interruptInterval limits transfer interval) ∷
-    asked 432 (byteAt start at 6) (isochronousInterval limits transfer interval) ∷ []
 
 -- "An address occurs once in a setting and in no second interface of the same configuration". What was seen before is, a bit for each address, that of this setting,
 -- of this interface's settings, and of the whole body
@@ -150,10 +101,6 @@ configurationFindings limits at n distinct e body =
     asked 401 (byteAt 0 at 1) (hasIndex n (pieceWith e body)) ∷
     asked 402 (byteAt 0 at 2) (hasNoLanguage (pieceWith e body)) ∷
     (bodyFindings limits (e .offset) body ++ (asked 435 (byteAt (e .offset) 0 5) (valueNonzero body) ∷ asked 436 (byteAt (e .offset) 0 5) distinct ∷ []))
-
--- a body beside those before it
-abbrev pub distinctFrom : List (List ℕ) → List ℕ → Bool
-distinctFrom earlier body = every (λ b. distinctValues b body) earlier
 
 -- the entries from `at` on; `earlier` are the bodies that were there
 unfoldable pub configurationsFrom : Limits → List ℕ → ℕ → ℕ → List (List ℕ) → List Entry → List Finding

@@ -14,7 +14,7 @@ use Rattle.rules.specs.declared.Explained.{Explained}
 use Rattle.rules.specs.Findings.{Finding}
 use Rattle.rules.specs.Frame.{frameFindings, contentsFindings}
 use Rattle.rules.specs.Device.{deviceFindings, serialFindings}
-use Rattle.rules.specs.Configuration.{configurationsFindings}
+use Rattle.rules.specs.Configurations.{configurationsFindings}
 use Rattle.rules.specs.Strings.{stringsFindings}
 
 -- every rule in its order: group by group; within a group entry by entry and descriptor by descriptor, and at one descriptor in the page's order

@@ -1,11 +1,10 @@
 -- Groups 1 and 2, rule by rule: the frame and the contents. Places are bytes of the set.
 use Prim.Native.Nat.{ℕ, _+_, _-_}
 use mathlib.Core.List.{List, [], _∷_, _++_}
-use mathlib.Core.Bool.{Bool, true, false}
+use mathlib.Core.Bool.{Bool, true, false, _||_}
 use Rattle.descriptors.specs.declared.Limits.{Limits}
 use Rattle.sets.specs.declared.Entry.{Entry}
-use Rattle.sets.specs.Contents.{total, bodiesAt, entries, longEnough, shortEnough, totalIsLength, countsEntry, atMost64Entries, byteThreeZero, contentsInside, kindAllowed, bodyLongEnough, beginsAt, endsAtTotal}
-use Rattle.sets.specs.Checks.{isNext}
+use Rattle.sets.specs.Contents.{total, bodiesAt, entries, longEnough, shortEnough, totalIsLength, countsEntry, atMost64Entries, byteThreeZero, contentsInside, kindAllowed, before, bodyLongEnough, beginsAt, endsAtTotal}
 use Rattle.rules.specs.Findings.{Finding, asked, byteAt}
 
 -- "at least 4 bytes, at most 16,384; total equals the slice's length; n in 1–64; byte 3 zero; 4 + 8 × n within the total"
@@ -24,7 +23,7 @@ frameFindings set =
 abbrev pub entryFindings : Limits → ℕ → Bool → Entry → ℕ → Entry → List Finding
 entryFindings limits at first last start e =
     asked 201 (byteAt 0 at 0) (kindAllowed limits e) ∷
-    asked 202 (byteAt 0 at 0) (isNext first last e) ∷
+    asked 202 (byteAt 0 at 0) (first || before last e) ∷
     asked 203 (byteAt 0 at 6) (bodyLongEnough e) ∷
     asked 204 (byteAt 0 at 4) (beginsAt start e) ∷ []
 

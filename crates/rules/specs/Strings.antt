@@ -13,7 +13,7 @@ use Rattle.sets.specs.Pieces.{pieceWith, piecesIn, piecesOf}
 use Rattle.sets.specs.Device.{deviceBody, iManufacturer, iProduct, iSerialNumber}
 use Rattle.sets.specs.Strings.{saysItsLength, typedString, evenLength, upTo254, isStringZero, stringZero, languages, listsOne, listsAtMostFour, isNonzero, ascends, languageZero, listed, notSerial, goodReference, zeroIf}
 use Rattle.rules.specs.Findings.{Finding, asked, byteAt}
-use Rattle.rules.specs.Configuration.{isWhole}
+use Rattle.rules.specs.Configurations.{isWhole}
 
 -- ---- the strings
 -- "Index 0 lists one to four languages, nonzero, strictly ascending": the languages from `at` on, after `last`, of a body that begins at `start`

@@ -18,10 +18,8 @@ use Rattle.sets.specs.Contents.{entries, before, total, bodiesAt, endToEnd, goo
 use Rattle.sets.specs.Opening.{lent, opening}
 use Rattle.sets.specs.Found.{isAt}
 use Rattle.sets.proofs.Groups.{groups}
-use Rattle.set_writer.specs.Pieces.{ends, pieces}
+use Rattle.set_writer.specs.Writer.{ends, pieces, precedes, sorted, laid, setOf, tooLarge, opensAs, handing, writing}
 use Rattle.sets.specs.Pieces.{Piece, pieceFor, piecesIn}
-use Rattle.set_writer.specs.Sorted.{precedes, sorted}
-use Rattle.set_writer.specs.Laid.{laid}
 use Rattle.set_writer.specs.Shuffled.{Shuffled, onward}
 use Rattle.set_writer.proofs.Ascending.{Ascends, neighbours-ascend}
 use Rattle.set_writer.proofs.Order.{shuffled, sorted-is, before-map}
@@ -29,7 +27,6 @@ use Rattle.set_writer.proofs.Precedes.{transitive, unlike}
 use Rattle.set_writer.proofs.ReadBack.{read-back}
 use Rattle.set_writer.proofs.Shuffled.{back}
 use Rattle.set_writer.proofs.Sizes.{sorted-length}
-use Rattle.set_writer.specs.Writer.{setOf, tooLarge, opensAs, handing, writing}
 
 -- ---- members of a list of images
 pub mapped : {A B : Type 0} (f : A → B) (xs : List A) {b : B} → List·Memᴰ b (map f xs) → (a : A) × List·Memᴰ a xs × (b ≡ f a)

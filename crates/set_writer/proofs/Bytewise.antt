@@ -7,9 +7,8 @@ use mathlib.Core.List.{List, [], _∷_, _++_, List·Memᴰ, List·Memᴰ·head, 
 use lib.ListN.{length, take, drop, length-append}
 use lib.Seq.{getD-drop}
 use Rattle.octets.specs.Octets.{word, Bytes}
-use Rattle.set_writer.specs.Pieces.{pieceOf, piecesAfter, pieces}
+use Rattle.set_writer.specs.Writer.{pieceOf, piecesAfter, pieces, entryBytes, contents, bodies, front, header, total, laid}
 use Rattle.sets.specs.Pieces.{Piece}
-use Rattle.set_writer.specs.Laid.{entryBytes, contents, bodies, front, header, total, laid}
 
 -- ---- lists of bytes
 no-bytes : Bytes []

@@ -15,8 +15,8 @@ use Rattle.descriptors.specs.declared.Limits.{Limits}
 use Rattle.descriptors.specs.Limits.{named}
 use Rattle.sets.specs.declared.Entry.{Entry}
 use Rattle.sets.specs.Contents.{entryOf, entriesFrom, entries, bodyOf, before, total, count, bodiesAt, endToEnd, goodFrame, goodContents}
-use Rattle.set_writer.specs.Laid as pieces
-use Rattle.set_writer.specs.Laid.{entryBytes, contents, bodies, front, header, laid}
+use Rattle.set_writer.specs.Writer as pieces
+use Rattle.set_writer.specs.Writer.{entryBytes, contents, bodies, front, header, laid}
 use Rattle.set_writer.proofs.Laid.{laid-parts}
 use Rattle.set_writer.proofs.Bytewise.{drop-bytes}
 use Rattle.sets.specs.Pieces.{pieceFor, piecesIn}

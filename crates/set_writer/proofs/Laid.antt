@@ -5,7 +5,7 @@ use mathlib.Core.Path.{_≡_, refl}
 use mathlib.Core.List.{List, [], _∷_, _++_}
 use lib.ListN.{length, length-append}
 use Rattle.sets.specs.Pieces.{Piece}
-use Rattle.set_writer.specs.Laid.{entryBytes, contents, bodies, front, header, total, laid}
+use Rattle.set_writer.specs.Writer.{entryBytes, contents, bodies, front, header, total, laid}
 
 pub contents-none : (start : ℕ) → contents start [] ≡ []
 unfolding contents

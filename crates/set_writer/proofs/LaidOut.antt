@@ -16,8 +16,7 @@ use Rattle.sets.specs.declared.Entry.{Entry}
 use Rattle.sets.specs.Contents as sets
 use Rattle.sets.specs.Contents.{entries, before, endToEnd, goodFrame, goodContents}
 use Rattle.sets.specs.Pieces.{Piece}
-use Rattle.set_writer.specs.Sorted.{precedes}
-use Rattle.set_writer.specs.Laid.{bodies, front, total, laid}
+use Rattle.set_writer.specs.Writer.{precedes, bodies, front, total, laid}
 use Rattle.set_writer.proofs.Laid.{laid-length}
 use Rattle.set_writer.proofs.Stream.{two-bytes}
 use Rattle.set_writer.proofs.ReadBack.{entriesFor, entries-read}

@@ -5,7 +5,7 @@ use mathlib.Core.Path.{_≡_, ap, _∙_}
 use mathlib.Core.List.{List, [], _∷_, _++_, map}
 use lib.ListN.{length, drop, getD, length-map, drop-of-length-le}
 use Rattle.sets.specs.Pieces.{Piece}
-use Rattle.set_writer.specs.Laid.{entryBytes, contents, bodies, front, header, total, laid}
+use Rattle.set_writer.specs.Writer.{entryBytes, contents, bodies, front, header, total, laid}
 use Rattle.set_writer.proofs.Laid.{contents-none, contents-more, bodies-none, bodies-more, laid-parts, laid-length}
 use Rattle.set_writer.specs.Places.{pieceAt, piecesAt}
 use Rattle.buffers.specs.Written.{Wrote}

@@ -8,10 +8,9 @@ use lib.Seq.{drop-append-seam, take-append-seam}
 use Rattle.sets.specs.declared.Entry.{Entry}
 use Rattle.sets.specs.Contents.{entryOf, entriesFrom}
 use Rattle.sets.specs.Pieces.{Piece, pieceFor, piecesIn}
-use Rattle.set_writer.specs.Laid.{entryBytes, contents, bodies, front, header, laid}
+use Rattle.set_writer.specs.Writer.{entryBytes, contents, bodies, front, header, laid, entryFor}
 use Rattle.set_writer.proofs.Stream.{two-bytes}
 use Rattle.set_writer.proofs.Laid.{contents-length}
-use Rattle.set_writer.specs.Pieces.{entryFor}
 
 -- the entries that are written
 abbrev pub entriesFor : ℕ → List Piece → List Entry

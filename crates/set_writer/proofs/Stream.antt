@@ -10,7 +10,8 @@ use lib.Dec.{leb}
 use borrow.Author.Tests.{leb-true, leb-false}
 use Rattle.octets.proofs.Sentences.{cases, never}
 use Rattle.octets.specs.Octets.{word}
-use Rattle.set_writer.specs.Pieces.{pieceOf, endsAfter, piecesAfter, ends, pieces, pieceHead, streamOf}
+use Rattle.set_writer.specs.Writer.{pieceOf, endsAfter, piecesAfter, ends, pieces}
+use Rattle.set_writer.specs.Stream.{pieceHead, streamOf}
 use Rattle.sets.specs.Pieces.{Piece}
 
 -- bytes that belong to a piece are passed over

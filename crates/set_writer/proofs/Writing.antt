@@ -15,18 +15,15 @@ use Rattle.octets.proofs.Sentences.{or-left, or-right}
 use Rattle.descriptors.specs.declared.Limits.{Limits}
 use Rattle.sets.specs.Opening.{lent, opening}
 use Rattle.set_writer.specs.declared.pieces.Counted.the-variants.{Broken, Pieces}
-use Rattle.set_writer.specs.Pieces.{ends, pieces}
+use Rattle.set_writer.specs.Writer.{ends, pieces, sorted, total, laid, setOf, tooLarge, Filled}
 use Rattle.sets.specs.Pieces.{Piece}
-use Rattle.set_writer.specs.Sorted.{sorted}
-use Rattle.set_writer.specs.Laid.{total, laid}
 use Rattle.set_writer.proofs.Laid.{laid-parts, laid-length}
 use Rattle.set_writer.proofs.Stream.{two-bytes}
 use Rattle.set_writer.proofs.Sizes.{set-size}
 use Rattle.set_writer.specs.Places.{countOf, piecesAt}
 use Rattle.buffers.specs.Written as written
 use Rattle.set_writer.specs.declared.Report.{Report}
-use Rattle.set_writer.specs.Writer.{setOf, tooLarge, Filled, lengthWritten}
-use Rattle.set_writer.specs.Reported.{Handed, Reported}
+use Rattle.set_writer.specs.Reported.{lengthWritten, Handed, Reported}
 
 abbrev pub answer : ℕ → ℕ → Report
 answer number opening = record { number = number; opening = opening }

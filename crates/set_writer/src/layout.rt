@@ -3,7 +3,7 @@ ghost use mathlib.Core.Path.{_≡_};
 ghost use Prim.Native.Nat.{_+_, _<_, _≤_};
 ghost use lib.ListN.{length};
 ghost use Rattle.buffers.specs.Written.{Room, Wrote};
-ghost use Rattle.set_writer.specs.Laid.{entryBytes, contents, bodies, front, total, laid};
+ghost use Rattle.set_writer.specs.Writer.{entryBytes, contents, bodies, front, total, laid};
 ghost use Rattle.set_writer.specs.Places.{pieceAt, piecesAt};
 
 // One entry of the contents, for the piece at a place of the stream, whose body is to begin at an offset.

@@ -5,11 +5,8 @@ ghost use mathlib.Core.Path.{_≡_};
 ghost use mathlib.Core.Bool.{true};
 ghost use Prim.Native.Nat.{_≤_};
 ghost use lib.ListN.{length};
-ghost use Rattle.set_writer.specs.Pieces.{ends, pieces};
-ghost use Rattle.set_writer.specs.Laid.{total};
-ghost use Rattle.set_writer.specs.Sorted.{sorted};
-ghost use Rattle.set_writer.specs.Writer.{setOf, lengthWritten};
-ghost use Rattle.set_writer.specs.Reported.{Handed, Reported};
+ghost use Rattle.set_writer.specs.Writer.{ends, pieces, total, sorted, setOf};
+ghost use Rattle.set_writer.specs.Reported.{lengthWritten, Handed, Reported};
 
 mod layout;
 pub mod pieces;

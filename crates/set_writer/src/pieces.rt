@@ -3,7 +3,7 @@ ghost use mathlib.Core.Path.{_≡_};
 ghost use Prim.Native.Nat.{_+_};
 ghost use lib.ListN.{drop};
 ghost use Rattle.octets.specs.Octets.{word};
-ghost use Rattle.set_writer.specs.Pieces.{pieceOf};
+ghost use Rattle.set_writer.specs.Writer.{pieceOf};
 ghost use Rattle.set_writer.specs.Places.{countOf};
 
 // What counting finds.

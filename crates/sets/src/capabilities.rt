@@ -6,7 +6,7 @@ use crate::contents::entry_of;
 use descriptors::Limits;
 ghost use mathlib.Core.Path.{_≡_};
 ghost use Rattle.sets.specs.Pieces.{piecesIn, piecesOf, sole};
-ghost use Rattle.sets.specs.Capabilities.{goodStore};
+ghost use Rattle.sets.specs.Device.{goodStore};
 ghost use Rattle.sets.specs.Opening.{oneStore};
 
 fn good_store(body: &[u8]) -> bool

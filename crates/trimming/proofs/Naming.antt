@@ -26,7 +26,8 @@ use Rattle.sets.specs.Contents.{entries, bodies, bodyOf, isKind}
 use Rattle.sets.specs.Device.{deviceBody, iManufacturer, iProduct, iSerialNumber}
 use Rattle.sets.specs.Strings.{references}
 use Rattle.sets.proofs.Pieces.{bodies-of}
-use Rattle.trimming.specs.Keeping.{named, namedString, zeroStays, kept, deviceNames, entryNames, tableNames, keepsBy}
+use Rattle.trimming.specs.Trim.{named, namedString, zeroStays, kept}
+use Rattle.trimming.specs.Keeping.{deviceNames, entryNames, tableNames, keepsBy}
 
 turned : (m n : ℕ) → eqb m n ≡ eqb n m
 turned m n = cases (eqb n m) (λ p. eq-eqb m n (sym (eqb-true n m p)) ∙ sym p) (λ p. ne-eqb m n (λ e. eqb-false n m p (sym e)) ∙ sym p)

@@ -16,8 +16,8 @@ use Rattle.sets.specs.declared.Entry.{Entry}
 use Rattle.sets.specs.Contents.{entryOf, entriesFrom, entries, count, total, bodiesAt, bodyOf, endToEnd, goodFrame}
 use Rattle.sets.proofs.Entries.{only-here, only-later, only-empty}
 use Rattle.sets.specs.Pieces.{Piece, pieceFor}
-use Rattle.set_writer.specs.Laid as pieces
-use Rattle.set_writer.specs.Laid.{contents, bodies, front, header, laid}
+use Rattle.set_writer.specs.Writer as pieces
+use Rattle.set_writer.specs.Writer.{contents, bodies, front, header, laid}
 use Rattle.set_writer.proofs.Laid.{laid-parts, laid-length}
 use Rattle.buffers.specs.Written.{Room, Wrote}
 use Rattle.buffers.proofs.Written.{wrote-both}

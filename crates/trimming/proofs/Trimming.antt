@@ -21,12 +21,12 @@ use Rattle.sets.specs.Contents.{entriesFrom, entries, bodies, before, count, to
 use Rattle.sets.specs.Device.{deviceBody, iSerialNumber}
 use Rattle.sets.specs.Opening.{opening, lent}
 use Rattle.sets.proofs.Groups.{Groups, groups, each-rule}
-use Rattle.set_writer.specs.Laid.{laid}
+use Rattle.set_writer.specs.Writer.{laid}
 use Rattle.sets.specs.Pieces.{pieceFor}
-use Rattle.trimming.specs.Keeping as keeping
-use Rattle.trimming.specs.Keeping.{walkable, keepsBy, tableNames, zeroStays}
+use Rattle.trimming.specs.Trim as keeping
+use Rattle.trimming.specs.Keeping.{walkable, keepsBy, tableNames}
+use Rattle.trimming.specs.Trim.{zeroStays, padded, Trims}
 use Rattle.trimming.proofs.Naming.{same-named, same-kept}
-use Rattle.trimming.specs.Trim.{padded, Trims}
 
 module _ (limits : Limits) (set serial : List ℕ) (p : opening limits (lent set serial) ≡ 0) where
   g : Groups limits (lent set serial)

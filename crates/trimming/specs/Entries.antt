@@ -2,7 +2,7 @@
 use Prim.Native.Nat.{ℕ, _+_, _/_, _%_}
 use mathlib.Core.List.{List, [], _∷_, _++_, map}
 use Rattle.sets.specs.declared.Entry.{Entry}
-use Rattle.set_writer.specs.Laid.{bodies}
+use Rattle.set_writer.specs.Writer.{bodies}
 use Rattle.sets.specs.Pieces.{pieceFor}
 
 abbrev pub entryWith : Entry → ℕ → List ℕ

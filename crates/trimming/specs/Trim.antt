@@ -1,16 +1,35 @@
 -- Trimming a set in its own buffer (document 02, L11).
 use Prim.Native.Nat.{ℕ, _-_}
 use mathlib.Core.Path.{_≡_}
+use mathlib.Core.Bool.{Bool, _&&_, _||_, not}
 use mathlib.Core.List.{List, map, _++_}
 use lib.ListN.{length, replicate}
-use lib.Dec.{eqb}
-use Rattle.octets.specs.Sentences.{pick, only}
+use lib.Dec.{eqb, leb}
+use Rattle.octets.specs.Sentences.{pick, any, only, member}
 use Rattle.descriptors.specs.declared.Limits.{Limits}
-use Rattle.sets.specs.Contents.{entries}
+use Rattle.sets.specs.declared.Entry.{Entry}
+use Rattle.sets.specs.Contents.{entries, isKind}
+use Rattle.sets.specs.Device.{deviceBody, iSerialNumber}
+use Rattle.sets.specs.Strings.{references}
 use Rattle.sets.specs.Opening.{lent, opening}
 use Rattle.sets.specs.Pieces.{Piece, pieceFor}
-use Rattle.set_writer.specs.Laid.{laid}
-use Rattle.trimming.specs.Keeping.{kept}
+use Rattle.set_writer.specs.Writer.{laid}
+
+-- ---- which entries stay: "drop string entries with indices that none of the five reference fields names"
+-- iManufacturer, iProduct, iSerialNumber, an iConfiguration or an iInterface is this index
+abbrev pub named : List ℕ → ℕ → Bool
+named set j = member j (references set)
+
+-- a string entry that a reference names
+abbrev pub namedString : List ℕ → Entry → Bool
+namedString set e = isKind 3 e && leb 1 (e .index) && named set (e .index)
+
+-- "String index 0 stays if another string entry does or iSerialNumber is nonzero"
+abbrev pub zeroStays : List ℕ → Bool
+zeroStays set = any (namedString set) (entries set) || leb 1 (iSerialNumber (deviceBody set))
+
+abbrev pub kept : List ℕ → Entry → Bool
+kept set e = not (isKind 3 e) || pick (eqb (e .index) 0) (zeroStays set) (named set (e .index))
 
 -- the entries that stay, with their bodies
 abbrev pub keptPieces : List ℕ → List Piece

@@ -13,7 +13,8 @@ ghost use Rattle.descriptors.specs.Cut.{cut, wellCut};
 ghost use Rattle.descriptors.specs.Descriptor.{isInterface, iInterface};
 ghost use Rattle.descriptors.specs.Configuration.{configurationReferences};
 ghost use Rattle.sets.specs.Contents.{entries, bodyOf, isKind};
-ghost use Rattle.trimming.specs.Keeping.{named, entryNames, tableNames, keepsBy, walkable};
+ghost use Rattle.trimming.specs.Trim.{named};
+ghost use Rattle.trimming.specs.Keeping.{entryNames, tableNames, keepsBy, walkable};
 
 // A table with the reference of a descriptor, where that is an interface's.
 fn with_interface(d: &[u8], names: [u32; 8]) -> [u32; 8]

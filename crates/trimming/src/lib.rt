@@ -10,7 +10,7 @@ ghost use Prim.Native.Nat.{_+_, _-_, _<_, _≤_};
 ghost use lib.ListN.{length, replicate};
 ghost use Rattle.octets.specs.Sentences.{only};
 ghost use Rattle.sets.specs.Contents.{entries, bodiesAt, endToEnd, goodFrame};
-ghost use Rattle.set_writer.specs.Laid.{laid};
+ghost use Rattle.set_writer.specs.Writer.{laid};
 ghost use Rattle.sets.specs.Pieces.{pieceFor};
 ghost use Rattle.buffers.specs.Written.{Room, Wrote};
 ghost use Rattle.trimming.specs.Keeping.{keepsBy};

@@ -6,7 +6,7 @@ use mathlib.Core.List.{List}
 use lib.ListN.{length}
 use Rattle.descriptors.specs.Walk.{before, collected}
 use Rattle.descriptors.proofs.Walk.{moved, collect-end, collect-stuck}
-use Rattle.dumps.specs.Zeroed.{nameAt}
+use Rattle.dumps.proofs.Naming.{nameAt, names-same}
 use Rattle.dumps.proofs.Blanking.{Blanking, one, none-past, names-on, finished}
 use borrow.Author.Needs.{needs}
 use Rattle.dumps.proofs.put_configuration.Statement.{statement}
@@ -42,7 +42,7 @@ returns : tie.Need-returns Inv-loop μ-loop
 returns c =
     let l = c .before .before .before .loop in
     let body = c .before .before .before .before .before .before .before .before .before .before .before .before .before .before .before .args .body .now in
-    finished _ _ (c .before .before .before .before .before .before .before .before .before .before .before .put-bytes .ensures) (c .before .before .before .before .before .before .before .blank .ensures) (l .inv .1)
+    finished _ _ (names-same body) (c .before .before .before .before .before .before .before .before .before .before .before .put-bytes .ensures) (c .before .before .before .before .before .before .before .blank .ensures) (l .inv .1)
     (collect-stuck nameAt none-past body (l .stand) (l .at) (c .before .advance .ensures) (c .before .before .loop-test .taken) (c .if1 .taken))
 
 -- the descriptor at hand ends inside the body
@@ -91,7 +91,8 @@ same-length-2 c = search needs
 returns-2 : tie.Need-returns-2 Inv-loop μ-loop
 returns-2 c =
     let l = c .before .loop in
-    finished _ _ (c .before .before .before .before .before .before .before .before .before .put-bytes .ensures) (c .before .before .before .before .before .blank .ensures) (l .inv .1) (collect-end nameAt (c .before .before .before .before .before .before .before .before .before .before .before .before .before .args .body .now) (l .stand) (l .at) (c .loop-test .left))
+    let body = c .before .before .before .before .before .before .before .before .before .before .before .before .before .args .body .now in
+    finished _ _ (names-same body) (c .before .before .before .before .before .before .before .before .before .put-bytes .ensures) (c .before .before .before .before .before .blank .ensures) (l .inv .1) (collect-end nameAt body (l .stand) (l .at) (c .loop-test .left))
 
 pub put-configuration-spec : {M : Type 1} → statement M
 put-configuration-spec =

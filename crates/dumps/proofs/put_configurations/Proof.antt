@@ -5,9 +5,8 @@ use mathlib.Core.Path.{_≡_, refl, sym, ap, _∙_}
 use mathlib.Core.Bool.{true}
 use lib.ListN.{length, take, drop}
 use Rattle.buffers.proofs.Written.{Going, begun, room-for, next, done, same}
-use Rattle.dumps.specs.Dump.{configurationsIn}
-use Rattle.dumps.specs.Zeroed.{zeroedConfiguration}
-use Rattle.dumps.specs.Imported.{headed}
+use Rattle.dumps.specs.Dump.{configurationsIn, zeroedConfiguration}
+use Rattle.dumps.specs.Import.{headed}
 use Rattle.dumps.proofs.Splitting.{splitting, bodies, dump-bodies, dump-least, dump-fits, dump-splits}
 use Rattle.dumps.proofs.Streaming.{streamed, zeroed-length, stream-here, stream-over, whole-splits}
 use borrow.Author.Needs.{needs}

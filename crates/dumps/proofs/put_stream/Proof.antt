@@ -3,9 +3,8 @@ use native.Mathlib.Omega.{arith}
 use mathlib.Core.Path.{refl}
 use mathlib.Core.List.{[], _∷_}
 use Rattle.buffers.proofs.Written.{begun, room-for, next}
-use Rattle.dumps.specs.Dump.{deviceIn}
-use Rattle.dumps.specs.Zeroed.{zeroedDevice}
-use Rattle.dumps.specs.Imported.{headed}
+use Rattle.dumps.specs.Dump.{deviceIn, zeroedDevice}
+use Rattle.dumps.specs.Import.{headed}
 use Rattle.dumps.proofs.Blanking.{blanked-length}
 use Rattle.dumps.proofs.Streaming.{stream-parts}
 use borrow.Author.Needs.{needs}

@@ -14,7 +14,7 @@ use Rattle.rules.specs.Configuration.{configurationsFindings}
 use Rattle.rules.specs.Strings.{stringsFindings}
 use Rattle.rules.specs.Explained.{findings, isBroken, faultOf, inside, lentFor, explained}
 use Rattle.rules.proofs.After.{first-broken}
-use Rattle.rules.proofs.Grouped.{numbered}
+use Rattle.rules.proofs.Walked.{walkedFindings, walked-told, walked-numbered}
 use Rattle.rules.proofs.After.{asks, ends, joins}
 use borrow.Author.Needs.{needs}
 use Rattle.rules.proofs.explain.Statement.{statement}
@@ -24,7 +24,6 @@ use Rattle.rules.proofs.explain.Tie as tie
 told : (c : tie.After-serial-fault)
     → let a = c .before .before .before .before .before .before .before .before .before .before .args in
     c .serial-fault .result ≡ faultOf (first isBroken (findings (a .limits) (lent (a .set .now) (a .serial .now))))
-unfolding findings
 told c =
     let a = c .before .before .before .before .before .before .before .before .before .before .args in
     let set = a .set .now in
@@ -33,7 +32,8 @@ told c =
     (joins _ (deviceFindings (a .limits) set) _ (c .before .before .before .before .device-fault .ensures)
     (joins _ (configurationsFindings (a .limits) set) _ (c .before .before .before .configurations-fault .ensures)
     (joins _ (stringsFindings set) (serialFindings (iSerialNumber (deviceBody set)) (a .serial .now)) (c .before .before .strings-fault .ensures) (rw (c .before .serial-index .ensures) at (c .serial-fault .ensures))))))
-    ∙ first-broken (findings (a .limits) (lent set (a .serial .now))) (numbered (a .limits) (lent set (a .serial .now)))
+    ∙ first-broken (walkedFindings (a .limits) (lent set (a .serial .now))) (walked-numbered (a .limits) (lent set (a .serial .now)))
+    ∙ ap faultOf (walked-told (a .limits) (lent set (a .serial .now)))
 
 whole : (limits : Limits) (b : Board) (n : ℕ) (f : Fault) (p : ℕ) → n ≡ opening limits b → f ≡ faultOf (first isBroken (findings limits b)) → p ≡ inside (lentFor b n) (f .place)
     → _≡_ {A = Explained} (record { number = n; rule = f .rule; place = p }) (explained limits b)

@@ -4,7 +4,7 @@ use native.Mathlib.Omega.{arith}
 use mathlib.Core.Path.{sym, ap, _∙_}
 use lib.ListN.{length-replicate}
 use borrow.Author.Needs.{needs}
-use Rattle.set_writer.specs.Laid.{total}
+use Rattle.set_writer.specs.Writer.{total}
 use Rattle.set_writer.proofs.Writing.{in-order, few, aside}
 use Rattle.set_writer.proofs.assemble.Statement.{statement}
 use Rattle.set_writer.proofs.assemble.Tie as tie

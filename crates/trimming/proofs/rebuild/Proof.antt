@@ -7,7 +7,7 @@ use lib.ListN.{length, replicate}
 use borrow.Author.Needs.{needs}
 use Rattle.octets.specs.Sentences.{only}
 use Rattle.sets.specs.Contents.{entries, bodiesAt}
-use Rattle.set_writer.specs.Laid.{laid}
+use Rattle.set_writer.specs.Writer.{laid}
 use Rattle.sets.specs.Pieces.{pieceFor}
 use Rattle.trimming.specs.Keeping.{keepsBy}
 use Rattle.trimming.specs.Trim.{padded}

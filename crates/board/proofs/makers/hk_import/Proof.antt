@@ -2,7 +2,7 @@
 use native.Mathlib.Omega.{arith}
 use mathlib.Core.Path.{_∙_}
 use borrow.Author.Needs.{needs}
-use Rattle.dumps.specs.Imported.{piecesFor}
+use Rattle.dumps.specs.Dump.{piecesFor}
 use Rattle.set_writer.proofs.Writing.{counted}
 use Rattle.board.proofs.makers.hk_import.Statement.{statement}
 use Rattle.board.proofs.makers.hk_import.Tie as tie

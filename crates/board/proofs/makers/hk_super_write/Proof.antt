@@ -2,8 +2,7 @@
 use native.Mathlib.Omega.{arith}
 use mathlib.Core.Path.{_∙_}
 use borrow.Author.Needs.{needs}
-use Rattle.set_writer.specs.Pieces.{pieces}
-use Rattle.set_writer.specs.Sorted.{sorted}
+use Rattle.set_writer.specs.Writer.{pieces, sorted}
 use Rattle.set_writer.proofs.Writing.{counted}
 use Rattle.board.proofs.makers.hk_super_write.Statement.{statement}
 use Rattle.board.proofs.makers.hk_super_write.Tie as tie

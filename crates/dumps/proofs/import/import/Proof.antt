@@ -3,8 +3,8 @@ use Prim.Native.Nat.{ℕ}
 use native.Mathlib.Omega.{arith}
 use mathlib.Core.Path.{sym, _∙_}
 use lib.ListN.{length-replicate}
-use Rattle.set_writer.specs.Pieces.{streamOf}
-use Rattle.dumps.specs.Imported.{piecesFor}
+use Rattle.set_writer.specs.Stream.{streamOf}
+use Rattle.dumps.specs.Dump.{piecesFor}
 use Rattle.dumps.proofs.Splitting.{is-broken, is-whole}
 use Rattle.dumps.proofs.Streaming.{stream-size}
 use Rattle.dumps.proofs.Importing.{broken, many, large, written-out, aside}

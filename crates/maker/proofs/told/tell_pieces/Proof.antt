@@ -6,10 +6,10 @@ use Rattle.maker.proofs.told.tell_pieces.Statement.{statement}
 use Rattle.maker.proofs.told.tell_pieces.Tie as tie
 
 abbrev Inv-loop : tie.InvT-loop
-Inv-loop stream number opening limits n₀ at₀ n at = (at ≤ length stream) × (n ≤ at + 1)
+Inv-loop stream number opening n₀ at₀ n at = (at ≤ length stream) × (n ≤ at + 1)
 
 abbrev μ-loop : tie.MeasureT-loop
-μ-loop stream number opening limits n₀ at₀ n at = length stream - at
+μ-loop stream number opening n₀ at₀ n at = length stream - at
 
 loop-holds : tie.Need-loop-holds Inv-loop μ-loop
 loop-holds c = search needs

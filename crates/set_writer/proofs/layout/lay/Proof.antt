@@ -2,7 +2,7 @@
 use native.Mathlib.Omega.{arith}
 use mathlib.Core.Path.{refl}
 use Rattle.buffers.proofs.Written.{room-for, next}
-use Rattle.set_writer.specs.Laid.{contents, bodies, front}
+use Rattle.set_writer.specs.Writer.{contents, bodies, front}
 use Rattle.set_writer.specs.Places.{piecesAt}
 use Rattle.set_writer.proofs.Laying.{headed}
 use borrow.Author.Needs.{needs}

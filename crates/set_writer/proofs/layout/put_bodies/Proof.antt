@@ -4,7 +4,7 @@ use native.Mathlib.Omega.{arith}
 use lib.ListN.{length}
 use borrow.Author.Needs.{needs}
 use Rattle.buffers.proofs.Written.{Going, begun, room-for, next, done, same}
-use Rattle.set_writer.specs.Laid.{bodies}
+use Rattle.set_writer.specs.Writer.{bodies}
 use Rattle.set_writer.specs.Places.{piecesAt}
 use Rattle.set_writer.proofs.Laying.{left, here, behind, bodies-left, no-bodies}
 use Rattle.set_writer.proofs.layout.put_bodies.Statement.{statement}

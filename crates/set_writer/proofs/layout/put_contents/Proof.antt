@@ -5,7 +5,7 @@ use mathlib.Core.Path.{ap, _∙_}
 use lib.ListN.{length, length-append, length-map}
 use borrow.Author.Needs.{needs}
 use Rattle.buffers.proofs.Written.{Going, begun, room-for, next, done, same}
-use Rattle.set_writer.specs.Laid.{entryBytes, contents, bodies, front}
+use Rattle.set_writer.specs.Writer.{entryBytes, contents, bodies, front}
 use Rattle.set_writer.specs.Places.{pieceAt, piecesAt}
 use Rattle.set_writer.proofs.Laying.{left, here, behind, entries-left, bodies-left, no-entries}
 use Rattle.set_writer.proofs.layout.put_contents.Statement.{statement}

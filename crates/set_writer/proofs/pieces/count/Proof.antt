@@ -4,7 +4,7 @@ use native.Mathlib.Omega.{arith}
 use mathlib.Core.Path.{_≡_, refl, sym, ap, _∙_}
 use lib.ListN.{length, drop}
 use borrow.Author.Needs.{needs}
-use Rattle.set_writer.specs.Pieces.{ends, pieces}
+use Rattle.set_writer.specs.Writer.{ends, pieces}
 use Rattle.set_writer.proofs.Stream.{stream-broken, stream-ends, stream-pieces, stream-over, stream-none}
 use Rattle.set_writer.proofs.pieces.count.Statement.{statement}
 use Rattle.set_writer.proofs.pieces.count.Tie as tie

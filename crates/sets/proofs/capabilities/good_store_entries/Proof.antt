@@ -1,7 +1,7 @@
 -- `sets::capabilities::good_store_entries` meets its contract. No axiom.
 use mathlib.Core.Path.{sym, ap, _∙_}
 use borrow.Author.Needs.{needs}
-use Rattle.sets.specs.Capabilities.{goodStore}
+use Rattle.sets.specs.Device.{goodStore}
 use Rattle.sets.specs.Contents.{entriesOf}
 use Rattle.sets.specs.Pieces.{sole}
 use Rattle.sets.proofs.Pieces.{of-kind}

@@ -1,0 +1,15 @@
+pub mod Playing
+pub mod Asking
+pub mod Found
+pub mod Located
+pub mod Reading
+pub mod OtherSpeed
+pub mod EveryPiece
+pub mod Enumerates
+pub mod Boards
+pub mod Settings
+pub mod Tour
+pub mod Unasked
+pub mod Toggles
+pub mod Checklist
+pub mod Inhabited

@@ -1,0 +1,150 @@
+-- The theorems over runs at work: the titrator T, opened, addressed and configured, enumerates again at another address; S, written and exported; a pair at high speed; a driver of T replaced.
+use Prim.Native.Nat.{ℕ}
+use native.Mathlib.Omega.{arith}
+use mathlib.Core.Path.{_≡_, refl}
+use mathlib.Core.List.{List, [], _∷_, _++_, List·Memᴰ, List·Memᴰ·head, List·Memᴰ·tail}
+use mathlib.Core.Bool.{false}
+use lib.ListN.{take, replicate}
+use Rattle.octets.specs.Octets.{Bytes}
+use Rattle.octets.specs.Sentences.{any, isSome}
+use Rattle.descriptors.specs.Configuration.{bConfigurationValue}
+use Rattle.descriptors.specs.Limits.{fullSpeed}
+use Rattle.sets.specs.Device.{deviceBody, bNumConfigurations}
+use Rattle.sets.specs.Pieces.{Piece}
+use Rattle.sets.specs.Opening.{Board, lent}
+use Rattle.set_writer.specs.Pieces as stream
+use Rattle.maker_promises.specs.WrittenExample.{assembled, pieces}
+use Rattle.records.specs.Device.{inTestMode}
+use Rattle.records.specs.Image.{deviceOf, imageOf}
+use Rattle.records.specs.Current.{setFor}
+use Rattle.order.specs.Run.{run}
+use Rattle.promises.specs.Examples.{computed, bytes, S, T}
+use Rattle.promises.specs.Inhabited.{octets, bytesT}
+use Rattle.promises.specs.InhabitedOrder.{configuredImage}
+use Rattle.promises.specs.Pairs.{pair, bytesPair}
+use Rattle.promises.specs.Refusal.{freshImage}
+use Rattle.promises.specs.Struck.{PageRun}
+use Rattle.enumeration.specs.Script.{does, reading, getDescriptor}
+use Rattle.enumeration.specs.Bodies.{configurationBody}
+use Rattle.enumeration.specs.Enumeration.{enumeration, enumerated}
+use Rattle.enumeration.specs.Unasked.{asksForTest}
+use Rattle.board.specs.Exports.{Opens}
+use Rattle.board.specs.Makers.{Writes}
+use Rattle.board.specs.Runs.{Call, setup, tell, recordEvent, eventOf, number, handed, Runs, gives, leaves, meets, runs, ends, halt}
+use Rattle.board.specs.Unnoticed.{kept, keptOf, Alike}
+use Rattle.board.specs.InhabitedRuns.{start, opens, configuring, setSpot, lie, doneAlone, configures, wholeRun}
+use Rattle.board.specs.InhabitedTwo.{opensTwo, lieTwo}
+use Rattle.host_runs.specs.Calls.{seenGiven, PlayedFrom, CalledSince, callOf, callsOf}
+use Rattle.host_runs.specs.NeverLockedOut.{EnumeratesFrom}
+use Rattle.host_runs.specs.Given.{Collects}
+use Rattle.host_runs.proofs.Calls.{areCalled}
+use Rattle.host_runs.proofs.NeverLockedOut.{neverLockedOut, neverLockedOutUnasked}
+use Rattle.host_runs.proofs.Given.{readsGiven, collectsWhatIsExported}
+use Rattle.host_runs.proofs.Replaced.{replacedByPage}
+
+-- ---- computed facts, each by itself
+one : bNumConfigurations (deviceBody (setFor T 0)) ≡ 1
+unfolding computed
+one = refl
+
+calm : inTestMode (deviceOf configuredImage) ≡ false
+unfolding computed
+calm = refl
+
+abbrev again : List Call
+again = callsOf (does (enumeration T 0 9 0))
+
+since : CalledSince T lie configuredImage
+since = record { start = start; image = freshImage; before = configuring; gave = doneAlone ∷ number 0 ∷ doneAlone ∷ []; long = refl; opens = opens; run = configures }
+
+abbrev last : List ℕ
+last = run (leaves T lie) configuredImage again
+
+pub enumeratesAgain : PlayedFrom (runs T lie configuredImage again) (enumeration T 0 9 0) (enumerated 0 9 (bConfigurationValue (configurationBody (setFor T 0) 0)) (deviceOf configuredImage))
+enumeratesAgain = neverLockedOut T lie bytesT configuredImage since calm 0 refl 9 (omega arith) (omega arith) 0 (omega (arith, one)) again _ last (areCalled (does (enumeration T 0 9 0))) (runs T lie configuredImage again)
+
+-- Configured, at address 9, with configuration 1
+pub theEnd : imageOf (enumerated 0 9 (bConfigurationValue (configurationBody (setFor T 0) 0)) (deviceOf configuredImage)) ≡ 2 ∷ 9 ∷ 255 ∷ 1 ∷ replicate 28 0
+unfolding computed
+theEnd = refl
+
+-- ---- the bench set S, written from its two pieces, configuration first, into a buffer of 63 bytes; then opened: the host reads the device descriptor that the maker gave
+bytesGiven : Bytes pieces
+unfolding assembled
+bytesGiven = octets pieces refl
+
+wroteS : Writes fullSpeed pieces [] (replicate 63 0) 0 (S .set) 63
+unfolding assembled
+wroteS = record { fills = record { number = refl; bytes = refl }; counts = refl; octets = bytesGiven }
+
+abbrev device : Piece
+device = record { kind = 1; index = 0; language = 0; body = bytes 18 0x12010002FF00000834127856000100000001 }
+
+given : List·Memᴰ device (stream.pieces pieces)
+unfolding assembled
+given = List·Memᴰ·tail (List·Memᴰ·head refl)
+
+abbrev written : Board
+written = lent (take 63 (S .set)) []
+
+opensS : Opens written start 0 freshImage
+unfolding computed
+opensS = record { number = refl; leaves = refl }
+
+abbrev asks : Call
+asks = callOf (getDescriptor 1 0 0 64)
+
+sinceS : CalledSince written lie freshImage
+sinceS = record { start = start; image = freshImage; before = []; gave = []; long = refl; opens = opensS; run = ends }
+
+pub readsDevice : seenGiven (gives written lie freshImage asks) ≡ reading (bytes 18 0x12010002FF00000834127856000100000001)
+readsDevice = readsGiven pieces [] (replicate 63 0) (S .set) 63 wroteS lie freshImage sinceS device given 64 (omega arith) asks _ _ refl (meets written lie freshImage asks)
+
+bytesSet : Bytes (take 63 (S .set))
+unfolding computed
+bytesSet = octets (take 63 (S .set)) refl
+
+-- ---- what a host collects of S is what hk_export writes of it
+pub collectsS : Collects (take 63 (S .set)) [] lie freshImage
+collectsS = collectsWhatIsExported (take 63 (S .set)) [] lie bytesSet freshImage sinceS
+
+-- ---- a pair was reset to high speed, and enumerates at either
+abbrev highImage : List ℕ
+highImage = 0 ∷ 0 ∷ 255 ∷ 0 ∷ 0 ∷ 0 ∷ 0 ∷ 1 ∷ replicate 24 0
+
+toHigh : Runs pair lieTwo freshImage (recordEvent 2 1 [] ∷ []) (handed 0 (0 ∷ 0 ∷ []) 0 [] setSpot ∷ []) highImage
+unfolding computed
+toHigh = runs pair lieTwo freshImage (recordEvent 2 1 [] ∷ [])
+
+unasked : any (λ c. asksForTest (isSome (pair .high)) (eventOf c)) (recordEvent 2 1 [] ∷ []) ≡ false
+unfolding computed
+unasked = refl
+
+abbrev sincePair : CalledSince pair lieTwo highImage
+sincePair = record { start = start; image = freshImage; before = recordEvent 2 1 [] ∷ []; gave = handed 0 (0 ∷ 0 ∷ []) 0 [] setSpot ∷ []; long = refl; opens = opensTwo; run = toHigh }
+
+pub enumeratesPair : EnumeratesFrom enumeration pair lieTwo highImage
+enumeratesPair = neverLockedOutUnasked pair lieTwo bytesPair highImage sincePair unasked
+
+-- ---- replacement: interface 0's driver lets a packet pass at 81, or halts 02 twice instead: interface 1's SET_INTERFACE and halt are given the same
+abbrev instead : List Call
+instead = configuring ++ tell (halt 0x02) ∷ setup (bytes 8 0x010B010001000000) ∷ tell (halt 0x02) ∷ tell (halt 0x85) ∷ []
+
+sameLeft : kept T lie 1 freshImage wholeRun ≡ kept T lie 1 freshImage instead
+unfolding computed
+sameLeft = refl
+
+abbrev Page : List Call → Type 0
+Page cs = PageRun T 1 deviceOf eventOf (leaves T lie) false freshImage cs
+
+pageOne : Page wholeRun
+unfolding computed
+pageOne = (λ p. (refl, λ q. refl), (λ p. (refl, λ q. refl), (λ p. (refl, λ q. refl), (λ p. (refl, λ q. refl), (λ p. (refl, λ q. refl), (λ p. (refl, λ q. refl), tt))))))
+
+pageTwo : Page instead
+unfolding computed
+pageTwo = (λ p. (refl, λ q. refl), (λ p. (refl, λ q. refl), (λ p. (refl, λ q. refl), (λ p. (refl, λ q. refl), (λ p. (refl, λ q. refl), (λ p. (refl, λ q. refl), (λ p. (refl, λ q. refl), tt)))))))
+
+pub replacedT : (keptOf T lie 1 (runs T lie freshImage wholeRun) ≡ keptOf T lie 1 (runs T lie freshImage instead))
+    × Alike T lie 1 (run (leaves T lie) freshImage wholeRun) (run (leaves T lie) freshImage instead)
+replacedT = replacedByPage T lie 1 bytesT start freshImage refl opens wholeRun instead _ _ _ _ (runs T lie freshImage wholeRun) pageOne (runs T lie freshImage instead) pageTwo sameLeft

@@ -1,0 +1,5 @@
+pub mod Calls
+pub mod NeverLockedOut
+pub mod Given
+pub mod Replaced
+pub mod Inhabited

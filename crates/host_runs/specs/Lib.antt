@@ -1,0 +1,4 @@
+pub mod Calls
+pub mod NeverLockedOut
+pub mod Given
+pub mod Replaced
