@@ -8,7 +8,7 @@ use mathlib.Core.Bool.{true}
 use lib.ListN.{length, replicate}
 use lib.Dec.{eqb, ltb}
 use borrow.Author.Tests.{ltb-true, ltb-false}
-use Rattle.octets.specs.Octets.{byte, part}
+use Rattle.octets.specs.Octets.{byte, part, Bytes}
 use Rattle.octets.specs.Sentences.{isSome}
 use Rattle.octets.proofs.Sentences.{cases}
 use Rattle.sets.specs.Opening.{Board, BytesOf}
@@ -22,37 +22,54 @@ use Rattle.events.specs.declared.Event.the-variants.{StatusEnd}
 use Rattle.events.specs.Step.{step, event, setupEvent}
 use Rattle.packets.specs.Packets.{count, canCut, packet}
 use Rattle.promises.specs.Examples.{bytes, computed, S}
-use Rattle.promises.specs.Inhabited.{acceptedS, bytesS}
+use Rattle.promises.specs.Inhabited.{octets, acceptedS, bytesS}
 use Rattle.promises.specs.Pairs.{pair, acceptedPair, bytesPair}
 use Rattle.promises.specs.Keeps.{freshFit}
 use Rattle.promises.specs.Refusal.{freshImage}
 use Rattle.board.specs.Exports
 use Rattle.board.specs.Exports.{Opens, Spot, Spots, CutsPacket, AnswersRecordEvent}
-use Rattle.board.specs.Transfers.{within, beyond}
-use Rattle.board.specs.Runs.{Call, setup, tell, statusEnd, busReset, recordEvent, eventOf, Given, numberGiven, Meets, gives, leaves, met, meets, number-of, opening}
+use Rattle.board.specs.Transfers.{few, within, beyond}
+use Rattle.board.specs.Runs.{Happening, statusEnd, busReset, suspend, resume, wake, busResetTo, halt, packetPassed, power, Call, setup, tell, recordEvent, eventOf, Given, numberGiven, Meets, gives, leaves, met, meets, number-of, opening}
 
 -- ---- a build: from the calls before, which it may keep to itself, the image lent and the call, to what it gives and the image that it leaves
 abbrev pub Build : Type 0
 Build = List Call → List ℕ → Call → Given × List ℕ
 
--- on every image of 32 bytes (hk_record_event can be lent no other)
+-- what C can pass: an endpoint, a source, a speed and an event's number are of one byte, and a setup is bytes
+abbrev pub OneByte : Happening → Type 0
+OneByte statusEnd = Unit {0}
+OneByte busReset = Unit {0}
+OneByte suspend = Unit {0}
+OneByte resume = Unit {0}
+OneByte wake = Unit {0}
+OneByte (busResetTo speed) = speed < 256
+OneByte (halt endpoint) = endpoint < 256
+OneByte (packetPassed endpoint) = endpoint < 256
+OneByte (power source) = source < 256
+
+abbrev pub CanPass : Call → Type 0
+CanPass (setup bytes) = Bytes bytes
+CanPass (tell h) = OneByte h
+CanPass (recordEvent kind value bytes) = (kind < 256) × (value < 256) × Bytes bytes
+
+-- on every image of 32 bytes (hk_record_event can be lent no other), at every call that C can make
 abbrev pub MeetsAll : Board → Spots → Build → Type 0
 MeetsAll b lie build =
-    (before : List Call) (image : List ℕ) → length image ≡ 32 → (c : Call) → Meets b lie image c (build before image c .0) (build before image c .1)
+    (before : List Call) (image : List ℕ) → length image ≡ 32 → Bytes image → (c : Call) → CanPass c → Meets b lie image c (build before image c .0) (build before image c .1)
 
 -- one does
 pub byRules : (b : Board) (lie : Spots) → MeetsAll b lie (λ before image c. (gives b lie image c, leaves b lie image c))
-byRules b lie before image long c = meets b lie image c
+byRules b lie before image long octets c can = meets b lie image c
 
 -- ---- calls that tell a setup: hk_setup, and hk_record_event with event 0. Each law below is of either alone
 abbrev pub TellsSetups : (List ℕ → Call) → Type 0
-TellsSetups call = (bytes : List ℕ) → eventOf (call bytes) ≡ setupEvent bytes
+TellsSetups call = (bytes : List ℕ) → (eventOf (call bytes) ≡ setupEvent bytes) × (Bytes bytes → CanPass (call bytes))
 
 pub setupTells : TellsSetups setup
-setupTells bytes = refl
+setupTells bytes = (refl, λ o. o)
 
 pub recordEventTells : TellsSetups (recordEvent 0 0)
-recordEventTells bytes = refl
+recordEventTells bytes = (refl, λ o. (omega arith, omega arith, o))
 
 -- SET_ADDRESS 5; and FF FF, which is in no table
 abbrev pub setAddressFive : List ℕ
@@ -60,6 +77,18 @@ setAddressFive = bytes 8 0x0005050000000000
 
 abbrev pub unknown : List ℕ
 unknown = bytes 8 0xFFFF000000000000
+
+fiveOctets : Bytes setAddressFive
+unfolding computed
+fiveOctets = octets setAddressFive refl
+
+unknownOctets : Bytes unknown
+unfolding computed
+unknownOctets = octets unknown refl
+
+freshOctets : Bytes freshImage
+unfolding computed
+freshOctets = octets freshImage refl
 
 -- the image after SET_ADDRESS 5: it waits
 abbrev pub fiveWaits : List ℕ
@@ -78,11 +107,11 @@ unknown-refused b image = cases (eqb (length image) 32)
     (λ p. cases (accepted b) (λ q. rw (p, q) (λ z. omega arith)) (λ q. rw (p, q) (λ z. omega arith)))
 
 -- ---- on every accepted board, of one set or of two, whatever has been called before
-module _ (b : Board) (octets : BytesOf b) (opens : accepted b ≡ true) where
+module _ (b : Board) (small : BytesOf b) (opens : accepted b ≡ true) where
   -- SET_ADDRESS 5 is done on the fresh record, and the status end after it takes the address
   five-done : (numberOf (event b freshImage (setupEvent setAddressFive) .answer) ≡ 0) × (event b freshImage (setupEvent setAddressFive) .image ≡ fiveWaits)
   unfolding computed
-  five-done = let fit = freshFit b octets opens .0 in cases (isSome (b .high)) (λ p. rw (opens, fit, p) (refl, refl)) (λ p. rw (opens, fit, p) (refl, refl))
+  five-done = let fit = freshFit b small opens .0 in cases (isSome (b .high)) (λ p. rw (opens, fit, p) (refl, refl)) (λ p. rw (opens, fit, p) (refl, refl))
 
   five-taken : byte (event b fiveWaits StatusEnd .image) 1 ≡ 5
   unfolding computed
@@ -92,24 +121,28 @@ module _ (b : Board) (octets : BytesOf b) (opens : accepted b ≡ true) where
     abbrev numbered : List ℕ → ℕ
     numbered bytes = numberGiven (build before freshImage (call bytes) .0)
 
-    said : (bytes : List ℕ) → numbered bytes ≡ numberOf (event b freshImage (setupEvent bytes) .answer)
-    said bytes = ap numberGiven (met b lie (ok before freshImage refl (call bytes)) .0)
-        ∙ number-of b lie freshImage (call bytes) ∙ ap (λ e. numberOf (event b freshImage e .answer)) (tells bytes)
+    said : (bytes : List ℕ) → Bytes bytes → numbered bytes ≡ numberOf (event b freshImage (setupEvent bytes) .answer)
+    said bytes o = ap numberGiven (met b lie (ok before freshImage refl freshOctets (call bytes) (tells bytes .1 o)) .0)
+        ∙ number-of b lie freshImage (call bytes) ∙ ap (λ e. numberOf (event b freshImage e .answer)) (tells bytes .0)
+
+    five-said : numbered setAddressFive ≡ 0
+    five-said = said setAddressFive fiveOctets ∙ five-done .0
 
     -- not every setup is refused: SET_ADDRESS 5 is done
-    pub notRefusing : ((bytes : List ℕ) → numbered bytes ≡ 0 → ⊥) → ⊥
-    notRefusing refuses = refuses setAddressFive (said setAddressFive ∙ five-done .0)
+    pub notRefusing : ((bytes : List ℕ) → Bytes bytes → numbered bytes ≡ 0 → ⊥) → ⊥
+    notRefusing refuses = refuses setAddressFive fiveOctets five-said
 
     -- not every setup is given one number: SET_ADDRESS 5 gets 0, FF FF does not
-    pub notRepeating : (n : ℕ) → ((bytes : List ℕ) → numbered bytes ≡ n) → ⊥
+    pub notRepeating : (n : ℕ) → ((bytes : List ℕ) → Bytes bytes → numbered bytes ≡ n) → ⊥
     notRepeating n repeats =
-        unknown-refused b freshImage (sym (said unknown) ∙ repeats unknown ∙ sym (repeats setAddressFive) ∙ said setAddressFive ∙ five-done .0)
+        unknown-refused b freshImage (sym (said unknown unknownOctets) ∙ repeats unknown unknownOctets ∙ sym (repeats setAddressFive fiveOctets) ∙ five-said)
 
     -- not every setup leaves the image as it was: SET_ADDRESS 5 puts 5 into byte 2
-    pub notStill : ((bytes : List ℕ) → build before freshImage (call bytes) .1 ≡ freshImage) → ⊥
+    pub notStill : ((bytes : List ℕ) → Bytes bytes → build before freshImage (call bytes) .1 ≡ freshImage) → ⊥
     notStill still =
-        let left = met b lie (ok before freshImage refl (call setAddressFive)) .1 ∙ ap (λ e. event b freshImage e .image) (tells setAddressFive) ∙ five-done .1 in
-        let p : _≡_ {A = ℕ} 5 255 = ap (λ l. byte l 2) (sym left ∙ still setAddressFive) in
+        let meets = ok before freshImage refl freshOctets (call setAddressFive) (tells setAddressFive .1 fiveOctets) in
+        let left = met b lie meets .1 ∙ ap (λ e. event b freshImage e .image) (tells setAddressFive .0) ∙ five-done .1 in
+        let p : _≡_ {A = ℕ} 5 255 = ap (λ l. byte l 2) (sym left ∙ still setAddressFive fiveOctets) in
         omega arith
 
   -- opening is not refused; and a record that is lent is changed where it stands
@@ -120,7 +153,7 @@ module _ (b : Board) (octets : BytesOf b) (opens : accepted b ≡ true) where
       → AnswersRecordEvent b lie fresh (Exports.numbered 0 0 setAddressFive) n left handed count shown spot → left ≡ fresh → ⊥
   unfolding computed
   notStillWhereItStands lie a still =
-      let fit = freshFit b octets opens .0 in
+      let fit = freshFit b small opens .0 in
       let five : step b fresh (setupEvent setAddressFive) .device .waiting ≡ 5 = cases (isSome (b .high)) (λ p. rw (opens, fit, p) refl) (λ p. rw (opens, fit, p) refl) in
       let p : _≡_ {A = ℕ} 5 255 = sym five ∙ ap (λ (d : Device). d .waiting) (sym (a .leaves) ∙ still) in
       omega arith
@@ -139,18 +172,18 @@ module _ (b : Board) (lie : Spots) (call : List ℕ → Call) (tells : TellsSetu
   -- on every board and every image, whatever came before, FF FF is no success
   pub noEcho : {image : List ℕ} {g : Given} {left : List ℕ} → Meets b lie image (call unknown) g left → numberGiven g ≡ 0 → ⊥
   noEcho {image} m z = unknown-refused b image
-      (sym (ap numberGiven (met b lie m .0) ∙ number-of b lie image (call unknown) ∙ ap (λ e. numberOf (event b image e .answer)) (tells unknown)) ∙ z)
+      (sym (ap numberGiven (met b lie m .0) ∙ number-of b lie image (call unknown) ∙ ap (λ e. numberOf (event b image e .answer)) (tells unknown .0)) ∙ z)
 
   -- so no build that answers every setup after its first call with 0 meets the statements of any board
   pub notEchoing : (build : Build) → MeetsAll b lie build
-      → ((first : Call) (bytes : List ℕ) → numberGiven (build (first ∷ []) freshImage (call bytes) .0) ≡ 0) → ⊥
-  notEchoing build ok echoes = noEcho (ok (tell busReset ∷ []) freshImage refl (call unknown)) (echoes (tell busReset) unknown)
+      → ((first : Call) (bytes : List ℕ) → Bytes bytes → numberGiven (build (first ∷ []) freshImage (call bytes) .0) ≡ 0) → ⊥
+  notEchoing build ok echoes = noEcho (ok (tell busReset ∷ []) freshImage refl freshOctets (call unknown) (tells unknown .1 unknownOctets)) (echoes (tell busReset) unknown unknownOctets)
 
 -- ---- inhabited: S and the pair
-pub benchSet : (lie : Spots) (build : Build) → MeetsAll S lie build → ((bytes : List ℕ) → numberGiven (build [] freshImage (setup bytes) .0) ≡ 0 → ⊥) → ⊥
+pub benchSet : (lie : Spots) (build : Build) → MeetsAll S lie build → ((bytes : List ℕ) → Bytes bytes → numberGiven (build [] freshImage (setup bytes) .0) ≡ 0 → ⊥) → ⊥
 benchSet lie build ok = notRefusing S bytesS acceptedS lie build ok [] setup setupTells
 
-pub benchPair : (lie : Spots) (build : Build) → MeetsAll pair lie build → ((bytes : List ℕ) → numberGiven (build [] freshImage (recordEvent 0 0 bytes) .0) ≡ 0 → ⊥) → ⊥
+pub benchPair : (lie : Spots) (build : Build) → MeetsAll pair lie build → ((bytes : List ℕ) → Bytes bytes → numberGiven (build [] freshImage (recordEvent 0 0 bytes) .0) ≡ 0 → ⊥) → ⊥
 benchPair lie build ok = notRefusing pair bytesPair acceptedPair lie build ok [] (recordEvent 0 0) recordEventTells
 
 -- ---- a cutter: from a reply, where it lies, what was asked, a size and a packet's number, to the number given, the packet and where it lies
@@ -158,39 +191,45 @@ abbrev pub Cutter : Type 0
 Cutter = List ℕ → Spot → ℕ → ℕ → ℕ → ℕ × List ℕ × Spot
 
 abbrev pub CutsAll : Cutter → Type 0
-CutsAll cutter = (reply : List ℕ) (at : Spot) (asked size k : ℕ) → (let c = cutter reply at asked size k in CutsPacket reply at asked size k (c .0) (c .1) (c .2))
+CutsAll cutter = (reply : List ℕ) (at : Spot) (asked size k : ℕ) → Bytes reply → asked < 65536 → size < 4294967296 → k < 4294967296 → (let c = cutter reply at asked size k in CutsPacket reply at asked size k (c .0) (c .1) (c .2))
 
 -- one does
 pub cutsByRules : CutsAll (λ reply at asked size k. (let p = packet (length reply) asked size k in
     (p .number, part reply (p .offset) (p .length), record { block = at .block; offset = at .offset + p .offset })))
-cutsByRules reply at asked size k = record { number = refl; shows = refl; lies = refl }
+cutsByRules reply at asked size k o a s h = record { number = refl; shows = refl; lies = refl }
 
 module _ (cutter : Cutter) (ok : CutsAll cutter) (at : Spot) where
   -- one byte asked for as one: its only packet at size 8 is given, and size 7 is refused
   abbrev first : ℕ → ℕ
   first size = cutter (0 ∷ []) at 1 size 0 .0
 
-  pub notRefusingPackets : ((size : ℕ) → first size ≡ 0 → ⊥) → ⊥
+  -- at a size that C can pass
+  given-at : (size : ℕ) → size < 4294967296 → first size ≡ packet 1 1 size 0 .number
   unfolding computed
-  notRefusingPackets refuses = refuses 8 (ok (0 ∷ []) at 1 8 0 .number)
+  given-at size h = ok (0 ∷ []) at 1 size 0 (octets (0 ∷ []) refl) (omega arith) h (omega arith) .number
 
-  pub notRepeatingPackets : (n : ℕ) → ((size : ℕ) → first size ≡ n) → ⊥
+  pub notRefusingPackets : ((size : ℕ) → size < 4294967296 → first size ≡ 0 → ⊥) → ⊥
+  unfolding computed
+  notRefusingPackets refuses = refuses 8 (omega arith) (given-at 8 (omega arith))
+
+  pub notRepeatingPackets : (n : ℕ) → ((size : ℕ) → size < 4294967296 → first size ≡ n) → ⊥
   unfolding computed
   notRepeatingPackets n repeats =
-      let p : _≡_ {A = ℕ} 0 n = sym (ok (0 ∷ []) at 1 8 0 .number) ∙ repeats 8 in
-      let q : _≡_ {A = ℕ} 15 n = sym (ok (0 ∷ []) at 1 7 0 .number) ∙ repeats 7 in
+      let p : _≡_ {A = ℕ} 0 n = sym (given-at 8 (omega arith)) ∙ repeats 8 (omega arith) in
+      let q : _≡_ {A = ℕ} 15 n = sym (given-at 7 (omega arith)) ∙ repeats 7 (omega arith) in
       omega arith
 
 -- ---- the packet count: where a reply can be cut, the packets that get 0 are those below the rule's count and no others
 module _ (reply : List ℕ) (at : Spot) (asked size : ℕ) (number : ℕ → ℕ) (shown : ℕ → List ℕ) (spot : ℕ → Spot)
-    (cuts : (k : ℕ) → CutsPacket reply at asked size k (number k) (shown k) (spot k)) (can : canCut (length reply) asked size ≡ true) where
-  pub notMadeUp : (made : ℕ) → ((k : ℕ) → (number k ≡ 0 → k < made) × (k < made → number k ≡ 0)) → made ≡ count (length reply) asked size
+    (cuts : (k : ℕ) → k < 4294967296 → CutsPacket reply at asked size k (number k) (shown k) (spot k)) (can : canCut (length reply) asked size ≡ true) (small : asked < 65536) where
+  pub notMadeUp : (made : ℕ) → ((k : ℕ) → k < 4294967296 → (number k ≡ 0 → k < made) × (k < made → number k ≡ 0)) → made ≡ count (length reply) asked size
   notMadeUp made counts =
       let right = count (length reply) asked size in
-      let given = within reply at asked size number shown spot cuts can in
-      let past = beyond reply at asked size number shown spot cuts can in
+      let h : right < 4294967296 = few reply at asked size number shown spot cuts can small in
+      let given = within reply at asked size number shown spot cuts can small in
+      let past = beyond reply at asked size number shown spot cuts can small in
       cases (ltb made right)
-      (λ p. absurd (let l = counts made .0 (given made (ltb-true made right p)) in omega arith))
+      (λ p. absurd (let m = ltb-true made right p in let l = counts made (omega (arith, m, h)) .0 (given made m) in omega arith))
       (λ p. cases (ltb right made)
-      (λ q. absurd (let z = counts right .1 (ltb-true right made q) in let f = past right (omega arith) in omega arith))
+      (λ q. absurd (let z = counts right h .1 (ltb-true right made q) in let f = past right h (omega arith) in omega arith))
       (λ q. let l = ltb-false made right p in let m = ltb-false right made q in omega arith))

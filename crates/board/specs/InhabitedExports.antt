@@ -19,15 +19,16 @@ use Rattle.promises.specs.Examples.{bytes, computed, S, T}
 use Rattle.promises.specs.Bench.{stands, addressed}
 use Rattle.promises.specs.Opening.{groups, AllHold, FirstBroken}
 use Rattle.promises.specs.Refusal.{freshImage, opens}
-use Rattle.promises.specs.Keeps.{imageFits}
+use Rattle.promises.specs.Keeps.{FitImage, imageFits}
 use Rattle.promises.specs.Inhabited.{bytesS, acceptedS, bytesT, acceptedT, waiting, configured, configuredFits, configuredSized}
 use Rattle.promises.specs.InhabitedOrder.{configuredFitsT}
 use Rattle.board.specs.Exports.{Opens, Spot, AnswersSetup, CutsPacket, numbered, AnswersRecordEvent, GivesEndpoint}
 use Rattle.board.specs.Opening.{openingNumber, openingAccepts, openingRefuses}
-use Rattle.board.specs.Runs.{Call, recordEvent, Given, Throughout, NotEight}
+use Rattle.board.specs.Runs.{Call, recordEvent, Given, Runs, Throughout, NotEight}
 use Rattle.board.specs.Transfers.{packetNumber, transfer}
 use Rattle.board.specs.Endpoints.{EndpointIn, pair, described, endpointGiven, endpointsThere, endpointsEnd, endpointsAll}
 use Rattle.board.specs.Order.{concernsThis, Reordered}
+use Rattle.board.specs.Lent.{OpensBytes, openedFits}
 use Rattle.board.specs.Records.{refusal, RecordRuns, ended, called, answersByRules, asImages, decidedRecord, neverEightRecord, orderRecord}
 use Rattle.board.specs.InhabitedRuns
 use Rattle.board.specs.InhabitedRuns.{start, setSpot, lie, doneAlone}
@@ -63,12 +64,12 @@ deviceReplies = record { leaves = refl; answers = record { number = refl; hands 
 
 -- whatever cutter meets its statement: packets 0 to 2 are given and put together are the descriptor, and packet 3 is refused
 pub devicePackets : (at : Spot) (number : ℕ → ℕ) (packets : ℕ → List ℕ) (place : ℕ → Spot)
-    → ((k : ℕ) → CutsPacket deviceDescriptor at 64 8 k (number k) (packets k) (place k))
+    → ((k : ℕ) → k < 4294967296 → CutsPacket deviceDescriptor at 64 8 k (number k) (packets k) (place k))
     → (flatMap packets (upTo 3) ≡ deviceDescriptor) × (number 2 ≡ 0) × (number 3 ≡ 15)
 unfolding computed
 devicePackets at number packets place cuts =
     let (whole, given, past) = transfer deviceReplies at number packets place cuts in
-    (whole, given 2 (omega arith), past 3 (omega arith))
+    (whole, given 2 (omega arith), past 3 (omega arith) (omega arith))
 
 -- and a refused one shows the descriptor's first 0 bytes
 pub pastTheLast : (at : Spot) {n : ℕ} {shown : List ℕ} {spot : Spot} → CutsPacket deviceDescriptor at 64 8 3 n shown spot → (shown ≡ []) × (spot ≡ at)
@@ -89,6 +90,13 @@ freshSized = record { sixteen = refl; halts-fit = omega arith; toggles-fit = ome
 pub opensRecord : Opens T start 0 (imageOf fresh)
 unfolding computed
 opensRecord = record { number = refl; leaves = refl }
+
+-- and T is bytes, so of what follows nothing is asked
+pub opensBytes : OpensBytes T start 0 (imageOf fresh)
+opensBytes = record { opens = opensRecord; octets = bytesT }
+
+pub fitsAfter : {cs : List Call} {gs : List Given} {now : List ℕ} → Runs T lie (imageOf fresh) cs gs now → FitImage T now
+fitsAfter = openedFits refl opensBytes
 
 pub configures : RecordRuns T lie fresh configuring (doneAlone ∷ doneAlone ∷ doneAlone ∷ []) configured
 unfolding computed

@@ -9,6 +9,7 @@ pub mod Transfers
 pub mod Endpoints
 pub mod CurrentGroups
 pub mod Order
+pub mod Lent
 pub mod Places
 pub mod Unnoticed
 pub mod Ports

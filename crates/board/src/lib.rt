@@ -9,7 +9,8 @@ ghost use Rattle.sets.specs.View.{openingOf};
 ghost use Rattle.events.specs.Step.{event};
 ghost use Rattle.events.specs.declared.Event.the-variants.{StatusEnd, BusReset, Halt, PacketPassed, Power, Suspend, Resume, Wake};
 ghost use Rattle.steps.specs.Gathering.{Openable, viewIn, eventIn};
-ghost use Rattle.board.specs.Exports.{Opens, Happens, AnswersSetup, CutsPacket, spotOf, spots, numbered, AnswersRecordEvent};
+ghost use Rattle.board.specs.Exports.{Happens, AnswersSetup, CutsPacket, spotOf, spots, numbered, AnswersRecordEvent};
+ghost use Rattle.board.specs.Lent.{OpensBytes};
 
 mod endpoint;
 mod makers;
@@ -21,7 +22,7 @@ mod two;
 // Opens a set with its serial block: the image becomes the fresh record, whether they are accepted or not.
 #[no_mangle]
 pub extern "C" fn hk_open(set: &[u8], serial: &[u8], image: &mut [u8]) -> u8
-    ensures { λ r. ⌜ Opens (lent (now (set .entry)) (now (serial .entry))) (now (image .entry)) r (now (image .exit)) ⌝ }
+    ensures { λ r. ⌜ OpensBytes (lent (now (set .entry)) (now (serial .entry))) (now (image .entry)) r (now (image .exit)) ⌝ }
 {
     if image.len() != 32 {
         return 8;

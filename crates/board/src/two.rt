@@ -8,12 +8,13 @@ use records::Change;
 ghost use mathlib.Core.Path.{_≡_};
 ghost use Rattle.sets.specs.Opening.{lentTwo};
 ghost use Rattle.sets.specs.Pair.{openingTwo};
-ghost use Rattle.board.specs.Exports.{Opens, spotOf, spotsTwo, numbered, AnswersImage, AnswersPortEvent, GivesEndpoint};
+ghost use Rattle.board.specs.Exports.{spotOf, spotsTwo, numbered, AnswersImage, AnswersPortEvent, GivesEndpoint};
+ghost use Rattle.board.specs.Lent.{OpensBytes};
 
 // Opens two sets with their serial block: the image becomes the fresh record, whether they are accepted or not.
 #[no_mangle]
 pub extern "C" fn hk_two_open(full: &[u8], high: &[u8], serial: &[u8], image: &mut [u8]) -> u8
-    ensures { λ r. ⌜ Opens (lentTwo (now (full .entry)) (now (high .entry)) (now (serial .entry))) (now (image .entry)) r (now (image .exit)) ⌝ }
+    ensures { λ r. ⌜ OpensBytes (lentTwo (now (full .entry)) (now (high .entry)) (now (serial .entry))) (now (image .entry)) r (now (image .exit)) ⌝ }
 {
     if image.len() != 32 {
         return 8;

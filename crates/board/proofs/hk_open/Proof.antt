@@ -1,4 +1,5 @@
 -- `board::hk_open` meets its contract: an image of another length, and the rest. No axiom.
+use native.Mathlib.Omega.{arith}
 use mathlib.Core.Path.{_∙_}
 use borrow.Author.Tests.{eq-eqb}
 use Rattle.records.specs.Change.{renewed}
@@ -8,7 +9,7 @@ use Rattle.board.proofs.hk_open.Statement.{statement}
 use Rattle.board.proofs.hk_open.Tie as tie
 
 returns : tie.Need-returns
-returns c = open-short _ _ (c .if1 .taken)
+returns c = record { opens = open-short _ _ (c .if1 .taken); octets = (λ k. omega (arith, c .before .before .before .shared-slice-known .given k), tt) }
 
 renew-requires : tie.Need-renew-requires
 renew-requires c κs = search needs
@@ -23,7 +24,10 @@ returns-2 : tie.Need-returns-2
 unfolding renewed
 returns-2 c =
     let long = c .before .before .before .before .before .if1 .left in
-    open-whole _ _ long _ _ (c .opening .ensures) (c .before .before .before .renew .ensures ∙ rw (eq-eqb _ _ long))
+    record {
+      opens = open-whole _ _ long _ _ (c .opening .ensures) (c .before .before .before .renew .ensures ∙ rw (eq-eqb _ _ long));
+      octets = (λ k. omega (arith, c .before .before .before .before .before .before .before .before .shared-slice-known .given k), tt);
+    }
 
 pub hk-open-spec : {M : Type 1} → statement M
 hk-open-spec = tie.close (tie.spec returns renew-requires opening-requires same-length returns-2)
