@@ -10,7 +10,7 @@ use mathlib.Core.Bool.{Bool, true, false, _&&_, _||_, not}
 use mathlib.Core.Option.{Option, some, none}
 use lib.ListN.{length, getD, getElem?, length-map}
 use lib.Dec.{eqb, leb, ltb}
-use borrow.Author.Tests.{not-true, eq-eqb, eqb-true, eqb-false, leb-true, le-leb, ltb-true, ltb-false}
+use borrow.Author.Tests.{not-true, eq-eqb, ne-eqb, eqb-true, eqb-false, leb-true, le-leb, ltb-true, ltb-false}
 use Rattle.octets.specs.Octets.{byte, part}
 use Rattle.octets.specs.Sentences.{pick, every, only, pairs, upTo}
 use Rattle.octets.proofs.Sentences.{cases, both, joined, never, if-then, every-member, member-every, only-member, pairs-split}
@@ -39,9 +39,7 @@ use Rattle.steps.specs.Gathering.{selectedBody}
 use Rattle.steps.proofs.Configurations.{usable}
 use Rattle.steps.proofs.Steps.{is-selected}
 use Rattle.steps.proofs.EndpointParts.{stands}
-use Rattle.laws.proofs.Fitting.{unselected}
 use Rattle.laws.proofs.Keeping.{soundSelected}
-use Rattle.laws.proofs.Locality.{zero-selects}
 use Rattle.promises.specs.Sound.{sound}
 use Rattle.promises.specs.Keeps.{FitImage, Reached, reachedFits}
 use Rattle.board.specs.Exports.{Spot, Spots, GivesEndpoint}
@@ -178,27 +176,27 @@ module _ (b : Board) (bytes : BytesOf b) (ok : accepted b ≡ true) (d : Device)
     moved e [] = refl
     moved e (p ∷ l) = ap (_∷_ (said p)) (moved e l)
 
-    in-entry : (o : Option Entry) → selectedEntry (setAt b d) d ≡ o → map said (endpointsIn (setAt b d) d o) ≡ map has (currentEndpoints (viewAt b d) d)
+    in-entry : eqb (d .state) inConfigured ≡ true → (o : Option Entry) → selectedEntry (setAt b d) d ≡ o → map said (endpointsIn (setAt b d) d o) ≡ map has (currentEndpoints (viewAt b d) d)
     unfolding configurationOf groupsOf grouped endpointsOf cutAfter descriptorsOf only
-    in-entry none e =
+    in-entry t none e =
         let s : [] ≡ selectedBody (setAt b d) (d .configuration) = rw e in
-        rw (← is-selected (boardFor b (d .speed)) d s)
-    in-entry (some x) e =
+        rw (← is-selected (boardFor b (d .speed)) d t s)
+    in-entry t (some x) e =
         let body = bodyOf (setAt b d) x in
         let s : body ≡ selectedBody (setAt b d) (d .configuration) = rw e in
         let well : wellCut (cut body) ≡ true = well-cut s in
-        moved x (currentDescriptors (d .alternates) body) ∙ named (d .alternates) body well f ∙ ap (λ c. map has (currentOf (d .alternates) c)) (is-selected (boardFor b (d .speed)) d s)
+        moved x (currentDescriptors (d .alternates) body) ∙ named (d .alternates) body well f ∙ ap (λ c. map has (currentOf (d .alternates) c)) (is-selected (boardFor b (d .speed)) d t s)
 
-    -- outside Configured a record that fits selects nothing
+    -- outside Configured a record selects nothing
     pub sameEndpoints : fitsOn b d ≡ true → map said (endpointDescriptors (setAt b d) d) ≡ map has (currentEndpoints (viewAt b d) d)
     unfolding endpointDescriptors only
     sameEndpoints fit = go (eqb (d .state) inConfigured) refl
       where
         nothing-there : (d .state ≡ inConfigured → ⊥) → currentEndpoints (viewAt b d) d ≡ []
-        nothing-there n = rw (zero-selects (setAt b d) (viewAt b d) (sound b bytes ok (d .speed)) (d .configuration) (unselected (viewAt b d) d fit n))
+        nothing-there n = rw (ne-eqb (d .state) inConfigured n)
 
         go : (t : Bool) → eqb (d .state) inConfigured ≡ t → map said (pick t (endpointsIn (setAt b d) d (selectedEntry (setAt b d) d)) []) ≡ map has (currentEndpoints (viewAt b d) d)
-        go true p = in-entry (selectedEntry (setAt b d) d) refl
+        go true p = in-entry p (selectedEntry (setAt b d) d) refl
         go false p = rw (nothing-there (eqb-false (d .state) inConfigured p))
 
   -- one lies before the other in the set

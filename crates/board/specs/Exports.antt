@@ -31,7 +31,7 @@ pub record Happens (b : Board) (image : List ℕ) (e : Event) (answer : ℕ) (le
   pub leaves : left ≡ event b image e .image
 
 -- ---- answers handed out
--- "Bytes not handed back are 0"
+-- the two bytes, 0 where none is handed back
 abbrev pub padded : List ℕ → List ℕ
 padded [] = 0 ∷ 0 ∷ []
 padded (x ∷ []) = x ∷ 0 ∷ []
@@ -104,7 +104,7 @@ pub record AnswersImage (b : Board) (lie : Spots) (image : List ℕ) (e : Event)
   pub answers : Hands b (deviceOf image .speed) lie (event b image e .answer) answer bytes count shown spot
 
 -- ---- hk_port_event, of a board that lends one set at every port, and hk_two_port_event, of one that lends two: any event, by its number, at a port of a row of records, each by its image
--- 02, L8: "18 for a port that is not there", before everything; else the event on that port's record, "and every other record is left as it was"
+-- 02, L8: "18 port number not below the row's length, before 7, nothing changed"; else "An event at one port changes that port's record and no other"
 pub record RowReply : Type 0 where
   pub answer : Answer
   pub row : List (List ℕ)

@@ -2,7 +2,7 @@
 -- success, or makes up the packet count does not meet the exports' statements, whatever it keeps to itself. No axiom.
 use Prim.Native.Nat.{ℕ, _+_, _<_}
 use native.Mathlib.Omega.{arith}
-use mathlib.Core.Path.{_≡_, refl, sym, ap, subst, _∙_}
+use mathlib.Core.Path.{_≡_, refl, sym, ap, _∙_}
 use mathlib.Core.List.{List, [], _∷_}
 use mathlib.Core.Bool.{true}
 use lib.ListN.{length, replicate}
@@ -15,7 +15,7 @@ use Rattle.sets.specs.Opening.{Board, BytesOf}
 use Rattle.sets.specs.View.{accepted}
 use Rattle.records.specs.declared.Device.{Device}
 use Rattle.records.specs.Device.{fresh, inTestMode}
-use Rattle.records.specs.Image.{bytesOfFour, deviceOf, imageOf}
+use Rattle.records.specs.Image.{deviceOf}
 use Rattle.records.specs.Fits.{fitsOn}
 use Rattle.events.specs.Answer.{numberOf}
 use Rattle.events.specs.declared.Event.the-variants.{StatusEnd}
@@ -24,7 +24,7 @@ use Rattle.packets.specs.Packets.{count, canCut, packet}
 use Rattle.promises.specs.Examples.{bytes, computed, S}
 use Rattle.promises.specs.Inhabited.{octets, acceptedS, bytesS}
 use Rattle.promises.specs.Pairs.{pair, acceptedPair, bytesPair}
-use Rattle.promises.specs.Keeps.{FitImage, freshFit, imageFits, eventFits}
+use Rattle.promises.specs.Keeps.{freshFit}
 use Rattle.promises.specs.Refusal.{freshImage}
 use Rattle.board.specs.Exports
 use Rattle.board.specs.Exports.{Opens, Spot, Spots, CutsPacket, AnswersRecordEvent}
@@ -100,7 +100,8 @@ unfolding computed
 unknown-refused b image = cases (eqb (length image) 32)
     (λ p. cases (accepted b)
     (λ q. cases (fitsOn b (deviceOf image))
-    (λ r. cases (inTestMode (deviceOf image)) (λ t. rw (p, q, r, t) (λ z. omega arith)) (λ t. rw (p, q, r, t) (λ z. omega arith)))
+    (λ r. cases (inTestMode (deviceOf image)) (λ t. rw (p, q, r, t) (λ z. omega arith))
+    (λ t. cases (isSome (b .high)) (λ u. rw (p, q, r, t, u) (λ z. omega arith)) (λ u. rw (p, q, r, t, u) (λ z. omega arith))))
     (λ r. rw (p, q, r) (λ z. omega arith)))
     (λ q. rw (p, q) (λ z. omega arith)))
     (λ p. cases (accepted b) (λ q. rw (p, q) (λ z. omega arith)) (λ q. rw (p, q) (λ z. omega arith)))
@@ -112,13 +113,9 @@ module _ (b : Board) (small : BytesOf b) (opens : accepted b ≡ true) where
   unfolding computed
   five-done = let fit = freshFit b small opens .0 in cases (isSome (b .high)) (λ p. rw (opens, fit, p) (refl, refl)) (λ p. rw (opens, fit, p) (refl, refl))
 
-  five-fits : FitImage b fiveWaits
-  unfolding imageOf bytesOfFour
-  five-fits = subst (FitImage b) (five-done .1) (eventFits b small opens freshImage (setupEvent setAddressFive) (imageFits b small opens fresh (freshFit b small opens)))
-
   five-taken : byte (event b fiveWaits StatusEnd .image) 1 ≡ 5
   unfolding computed
-  five-taken = rw (opens, five-fits .fit) refl
+  five-taken = rw opens refl
 
   module _ (lie : Spots) (build : Build) (ok : MeetsAll b lie build) (before : List Call) (call : List ℕ → Call) (tells : TellsSetups call) where
     abbrev numbered : List ℕ → ℕ

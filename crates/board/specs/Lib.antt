@@ -20,3 +20,4 @@ pub mod Idle
 pub mod InhabitedExports
 pub mod InhabitedGroups
 pub mod Kinds
+pub mod OneSet

@@ -9,8 +9,10 @@ use lib.Dec.{eqb}
 use Rattle.octets.proofs.Sentences.{both}
 use Rattle.sets.specs.Opening.{Board, BytesOf}
 use Rattle.sets.specs.View.{accepted}
-use Rattle.records.specs.Device.{testWaits}
-use Rattle.records.specs.Image.{deviceOf}
+use Rattle.records.specs.declared.Device.{Device}
+use Rattle.records.specs.Device.{testWaits, Sized}
+use Rattle.records.specs.Image.{deviceOf, imageOf}
+use Rattle.records.proofs.Image.{device-image}
 use Rattle.records.specs.Current.{viewAt}
 use Rattle.order.specs.Run.{keep, answers, log}
 use Rattle.order.specs.Strike
@@ -30,6 +32,7 @@ use Rattle.board.specs.Exports.{Opens, Spots}
 use Rattle.board.specs.Runs.{Call, eventOf, Given, Runs, ends, calls, givenAs, gives, leaves, met, ran, opening, openedReached}
 use Rattle.board.specs.Order.{told}
 use Rattle.board.specs.Places.{says, reads, keeps}
+use Rattle.board.specs.Records.{RecordRuns, asImages}
 
 -- nothing waits in the fresh record
 fresh-waits : testWaits (deviceOf freshImage) ≡ false
@@ -124,3 +127,14 @@ module _ (b : Board) (lie : Spots) (k : ℕ) where
       where
         none-waits : testWaits (deviceOf image) ≡ false
         none-waits = rw (opening long o .2) fresh-waits
+
+-- ---- hk_record_event: the same over a record that is lent and changed where it stands, whose 32 bytes hk_open opened
+module _ (b : Board) (lie : Spots) (k : ℕ) (bytes : BytesOf b) {start : List ℕ} {d : Device} (long : length start ≡ 32) (o : Opens b start 0 (imageOf d)) (z : Sized d) where
+  pub unnoticedRecord : {cs : List Call} {gs others : List Given} {last other : Device} → (one : RecordRuns b lie d cs gs last)
+      → PageRun b k deviceOf eventOf (leaves b lie) false (imageOf d) cs → RecordRuns b lie d (kept b lie k (imageOf d) cs) others other
+      → (keptOf b lie k (asImages b lie bytes z one .0) ≡ told (kept b lie k (imageOf d) cs) others) × (Same b k last other × (rest last ≡ rest other))
+  unnoticedRecord {last = last} {other} one page two =
+      let (r, y) = asImages b lie bytes z one in
+      let (s, x) = asImages b lie bytes z two in
+      let (same, alike) = unnoticedByPage b lie k bytes long o r page s in
+      (same, rw (device-image last y, device-image other x) at alike)

@@ -5,7 +5,7 @@ use mathlib.Core.Path.{_≡_, refl, ap, _∙_}
 use mathlib.Core.Bool.{Bool, true, false, _&&_, not}
 use mathlib.Core.Option.{Option, some, none}
 use lib.Dec.{eqb, leb}
-use borrow.Author.Tests.{le-leb, lt-leb, leb-true, ne-eqb}
+use borrow.Author.Tests.{le-leb, leb-true, ne-eqb}
 use Rattle.octets.specs.Sentences.{pick}
 use Rattle.octets.proofs.Sentences.{both}
 use Rattle.descriptors.specs.declared.Endpoint.{Endpoint}
@@ -15,7 +15,6 @@ use Rattle.sets.specs.View.{View}
 use Rattle.records.specs.declared.Device.{Device}
 use Rattle.records.specs.Device.{inDefault, inAddress, testWaits, settled}
 use Rattle.records.specs.Change.{after}
-use Rattle.records.specs.Fits.{goodWaiting}
 use Rattle.requests.specs.declared.Setup.{Setup}
 use Rattle.events.specs.declared.facts.Facts.{Facts}
 use Rattle.events.specs.declared.reaction.Reaction.{Reaction}
@@ -43,11 +42,9 @@ pub state-of : (w : ℕ) → digit (leb 1 w) ≡ pick (eqb w 0) inDefault inAddr
 state-of zero = refl
 state-of (suc w) = rw (le-leb 1 (suc w) (omega arith), ne-eqb (suc w) 0 (λ p. omega (arith, p)))
 
--- what waits in a record that fits, from 128 on, is a test mode
-pub test-small : (d : Device) → goodWaiting d ≡ true → (d .waiting ≡ 255 → ⊥) → 128 ≤ d .waiting → d .waiting ≤ 133
-test-small d g n l =
-    let p = rw (ne-eqb (d .waiting) 255 n, lt-leb (d .waiting) 127 (omega arith)) at g in
-    leb-true (d .waiting) 133 (both (leb 129 (d .waiting)) (leb (d .waiting) 133) (both (testWaits d) (eqb (d .speed) 1) p .0) .1)
+-- a test mode that waits
+pub test-small : (d : Device) → testWaits d ≡ true → (129 ≤ d .waiting) × (d .waiting ≤ 133)
+test-small d t = let (l, h) = both (leb 129 (d .waiting)) (leb (d .waiting) 133) t in (leb-true 129 (d .waiting) l, leb-true (d .waiting) 133 h)
 
 -- ---- a number that is small is its own remainder
 pub small-mod : {n : ℕ} → n < 16 → n % 16 ≡ n

@@ -8,9 +8,12 @@ use mathlib.Core.Option.{Option, some, none}
 use lib.Dec.{eqb, leb}
 use borrow.Author.Tests.{eqb-true, leb-true}
 use Rattle.octets.specs.Sentences.{pick, _⇒_, every}
-use Rattle.octets.proofs.Sentences.{both, conjunct, if-then, every-member, first-some}
+use Rattle.octets.proofs.Sentences.{cases, never, both, conjunct, if-then, every-member, first-some}
+use Rattle.records.specs.declared.Device.{Device}
 use Rattle.requests.specs.declared.Setup.{Setup}
 use Rattle.requests.specs.declared.Row.{Row}
+use Rattle.events.specs.Requests.{namesTestMode}
+use Rattle.events.specs.Step.{asksTestMode, refusalFor}
 use Rattle.events.specs.Facts.{takesByte}
 use Rattle.requests.specs.Table.{table, rowOf, inState, largestIndex, fieldsFit, refusalAt, refusal}
 
@@ -36,3 +39,9 @@ one-byte state s p q = go (rowOf s) refl p
         let asked = if-then (takesByte (r .code)) (leb (r .value) 255) (every-member (λ r. takesByte (r .code) ⇒ leb (r .value) 255) bytes m) (ap takesByte same ∙ q) in
         let fits = conjunct 0 (leb (s .wValue) (r .value) ∷ leb (s .wIndex) (largestIndex r (s .wValue)) ∷ leb (r .shortest) (s .wLength) ∷ leb (s .wLength) (r .longest) ∷ []) (fitting (inState r state) (fieldsFit r s) p) in
         omega (arith, leb-true (s .wValue) (r .value) fits, leb-true (r .value) 255 asked)
+
+-- the setup of the test mode is neither's
+pub one-byte-for : (paired : Bool) (d : Device) (s : Setup) → refusalFor paired d s ≡ 0 → takesByte (s .bRequest) ≡ true → s .wValue < 256
+one-byte-for paired d s p q = cases (asksTestMode paired s)
+    (λ t. never q (ap takesByte (eqb-true (s .bRequest) 3 (both (namesTestMode paired s && eqb (s .bmRequestType) 0x00) (eqb (s .bRequest) 0x03) t .1))))
+    (λ t. one-byte (d .state) s (rw t at p) q)

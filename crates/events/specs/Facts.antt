@@ -4,7 +4,7 @@ use mathlib.Core.Path.{_≡_}
 use mathlib.Core.Bool.{Bool, true, false, _&&_, _||_}
 use lib.Dec.{eqb}
 use Rattle.octets.specs.Sentences.{pick}
-use Rattle.descriptors.specs.Configuration.{hasInterface, hasSetting}
+use Rattle.descriptors.specs.Configuration.{Configuration, hasInterface, hasSetting}
 use Rattle.descriptors.specs.declared.survey.Asked.{Asked}
 use Rattle.descriptors.specs.Survey.{Surveys}
 use Rattle.sets.specs.View.{View, hasValue, wakes}
@@ -64,13 +64,16 @@ questionOf Wake = naming 0
 abbrev pub askedBy : Setup → Asked
 askedBy s = record { address = s .wIndex; interface = s .wIndex; alternate = s .wValue }
 
--- facts are true of a view, at a record, for a question; two are told only to the request that asks
-pub record Tells (v : View) (d : Device) (s : Setup) (f : Facts) : Type 0 where
+-- facts are true of a view, at a record, for a question, where c is selected; two are told only to the request that asks
+pub record TellsOf (v : View) (c : Configuration) (d : Device) (s : Setup) (f : Facts) : Type 0 where
   pub paired : f .paired ≡ v .paired
   pub configured : f .configured ≡ hasValue (record { 0 = d .configuration }) (v .configurations)
   pub waking : f .waking ≡ wakes v
-  pub surveyed : Surveys (selected v d) (d .alternates) (askedBy s) (f .survey)
-  pub interface : f .interface ≡ hasInterface (selected v d) (s .wIndex)
-  pub small : hasSetting (selected v d) (s .wIndex) (s .wValue) ≡ true → (s .wIndex < 16) × (s .wValue < 16)
+  pub surveyed : Surveys c (d .alternates) (askedBy s) (f .survey)
+  pub interface : f .interface ≡ hasInterface c (s .wIndex)
+  pub small : hasSetting c (s .wIndex) (s .wValue) ≡ true → (s .wIndex < 16) × (s .wValue < 16)
   pub configuration : s .bRequest ≡ 0x09 → s .wValue < 256 → f .configuration ≡ hasValue (record { 0 = s .wValue }) (v .configurations)
   pub located : s .bRequest ≡ 0x06 → f .located ≡ locate v s
+
+abbrev pub Tells : View → Device → Setup → Facts → Type 0
+Tells v d s f = TellsOf v (selected v d) d s f

@@ -11,7 +11,7 @@ use Rattle.descriptors.specs.declared.Endpoint.{Endpoint}
 use Rattle.sets.specs.Opening.{Board}
 use Rattle.sets.specs.View.{View, openingOf, accepted}
 use Rattle.records.specs.declared.Device.{Device}
-use Rattle.records.specs.Device.{inDefault, inAddress, nothing, atFullSpeed, atHighSpeed, fresh, afterReset, testWaiting, inTestMode, enterTestMode, awake, settled, withPower, withSuspended, withAddress, withEndpoints}
+use Rattle.records.specs.Device.{inDefault, inAddress, inConfigured, nothing, atFullSpeed, atHighSpeed, fresh, afterReset, testWaits, inTestMode, enterTestMode, awake, settled, withPower, withSuspended, withAddress, withEndpoints}
 use Rattle.records.specs.Image.{deviceOf, imageOf}
 use Rattle.descriptors.specs.Configuration.{canHalt, bitOf}
 use Rattle.records.specs.Current.{viewAt, endpointAt}
@@ -44,22 +44,23 @@ request v d s =
 abbrev pub unlessRefused : ℕ → View → Device → Setup → Outcome
 unlessRefused n v d s = pick (eqb n 0) (request v d s) (refused n d)
 
--- how SET_FEATURE(TEST_MODE) passes the table, here alone: it "needs wIndex's low byte 0 (else 12)", "and at high speed passes the state check in
--- all three states" (L7), as its row does in Address
+-- SET_FEATURE(TEST_MODE), which "at high speed passes the state check in all three states" and at full speed where other features do, in Address and
+-- Configured; it "needs wIndex's low byte 0 (else 12)" (L7), and wLength 0 as they do
 abbrev pub asksTestMode : Bool → Setup → Bool
 asksTestMode paired s = namesTestMode paired s && eqb (s .bmRequestType) 0x00 && eqb (s .bRequest) 0x03
 
-abbrev pub stateFor : Bool → Device → Setup → ℕ
-stateFor paired d s = pick (asksTestMode paired s && eqb (d .speed) atHighSpeed) inAddress (d .state)
+abbrev pub testModeInState : Device → Bool
+testModeInState d = eqb (d .speed) atHighSpeed || eqb (d .state) inAddress || eqb (d .state) inConfigured
 
-abbrev pub withIndex : ℕ → Setup → Setup
-withIndex index s = record { bmRequestType = s .bmRequestType; bRequest = s .bRequest; wValue = s .wValue; wIndex = index; wLength = s .wLength }
+abbrev pub testModeFits : Setup → Bool
+testModeFits s = eqb (s .wIndex % 256) 0 && eqb (s .wLength) 0
 
-abbrev pub setupFor : Bool → Setup → Setup
-setupFor paired s = withIndex (pick (asksTestMode paired s) (s .wIndex % 256) (s .wIndex)) s
+abbrev pub testModeRefusal : Device → Setup → ℕ
+testModeRefusal d s = pick (testModeInState d) (pick (testModeFits s) 0 12) 11
 
+-- any other setup is judged by the table
 abbrev pub refusalFor : Bool → Device → Setup → ℕ
-refusalFor paired d s = refusal (stateFor paired d s) (setupFor paired s)
+refusalFor paired d s = pick (asksTestMode paired s) (testModeRefusal d s) (refusal (d .state) s)
 
 -- "Past 7 to 9, a setup first drops any waiting address."; "any setup past 7 to 9" clears byte 6 (L12); "17 any 8-byte setup once test mode is
 -- entered, after 9" (L7)
@@ -71,7 +72,7 @@ answerSetup v d s = pick (inTestMode d) (refused 17 (settled d)) (unlessRefused 
 unfoldable pub statusEnd : Device → Outcome
 statusEnd d =
     pick (eqb (d .waiting) nothing) (done d)
-    (pick (leb (testWaiting 0) (d .waiting)) (done (enterTestMode d))
+    (pick (testWaits d) (done (enterTestMode d))
     (done (withAddress (pick (eqb (d .waiting) 0) inDefault inAddress) (d .waiting) d)))
 
 -- ---- bus reset: "a reset to a speed above 1, or to 1 with one set lent, gets 16"; once test mode is entered "a valid bus reset then gives 0 and

@@ -13,12 +13,10 @@ use requests::Setup;
 ghost use mathlib.Core.Path.{_≡_};
 ghost use Prim.Native.Nat.{_<_};
 ghost use Rattle.sets.specs.View.{View};
-ghost use mathlib.Core.Bool.{true};
 ghost use Rattle.records.specs.declared.Device.{Device};
 ghost use Rattle.records.specs.Device.{withSuspended};
-ghost use Rattle.records.specs.Fits.{goodWaiting};
 ghost use Rattle.events.specs.Answer.{done};
-ghost use Rattle.events.specs.Step.{request, asksTestMode, stateFor, setupFor, answerSetup, statusEnd, busReset, power, wake, respond};
+ghost use Rattle.events.specs.Step.{request, asksTestMode, testModeRefusal, refusalFor, answerSetup, statusEnd, busReset, power, wake, respond};
 ghost use Rattle.events.specs.Requests.{digit};
 ghost use Rattle.events.specs.Facts.{questionOf, Tells, outcomeOf, OneByte};
 
@@ -50,25 +48,27 @@ fn asks_test_mode(paired: bool, setup: Setup) -> bool
     (paired & (setup.wValue == 2)) & (setup.bmRequestType == 0) & (setup.bRequest == 3)
 }
 
-// The state and the setup that the table judges: at high speed the test mode passes in every state, and its selector is wIndex's high byte.
-fn state_for(paired: bool, device: Device, setup: Setup) -> u8
-    ensures { λ r. ⌜ r ≡ stateFor paired device setup ⌝ }
+// The test mode passes at high speed in every state, else where other features do; its selector is wIndex's high byte, and the low one is 0.
+fn test_mode_refusal(device: Device, setup: Setup) -> u8
+    ensures { λ r. ⌜ r ≡ testModeRefusal device setup ⌝ }
 {
-    if asks_test_mode(paired, setup) & (device.speed == 1) {
-        return 1;
+    if (device.speed == 1) | (device.state == 1) | (device.state == 2) {
+        if (setup.wIndex % 256 == 0) & (setup.wLength == 0) {
+            return 0;
+        }
+        return 12;
     }
-    device.state
+    11
 }
 
-fn setup_for(paired: bool, setup: Setup) -> Setup
-    ensures { λ r. ⌜ r ≡ setupFor paired setup ⌝ }
+// What refuses a setup before its request is asked; 0 if nothing does. The table judges every setup but that of the test mode.
+fn refusal_for(paired: bool, device: Device, setup: Setup) -> u8
+    ensures { λ r. ⌜ r ≡ refusalFor paired device setup ⌝ }
 {
-    let mut tabled = setup;
     if asks_test_mode(paired, setup) {
-        tabled.wIndex = setup.wIndex % 256;
-        return tabled;
+        return test_mode_refusal(device, setup);
     }
-    tabled
+    requests::refusal(device.state, setup)
 }
 
 // A setup: what waits is dropped, and the device is awake; then the refusal of an entered test mode, the table's refusal, or the request.
@@ -80,8 +80,7 @@ fn answer_setup(facts: Facts, device: Device, setup: Setup) -> Reaction
     if 2 <= device.speed {
         return settling(refused(17));
     }
-    let paired = facts.paired;
-    let number = requests::refusal(state_for(paired, device, setup), setup_for(paired, setup));
+    let number = refusal_for(facts.paired, device, setup);
     if number == 0 {
         return settling(request(facts, records::settled(device), setup));
     }
@@ -90,14 +89,13 @@ fn answer_setup(facts: Facts, device: Device, setup: Setup) -> Reaction
 
 // The status stage of a request has ended: a waiting address is taken, a waiting test mode is entered.
 fn status_end(device: Device) -> Reaction
-    requires { ⌜ goodWaiting device ≡ true ⌝ }
     ensures { λ r. ⌜ outcomeOf r device ≡ statusEnd device ⌝ }
 {
     let waiting = device.waiting;
     if waiting == 255 {
         return done(Change::Kept);
     }
-    if 128 <= waiting {
+    if records::test_waits(device) {
         let speed = 1 + 16 * (waiting - 128);
         return done(Change::TestMode(speed));
     }
@@ -154,7 +152,6 @@ fn wake(device: Device) -> Reaction
 pub fn respond(facts: Facts, device: Device, event: Event) -> Reaction
     requires { ⌜ device .wakeup < 2 ⌝ }
     requires { ⌜ device .power < 2 ⌝ }
-    requires { ⌜ goodWaiting device ≡ true ⌝ }
     ensures { λ r. ⌜ ((v : View) → Tells v device (questionOf event) facts → outcomeOf r device ≡ respond v device event) ⌝ }
 {
     let survey = facts.survey;

@@ -14,10 +14,10 @@ use Rattle.octets.specs.Sentences.{pick, any, only}
 use Rattle.octets.proofs.Sentences.{both, any-member, member-any}
 use Rattle.descriptors.specs.declared.Endpoint.{Endpoint}
 use Rattle.descriptors.specs.Configuration.{Configuration, hasInterface, hasSetting, currentOf, addressed, canHalt, bitOf, cleared, ofEither}
-use Rattle.sets.specs.View.{View, byValue, wakes}
+use Rattle.sets.specs.View.{View, wakes}
 use Rattle.records.specs.declared.Device.{Device}
-use Rattle.records.specs.Device.{inDefault, inAddress, inConfigured, nothing, atHighSpeed, afterReset, testWaiting, inTestMode, enterTestMode, settled, withWaiting, withWakeup, withPower, withSuspended, awake, withAddress, withConfiguration, withEndpoints}
-use Rattle.records.specs.Current.{selected, endpointAt}
+use Rattle.records.specs.Device.{inDefault, inAddress, inConfigured, nothing, atHighSpeed, afterReset, testWaiting, testWaits, inTestMode, enterTestMode, settled, withWaiting, withWakeup, withPower, withSuspended, awake, withAddress, withConfiguration, withEndpoints}
+use Rattle.records.specs.Current.{selectedIn, selected, endpointAt}
 use Rattle.requests.specs.declared.Setup.{Setup}
 use Rattle.requests.specs.Setup.{recipient}
 use Rattle.events.specs.declared.Answer.{Answer}
@@ -84,27 +84,27 @@ module _ (views : ℕ → View) (T : Type 0) (k : ℕ) (d s : Device) (h : Near 
 
   -- ---- records that differ from them in the same fields
   -- other shared fields and another rest, at the same configuration and view: all that an event does which names no interface and no endpoint
-  near-common : {x y : Shared} {u w : ℕ × ℕ} → x ≡ y → x .configuration ≡ d .configuration → views (x .speed) ≡ views (d .speed) → (T → u ≡ w) → Near views T k (withCommon x u d) (withCommon y w s)
+  near-common : {x y : Shared} {u w : ℕ × ℕ} → x ≡ y → x .configuration ≡ d .configuration → eqb (x .state) inConfigured ≡ eqb (d .state) inConfigured → views (x .speed) ≡ views (d .speed) → (T → u ≡ w) → Near views T k (withCommon x u d) (withCommon y w s)
   unfolding home
-  near-common p c view q = record {
-    part = record { firm = p; alternate = h .part .alternate; halts = λ e m. h .part .halts e (rw (← c, ← view) m); toggles = λ e m. h .part .toggles e (rw (← c, ← view) m) };
+  near-common p c o view q = record {
+    part = record { firm = p; alternate = h .part .alternate; halts = λ e m. h .part .halts e (rw (← c, ← o, ← view) m); toggles = λ e m. h .part .toggles e (rw (← c, ← o, ← view) m) };
     still = q;
   }
 
   near-waiting : (w : ℕ) → Near views T k (withWaiting w d) (withWaiting w s)
-  near-waiting w = near-common (h .part .firm) refl refl (λ t. ap (λ (r : ℕ × ℕ). (w, r .1)) (h .still t))
+  near-waiting w = near-common (h .part .firm) refl refl refl (λ t. ap (λ (r : ℕ × ℕ). (w, r .1)) (h .still t))
 
   near-settled : Near views T k (settled d) (settled s)
-  near-settled = near-common (h .part .firm) refl refl (λ t. refl)
+  near-settled = near-common (h .part .firm) refl refl refl (λ t. refl)
 
   near-suspended : (on : ℕ) → Near views T k (withSuspended on d) (withSuspended on s)
-  near-suspended on = near-common (h .part .firm) refl refl (λ t. ap (λ (r : ℕ × ℕ). (r .0, on)) (h .still t))
+  near-suspended on = near-common (h .part .firm) refl refl refl (λ t. ap (λ (r : ℕ × ℕ). (r .0, on)) (h .still t))
 
   near-wakeup : (on : ℕ) → Near views T k (withWakeup on d) (withWakeup on s)
-  near-wakeup on = near-common (ap (λ (x : Shared). shared (withWakeup on (withCommon x (rest d) d))) (h .part .firm)) refl refl (h .still)
+  near-wakeup on = near-common (ap (λ (x : Shared). shared (withWakeup on (withCommon x (rest d) d))) (h .part .firm)) refl refl refl (h .still)
 
   near-power : (source : ℕ) → Near views T k (withPower source d) (withPower source s)
-  near-power source = near-common (ap (λ (x : Shared). shared (withPower source (withCommon x (rest d) d))) (h .part .firm)) refl refl (h .still)
+  near-power source = near-common (ap (λ (x : Shared). shared (withPower source (withCommon x (rest d) d))) (h .part .firm)) refl refl refl (h .still)
 
   near-configuration : (state value : ℕ) → Near views T k (withConfiguration state value d) (withConfiguration state value s)
   near-configuration state value = record {
@@ -133,7 +133,7 @@ module _ (views : ℕ → View) (T : Type 0) (k : ℕ) (d s : Device) (h : Near 
 
   -- ---- what exists is the same
   same-selected : selected v d ≡ selected v s
-  same-selected = ap (λ (x : Shared). byValue (record { 0 = x .configuration }) (v .configurations)) (h .part .firm)
+  same-selected = ap (λ (x : Shared). selectedIn v (x .state) (x .configuration)) (h .part .firm)
 
   -- the tests and answers that hang on the firm fields alone
   interface-test : (j : ℕ) → hasInterface (selected v d) j ≡ hasInterface (selected v s) j
@@ -321,15 +321,20 @@ module _ (views : ℕ → View) (T : Type 0) (k : ℕ) (d s : Device) (h : Near 
         let r : recipient q ≡ 1 = F .other (rw (n5, n6, n8, n9)) (rw (n0, n1, n3)) in
         test (eqb (q .bRequest) 0x0A) (λ p. alike-get-interface r) (λ n. alike-set-interface r))))))))
 
-  -- ---- the events of the whole device. What an entered test mode leads to is the view that was in use
-  alike-status-end : rest d ≡ rest s → (eqb (d .waiting) nothing ≡ false → leb (testWaiting 0) (d .waiting) ≡ true → views (enterTestMode d .speed) ≡ views (d .speed))
+  -- ---- the events of the whole device. What an entered test mode leads to is the view that was in use; an address is taken elsewhere than in Configured
+  unconfiguring : (t : Bool) → eqb (pick t inDefault inAddress) inConfigured ≡ false
+  unconfiguring true = refl
+  unconfiguring false = refl
+
+  alike-status-end : rest d ≡ rest s → (testWaits d ≡ true → views (enterTestMode d .speed) ≡ views (d .speed))
+      → (eqb (d .waiting) nothing ≡ false → testWaits d ≡ false → eqb (d .state) inConfigured ≡ false)
       → Alike views T k (statusEnd d) (statusEnd s)
   unfolding statusEnd
-  alike-status-end w stays = tests (eqb (d .waiting) nothing) (eqb (s .waiting) nothing) (ap (λ (r : ℕ × ℕ). eqb (r .0) nothing) w)
+  alike-status-end w stays elsewhere = tests (eqb (d .waiting) nothing) (eqb (s .waiting) nothing) (ap (λ (r : ℕ × ℕ). eqb (r .0) nothing) w)
       (λ p. give refl)
-      (λ p. tests (leb (testWaiting 0) (d .waiting)) (leb (testWaiting 0) (s .waiting)) (ap (λ (r : ℕ × ℕ). leb (testWaiting 0) (r .0)) w)
-      (λ t. record { answer = refl; near = near-common (λ i. entered (h .part .firm i) (w i)) refl (stays p t) (λ t. ap (λ (r : ℕ × ℕ). (nothing, r .1)) w) })
-      (λ t. record { answer = refl; near = near-common (λ i. taken (h .part .firm i) (w i)) refl refl (λ t. ap (λ (r : ℕ × ℕ). (nothing, r .1)) w) }))
+      (λ p. tests (testWaits d) (testWaits s) (ap (λ (r : ℕ × ℕ). leb (testWaiting 1) (r .0) && leb (r .0) (testWaiting 5)) w)
+      (λ t. record { answer = refl; near = near-common (λ i. entered (h .part .firm i) (w i)) refl refl (stays t) (λ t. ap (λ (r : ℕ × ℕ). (nothing, r .1)) w) })
+      (λ t. record { answer = refl; near = near-common (λ i. taken (h .part .firm i) (w i)) refl (unconfiguring (eqb (d .waiting) 0) ∙ sym (elsewhere p t)) refl (λ t. ap (λ (r : ℕ × ℕ). (nothing, r .1)) w) }))
     where
       taken : Shared → ℕ × ℕ → Shared
       taken x r = shared (withAddress (pick (eqb (r .0) 0) inDefault inAddress) (r .0) (withCommon x r d))
@@ -379,15 +384,15 @@ alike-setup views T k d s h S zd zs q w =
 -- every event that concerns k or nobody; one that is the whole device's may read the rest
 pub alike-event : (views : ℕ → View) (T : Type 0) (k : ℕ) (d s : Device) (e : Event) → SoundConfiguration (selected (views (d .speed)) d) → Sixteen d → Sixteen s
     → ((j : ℕ) → eventConcerns (selected (views (d .speed)) d) e ≡ some j → j ≡ k) → (subjectOf e ≡ theDevice → T)
-    → (eqb (d .waiting) nothing ≡ false → leb (testWaiting 0) (d .waiting) ≡ true → views (enterTestMode d .speed) ≡ views (d .speed))
+    → (testWaits d ≡ true → views (enterTestMode d .speed) ≡ views (d .speed)) → (eqb (d .waiting) nothing ≡ false → testWaits d ≡ false → eqb (d .state) inConfigured ≡ false)
     → Near views T k d s → Alike views T k (respond (views (d .speed)) d e) (respond (views (d .speed)) s e)
-alike-event views T k d s (Request q) S zd zs w t n h = alike-setup views T k d s h S zd zs q w
-alike-event views T k d s Malformed S zd zs w t n h = refuse views T k d s h 9
-alike-event views T k d s StatusEnd S zd zs w t n h = alike-status-end views T k d s h (h .still (t refl)) n
-alike-event views T k d s (BusReset speed) S zd zs w t n h = alike-reset views T k d s h speed
-alike-event views T k d s (Halt a) S zd zs w t n h = alike-halt views T k d s h S a (all-in (selected (views (d .speed)) d) S a k w)
-alike-event views T k d s (PacketPassed a) S zd zs w t n h = alike-pass views T k d s h S a (all-in (selected (views (d .speed)) d) S a k w)
-alike-event views T k d s (Power source) S zd zs w t n h = alike-power views T k d s h source
-alike-event views T k d s Suspend S zd zs w t n h = alike-suspended views T k d s h 1
-alike-event views T k d s Resume S zd zs w t n h = alike-suspended views T k d s h 0
-alike-event views T k d s Wake S zd zs w t n h = alike-wake views T k d s h (h .still (t refl))
+alike-event views T k d s (Request q) S zd zs w t n m h = alike-setup views T k d s h S zd zs q w
+alike-event views T k d s Malformed S zd zs w t n m h = refuse views T k d s h 9
+alike-event views T k d s StatusEnd S zd zs w t n m h = alike-status-end views T k d s h (h .still (t refl)) n m
+alike-event views T k d s (BusReset speed) S zd zs w t n m h = alike-reset views T k d s h speed
+alike-event views T k d s (Halt a) S zd zs w t n m h = alike-halt views T k d s h S a (all-in (selected (views (d .speed)) d) S a k w)
+alike-event views T k d s (PacketPassed a) S zd zs w t n m h = alike-pass views T k d s h S a (all-in (selected (views (d .speed)) d) S a k w)
+alike-event views T k d s (Power source) S zd zs w t n m h = alike-power views T k d s h source
+alike-event views T k d s Suspend S zd zs w t n m h = alike-suspended views T k d s h 1
+alike-event views T k d s Resume S zd zs w t n m h = alike-suspended views T k d s h 0
+alike-event views T k d s Wake S zd zs w t n m h = alike-wake views T k d s h (h .still (t refl))

@@ -51,31 +51,48 @@ module _ {v : View} {d : Device} (f : Common v d) where
       go (atAddress s l h c) = (l, h)
       go (atConfigured s l h m w) = (l, h)
 
-  -- what waits below 128 is an address, and no configuration is selected
-  address-waits : (d .waiting ≡ nothing → ⊥) → d .waiting < testWaiting 0 → d .configuration ≡ 0
-  address-waits n l = go (f .state)
+  -- what waits and is no test mode is an address, and the device is not Configured
+  pub address-waits : (d .waiting ≡ nothing → ⊥) → testWaits d ≡ false → (d .configuration ≡ 0) × (eqb (d .state) inConfigured ≡ false)
+  address-waits n t = go (f .state)
     where
       no-test : (eqb (d .waiting) nothing ≡ true) ⊎ (testWaits d ≡ true) → ⊥
       no-test (inl p) = n (eqb-true (d .waiting) nothing p)
-      no-test (inr p) = let m = leb-true 129 (d .waiting) (both (leb 129 (d .waiting)) (leb (d .waiting) 133) p .0) in omega arith
+      no-test (inr p) = false≢true (sym t ∙ p)
 
-      go : Stated v (d .state) (d .address) (d .waiting) (d .configuration) → d .configuration ≡ 0
-      go (atDefault s a c) = c
-      go (atAddress s k h c) = c
+      go : Stated v (d .state) (d .address) (d .waiting) (d .configuration) → (d .configuration ≡ 0) × (eqb (d .state) inConfigured ≡ false)
+      go (atDefault s a c) = (c, rw s)
+      go (atAddress s k h c) = (c, rw s)
       go (atConfigured s k h m w) = absurd (no-test (either (eqb (d .waiting) nothing) (testWaits d) w))
 
-  -- what waits from there on is a test mode, at high speed, and two sets are lent
-  pub test-waits : (d .waiting ≡ nothing → ⊥) → testWaiting 0 ≤ d .waiting → (testWaits d ≡ true) × (d .speed ≡ atHighSpeed)
-  test-waits n l = go (either (eqb (d .waiting) nothing || (leb (d .waiting) 127 && not (inTestMode d))) (testWaits d && eqb (d .speed) atHighSpeed) (f .waiting))
+  -- it is at most 127
+  low-address : (d .waiting ≡ nothing → ⊥) → testWaits d ≡ false → d .waiting ≤ 127
+  low-address n t = go (either (eqb (d .waiting) nothing || (leb (d .waiting) 127 && not (inTestMode d))) (testWaits d && eqb (d .speed) atHighSpeed) (f .waiting))
+    where
+      low : (eqb (d .waiting) nothing ≡ true) ⊎ ((leb (d .waiting) 127 && not (inTestMode d)) ≡ true) → d .waiting ≤ 127
+      low (inl p) = absurd (n (eqb-true (d .waiting) nothing p))
+      low (inr p) = leb-true (d .waiting) 127 (both (leb (d .waiting) 127) (not (inTestMode d)) p .0)
+
+      go : ((eqb (d .waiting) nothing || (leb (d .waiting) 127 && not (inTestMode d))) ≡ true) ⊎ ((testWaits d && eqb (d .speed) atHighSpeed) ≡ true) → d .waiting ≤ 127
+      go (inl p) = low (either (eqb (d .waiting) nothing) (leb (d .waiting) 127 && not (inTestMode d)) p)
+      go (inr p) = absurd (false≢true (sym t ∙ both (testWaits d) (eqb (d .speed) atHighSpeed) p .0))
+
+  -- a test mode waits at high speed
+  pub test-waits : testWaits d ≡ true → d .speed ≡ atHighSpeed
+  test-waits t = go (either (eqb (d .waiting) nothing || (leb (d .waiting) 127 && not (inTestMode d))) (testWaits d && eqb (d .speed) atHighSpeed) (f .waiting))
     where
       no-address : (eqb (d .waiting) nothing ≡ true) ⊎ ((leb (d .waiting) 127 && not (inTestMode d)) ≡ true) → ⊥
-      no-address (inl p) = n (eqb-true (d .waiting) nothing p)
-      no-address (inr p) = let m = leb-true (d .waiting) 127 (both (leb (d .waiting) 127) (not (inTestMode d)) p .0) in omega arith
+      no-address (inl p) =
+          let m = eqb-true (d .waiting) nothing p in
+          let l = leb-true (d .waiting) 133 (both (leb 129 (d .waiting)) (leb (d .waiting) 133) t .1) in
+          omega arith
+      no-address (inr p) =
+          let m = leb-true (d .waiting) 127 (both (leb (d .waiting) 127) (not (inTestMode d)) p .0) in
+          let l = leb-true 129 (d .waiting) (both (leb 129 (d .waiting)) (leb (d .waiting) 133) t .0) in
+          omega arith
 
-      go : ((eqb (d .waiting) nothing || (leb (d .waiting) 127 && not (inTestMode d))) ≡ true) ⊎ ((testWaits d && eqb (d .speed) atHighSpeed) ≡ true)
-          → (testWaits d ≡ true) × (d .speed ≡ atHighSpeed)
+      go : ((eqb (d .waiting) nothing || (leb (d .waiting) 127 && not (inTestMode d))) ≡ true) ⊎ ((testWaits d && eqb (d .speed) atHighSpeed) ≡ true) → d .speed ≡ atHighSpeed
       go (inl p) = absurd (no-address (either (eqb (d .waiting) nothing) (leb (d .waiting) 127 && not (inTestMode d)) p))
-      go (inr p) = let (t, h) = both (testWaits d) (eqb (d .speed) atHighSpeed) p in (t, eqb-true _ _ h)
+      go (inr p) = eqb-true _ _ (both (testWaits d) (eqb (d .speed) atHighSpeed) p .1)
 
   -- nothing waits any more
   drops : Stated v (d .state) (d .address) nothing (d .configuration)
@@ -161,18 +178,18 @@ module _ (b : Board) (sound : (speed : ℕ) → Sound (setFor b speed) (viewFor 
     z : Sized d
     z = g .sized
 
-    -- other shared fields and another rest, at the same configuration
-    shares : (x : Shared) (w : ℕ × ℕ) → x .configuration ≡ d .configuration → Common v (withCommon x w d) → Fit v (withCommon x w d)
-    shares x w p c = record {
-      fitting = record { common = c; stands = record { alternates = rw p (g .fitting .stands .alternates); halts = rw p (g .fitting .stands .halts); toggles = rw p (g .fitting .stands .toggles) } };
+    -- other shared fields and another rest, at the same configuration, selected or not as before
+    shares : (x : Shared) (w : ℕ × ℕ) → x .configuration ≡ d .configuration → eqb (x .state) inConfigured ≡ eqb (d .state) inConfigured → Common v (withCommon x w d) → Fit v (withCommon x w d)
+    shares x w p q c = record {
+      fitting = record { common = c; stands = record { alternates = rw (p, q) (g .fitting .stands .alternates); halts = rw (p, q) (g .fitting .stands .halts); toggles = rw (p, q) (g .fitting .stands .toggles) } };
       sized = record { sixteen = z .sixteen; halts-fit = z .halts-fit; toggles-fit = z .toggles-fit };
     }
 
     settles : Fit v (settled d)
-    settles = slept (withWaiting nothing d) 0 (lit≤ tt) (shares (shared d) (nothing, d .suspended) refl (record { range = f .range; waiting = refl; state = drops f; wakeup = f .wakeup }))
+    settles = slept (withWaiting nothing d) 0 (lit≤ tt) (shares (shared d) (nothing, d .suspended) refl refl (record { range = f .range; waiting = refl; state = drops f; wakeup = f .wakeup }))
 
     wakeable : (on : ℕ) → on ≤ 1 → wakes v ≡ true → Fit v (withWakeup on d)
-    wakeable on l w = shares (shared (withWakeup on d)) (rest d) refl (record {
+    wakeable on l w = shares (shared (withWakeup on d)) (rest d) refl refl (record {
       range = ranged f (f .range .stated) l;
       waiting = f .waiting;
       state = f .state;
@@ -180,7 +197,7 @@ module _ (b : Board) (sound : (speed : ℕ) → Sound (setFor b speed) (viewFor 
     })
 
     powered : (source : ℕ) → source ≤ 1 → Fit v (withPower source d)
-    powered source l = shares (shared (withPower source d)) (rest d) refl (record {
+    powered source l = shares (shared (withPower source d)) (rest d) refl refl (record {
       range = record { stated = f .range .stated; waking = f .range .waking; powered = l; sleeping = f .range .sleeping; running = f .range .running };
       waiting = f .waiting;
       state = f .state;
@@ -196,7 +213,7 @@ module _ (b : Board) (sound : (speed : ℕ) → Sound (setFor b speed) (viewFor 
     })
 
     waiting : (a : ℕ) → a ≤ 127 → d .state ≤ 1 → inTestMode d ≡ false → Fit v (withWaiting a d)
-    waiting a l p t = shares (shared d) (a, d .suspended) refl (record {
+    waiting a l p t = shares (shared d) (a, d .suspended) refl refl (record {
       range = f .range;
       waiting = or-left _ (or-right (eqb a nothing) (joined (le-leb a 127 l) (ap not t)));
       state = go (f .state);
@@ -209,7 +226,7 @@ module _ (b : Board) (sound : (speed : ℕ) → Sound (setFor b speed) (viewFor 
         go (atConfigured s m h n w) = absurd (omega arith)
 
     awaiting : (n : ℕ) → 1 ≤ n → n ≤ 5 → d .speed ≡ atHighSpeed → Fit v (withWaiting (testWaiting n) d)
-    awaiting n l h p = shares (shared d) (testWaiting n, d .suspended) refl (record {
+    awaiting n l h p = shares (shared d) (testWaiting n, d .suspended) refl refl (record {
       range = f .range;
       waiting = or-right (eqb (testWaiting n) nothing || (leb (testWaiting n) 127 && not (inTestMode d))) (joined tests (eq-eqb (d .speed) atHighSpeed p));
       state = go (f .state);
@@ -225,12 +242,11 @@ module _ (b : Board) (sound : (speed : ℕ) → Sound (setFor b speed) (viewFor 
         go (atConfigured s m h k w) = atConfigured s m h k (or-right (eqb (testWaiting n) nothing) tests)
 
     -- the test mode that waited: the high-speed set stays in use
-    entered : (d .waiting ≡ nothing → ⊥) → testWaiting 0 ≤ d .waiting → Fit (viewAt b (enterTestMode d)) (enterTestMode d)
-    unfolding viewOf
-    entered n l =
-        let (t, h) = test-waits f n l in
+    entered : testWaits d ≡ true → Fit (viewAt b (enterTestMode d)) (enterTestMode d)
+    entered t =
+        let h = test-waits f t in
         let two = pair-of (v .paired) (rw h at (f .range .running)) in
-        rw (entered-view b d h) (shares (shared (enterTestMode d)) (nothing, d .suspended) refl (record {
+        rw (entered-view b d h) (shares (shared (enterTestMode d)) (nothing, d .suspended) refl refl (record {
           range = record { stated = f .range .stated; waking = f .range .waking; powered = f .range .powered; sleeping = f .range .sleeping; running = rw two (entered-good (d .waiting) t) };
           waiting = refl;
           state = drops f;
@@ -238,20 +254,20 @@ module _ (b : Board) (sound : (speed : ℕ) → Sound (setFor b speed) (viewFor 
         }))
 
     -- the address that waited
-    applied : (d .waiting ≡ nothing → ⊥) → d .waiting < testWaiting 0 → Fit v (withAddress (pick (eqb (d .waiting) 0) inDefault inAddress) (d .waiting) d)
-    applied n l = go (eqb (d .waiting) 0) refl (address-waits f n l)
+    applied : (d .waiting ≡ nothing → ⊥) → testWaits d ≡ false → Fit v (withAddress (pick (eqb (d .waiting) 0) inDefault inAddress) (d .waiting) d)
+    applied n t = let (c, o) = address-waits f n t in go (eqb (d .waiting) 0) refl c o (low-address f n t)
       where
-        go : (b : Bool) → eqb (d .waiting) 0 ≡ b → d .configuration ≡ 0 → Fit v (withAddress (pick b inDefault inAddress) (d .waiting) d)
-        go true p c = shares (shared (withAddress inDefault (d .waiting) d)) (nothing, d .suspended) refl (record {
+        go : (b : Bool) → eqb (d .waiting) 0 ≡ b → d .configuration ≡ 0 → eqb (d .state) inConfigured ≡ false → d .waiting ≤ 127 → Fit v (withAddress (pick b inDefault inAddress) (d .waiting) d)
+        go true p c o l = shares (shared (withAddress inDefault (d .waiting) d)) (nothing, d .suspended) refl (sym o) (record {
           range = ranged f (lit≤ tt) (f .range .waking);
           waiting = refl;
           state = atDefault refl (eqb-true _ _ p) c;
           wakeup = f .wakeup;
         })
-        go false p c = shares (shared (withAddress inAddress (d .waiting) d)) (nothing, d .suspended) refl (record {
+        go false p c o l = shares (shared (withAddress inAddress (d .waiting) d)) (nothing, d .suspended) refl (sym o) (record {
           range = ranged f (lit≤ tt) (f .range .waking);
           waiting = refl;
-          state = atAddress refl (let n = eqb-false (d .waiting) 0 p in omega arith) (omega arith) c;
+          state = atAddress refl (let n = eqb-false (d .waiting) 0 p in omega arith) l c;
           wakeup = f .wakeup;
         })
 
@@ -316,7 +332,7 @@ module _ (b : Board) (sound : (speed : ℕ) → Sound (setFor b speed) (viewFor 
     changedFits (toggled e m c) = flips e m c
     changedFits (waits a l h t) = waiting a l h t
     changedFits (awaits n l h p) = awaiting n l h p
-    changedFits (enters n l) = entered n l
+    changedFits (enters t) = entered t
     changedFits (applies n l) = applied n l
     changedFits (unconfigures l) = unconfigured l
     changedFits (configures c l w m) = configured c l w m

@@ -122,7 +122,7 @@ module _ (v : View) (d : Device) where
       let s = f .stands in
       joined (joined (joined (joined (joined (joined (in-range (c .range)) (c .waiting)) (good-state (c .state))) (s .alternates)) (s .halts)) (s .toggles)) (c .wakeup)
 
-  -- ---- in Configured no address waits, so nothing does where no test mode does; elsewhere no configuration is selected
+  -- ---- in Configured no address waits, so nothing does where no test mode does
   pub unwaiting : fits v d ≡ true → d .state ≡ inConfigured → testWaits d ≡ false → d .waiting ≡ nothing
   unwaiting f s t = go (fitting f .common .state)
     where
@@ -134,11 +134,3 @@ module _ (v : View) (d : Device) where
           neither : (eqb (d .waiting) nothing ≡ true) ⊎ (testWaits d ≡ true) → d .waiting ≡ nothing
           neither (inl p) = eqb-true _ _ p
           neither (inr p) = absurd (false≢true (sym t ∙ p))
-
-  pub unselected : fits v d ≡ true → (d .state ≡ inConfigured → ⊥) → d .configuration ≡ 0
-  unselected f n = go (fitting f .common .state)
-    where
-      go : Stated v (d .state) (d .address) (d .waiting) (d .configuration) → d .configuration ≡ 0
-      go (atDefault s a c) = c
-      go (atAddress s l h c) = c
-      go (atConfigured s l h m w) = absurd (n s)

@@ -20,7 +20,7 @@ use Rattle.descriptors.specs.declared.Endpoint.{Endpoint}
 use Rattle.descriptors.specs.Configuration.{Configuration, hasInterface, hasSetting, isCurrent, canHalt, bitOf, cleared, ofEither}
 use Rattle.sets.specs.View.{View, unconfigured, orNone}
 use Rattle.records.specs.declared.Device.{Device}
-use Rattle.records.specs.Device.{zeros, Sized}
+use Rattle.records.specs.Device.{inConfigured, zeros, Sized}
 use Rattle.records.specs.Current.{selected, currentEndpoints}
 use Rattle.records.specs.Fits.{goodAlternates, standsAt}
 use Rattle.events.specs.Requests.{withSetting}
@@ -90,11 +90,15 @@ soundNone = record {
 
 module _ (bytes : List ℕ) (v : View) (s : Sound bytes v) where
   pub soundSelected : (d : Device) → SoundConfiguration (selected v d)
-  soundSelected d = go (first (λ c. eqb (c .value) (d .configuration)) (v .configurations)) refl
+  soundSelected d = at (eqb (d .state) inConfigured)
     where
       go : (o : Option Configuration) → first (λ c. eqb (c .value) (d .configuration)) (v .configurations) ≡ o → SoundConfiguration (orNone o)
       go none p = soundNone
       go (some c) p = s .configurations c (first-some (λ c. eqb (c .value) (d .configuration)) (v .configurations) p .0)
+
+      at : (t : Bool) → SoundConfiguration (pick t (orNone (first (λ c. eqb (c .value) (d .configuration)) (v .configurations))) unconfigured)
+      at true = go (first (λ c. eqb (c .value) (d .configuration)) (v .configurations)) refl
+      at false = soundNone
 
   -- a current endpoint's bit is one of 32
   pub bit-below : (d : Device) (e : Endpoint) → List·Memᴰ e (currentEndpoints v d) → bitOf (e .address) < 32

@@ -1,22 +1,20 @@
 -- Locality, for every event: one that concerns interface k takes its answer and k's next part from k's part and the shared fields, leaves
 -- every other interface's part, and changes the rest only by dropping what waits; one that concerns nobody answers alike, and leaves
 -- alike, records that k cannot tell apart and whose rest is the same. No axiom.
-use Prim.Native.Nat.{ℕ, _≤_}
-use native.Mathlib.Omega.{arith}
+use Prim.Native.Nat.{ℕ}
 use mathlib.Core.Path.{_≡_, refl, sym, ap, subst, _∙_}
 use mathlib.Core.Bool.{Bool, true, false, false≢true}
 use mathlib.Core.List.{List}
 use mathlib.Core.Option.{Option, some, none, Option·some-injective, Option·none-ne-some}
-use lib.Dec.{eqb, leb}
-use borrow.Author.Tests.{eqb-true, eqb-false, ne-eqb, leb-true}
+use lib.Dec.{eqb}
+use borrow.Author.Tests.{eqb-true, eqb-false}
 use Rattle.octets.specs.Sentences.{pick, any, first, isSome}
-use Rattle.octets.proofs.Sentences.{none-first}
 use Rattle.sets.specs.Opening.{Board}
-use Rattle.sets.specs.View.{View, byValue, orNone, unconfigured}
+use Rattle.sets.specs.View.{View, byValue, unconfigured}
 use Rattle.records.specs.declared.Device.{Device}
-use Rattle.records.specs.Device.{inConfigured, nothing, testWaiting, testWaits, enterTestMode}
-use Rattle.records.specs.Current.{setFor, setAt, viewFor, viewAt, selected}
-use Rattle.records.specs.Fits.{fits, fitsOn}
+use Rattle.records.specs.Device.{inConfigured, nothing, testWaits, enterTestMode}
+use Rattle.records.specs.Current.{setFor, setAt, viewFor, viewAt, selectedIn, selected}
+use Rattle.records.specs.Fits.{fitsOn}
 use Rattle.requests.specs.Setup.{recipient}
 use Rattle.events.specs.declared.Event.{Event}
 use Rattle.events.specs.declared.Event.the-variants.{Request, Malformed, StatusEnd, BusReset, Halt, PacketPassed, Power, Suspend, Resume, Wake}
@@ -27,8 +25,8 @@ use Rattle.events.specs.Step.{respond}
 use Rattle.events.specs.Concerns.{Subject, aSetup, anEndpoint, theDevice, subjectOf, subjectConcerns, eventConcerns, concerns, concernsOn}
 use Rattle.order.specs.Owners.{Owners}
 use Rattle.sets.specs.Sound.{Sound}
-use Rattle.laws.proofs.Fitting.{fitting, unwaiting, unselected}
-use Rattle.laws.proofs.Changes.{test-waits, entered-view}
+use Rattle.laws.proofs.Fitting.{fitting, unwaiting}
+use Rattle.laws.proofs.Changes.{address-waits, test-waits, entered-view}
 use Rattle.laws.proofs.Keeping.{soundSelected}
 use Rattle.laws.specs.Parts.{Good, orNobody, Shared, shared, SameIn, Same, rest, owned, who, keeps, wakes, settledBy, drops, kind, settle}
 use Rattle.laws.proofs.Same.{self, whole, same-view, turn-on, join-on, settled-same, settled-rest, settle-again, settle-commute}
@@ -40,7 +38,7 @@ use Rattle.laws.proofs.Touches.{Touches, touch-event}
 pub concerns-by : (b : Board) (r s : Device) (e : Event) → shared r ≡ shared s → concernsOn b r e ≡ concernsOn b s e
 unfolding concerns
 concerns-by b r s e p =
-    ap (λ (x : Shared). pick (eqb (x .state) inConfigured) (eventConcerns (byValue (record { 0 = x .configuration }) (viewFor b (x .speed) .configurations)) e) none) p
+    ap (λ (x : Shared). pick (eqb (x .state) inConfigured) (eventConcerns (selectedIn (viewFor b (x .speed)) (x .state) (x .configuration)) e) none) p
 
 nobody-concerned : (u : Subject) → subjectConcerns unconfigured u ≡ none
 unfolding any first
@@ -53,19 +51,14 @@ nobody-concerned (aSetup q) = go (eqb (recipient q) 1) (eqb (recipient q) 2)
 nobody-concerned (anEndpoint a) = refl
 nobody-concerned theDevice = refl
 
-module _ (set : List ℕ) (v : View) (S : Sound set v) where
-  -- outside Configured a record that fits selects nothing, so no event concerns anybody
-  pub zero-selects : (value : ℕ) → value ≡ 0 → byValue (record { 0 = value }) (v .configurations) ≡ unconfigured
-  zero-selects value z = ap orNone (none-first (λ c. eqb (c .value) value) (v .configurations)
-      (λ c m. ne-eqb (c .value) value (λ p. let l : 1 ≤ c .value = S .values c m .0 in omega arith)))
-
-  concerns-good : (d : Device) (e : Event) → fits v d ≡ true → concerns v d e ≡ eventConcerns (selected v d) e
-  unfolding concerns
-  concerns-good d e g = go (eqb (d .state) inConfigured) refl
-    where
-      go : (b : Bool) → eqb (d .state) inConfigured ≡ b → pick b (eventConcerns (selected v d) e) none ≡ eventConcerns (selected v d) e
-      go true p = refl
-      go false p = sym (ap (λ c. eventConcerns c e) (zero-selects (d .configuration) (unselected v d g (eqb-false _ _ p))) ∙ nobody-concerned (subjectOf e))
+-- outside Configured nothing is selected, so no event concerns anybody
+concerns-good : (v : View) (d : Device) (e : Event) → concerns v d e ≡ eventConcerns (selected v d) e
+unfolding concerns
+concerns-good v d e = go (eqb (d .state) inConfigured)
+  where
+    go : (b : Bool) → (let c = pick b (byValue (record { 0 = d .configuration }) (v .configurations)) unconfigured in pick b (eventConcerns c e) none ≡ eventConcerns c e)
+    go true = refl
+    go false = sym (nobody-concerned (subjectOf e))
 
 -- ---- the laws
 whose : (o : Option ℕ) → isSome o ≡ true → o ≡ some (orNobody o)
@@ -116,7 +109,7 @@ respondOn b d e = respond (viewAt b d) d e
 module _ (b : Board) (S : (speed : ℕ) → Sound (setFor b speed) (viewFor b speed)) where
   -- an event of k's
   mine : (d : Device) (e : Event) → Good b d → owned b d e ≡ true → eventConcerns (selected (viewAt b d) d) e ≡ some (who b d e)
-  mine d e g o = sym (concerns-good (setAt b d) (viewAt b d) (S (d .speed)) d e (g .1)) ∙ whose (concernsOn b d e) o
+  mine d e g o = sym (concerns-good (viewAt b d) d e) ∙ whose (concernsOn b d e) o
 
   -- from two records at one speed: the same set is in use
   on-both : {T : Type 0} {k : ℕ} {r s : Device} (e : Event) → Same b k r s → Alike (viewFor b) T k (respondOn b r e) (respond (viewAt b r) s e)
@@ -124,8 +117,12 @@ module _ (b : Board) (S : (speed : ℕ) → Sound (setFor b speed) (viewFor b sp
   on-both {T} {k} {r} {s} e h a = subst (λ v. Alike (viewFor b) T k (respondOn b r e) (respond v s e)) (same-view b r s (h .firm)) a
 
   -- where a test mode is entered the set in use stays
-  staying : (r : Device) → Good b r → eqb (r .waiting) nothing ≡ false → leb (testWaiting 0) (r .waiting) ≡ true → viewAt b (enterTestMode r) ≡ viewAt b r
-  staying r g n l = entered-view b r (test-waits (fitting (viewAt b r) r (g .1) .common) (eqb-false _ _ n) (leb-true _ _ l) .1)
+  staying : (r : Device) → Good b r → testWaits r ≡ true → viewAt b (enterTestMode r) ≡ viewAt b r
+  staying r g t = entered-view b r (test-waits (fitting (viewAt b r) r (g .1) .common) t)
+
+  -- and an address is taken elsewhere than in Configured
+  elsewhere : (r : Device) → Good b r → eqb (r .waiting) nothing ≡ false → testWaits r ≡ false → eqb (r .state) inConfigured ≡ false
+  elsewhere r g n t = address-waits (fitting (viewAt b r) r (g .1) .common) (eqb-false _ _ n) t .1
 
   alike-mine : (k : ℕ) (r s : Device) (e : Event) → Good b r → Good b s → owned b r e ≡ true → who b r e ≡ k → Same b k r s
       → Alike (viewFor b) ⊥ k (respondOn b r e) (respondOn b s e)
@@ -133,16 +130,16 @@ module _ (b : Board) (S : (speed : ℕ) → Sound (setFor b speed) (viewFor b sp
       let v = viewAt b r in
       let c : eventConcerns (selected v r) e ≡ some k = mine r e g o ∙ ap some w in
       on-both e h (alike-event (viewFor b) ⊥ k r s e (soundSelected (setAt b r) v (S (r .speed)) r) (g .0 .sixteen) (d .0 .sixteen) (λ j p. Option·some-injective j k (sym p ∙ c))
-      (λ p. Option·none-ne-some k (sym (ap (subjectConcerns (selected v r)) p) ∙ c)) (staying r g) (record { part = h; still = λ t. absurd t }))
+      (λ p. Option·none-ne-some k (sym (ap (subjectConcerns (selected v r)) p) ∙ c)) (staying r g) (elsewhere r g) (record { part = h; still = λ t. absurd t }))
 
   -- an event of nobody's
   alike-free : (k : ℕ) (r s : Device) (e : Event) → Good b r → Good b s → owned b r e ≡ false → Same b k r s → rest r ≡ rest s
       → Alike (viewFor b) (rest r ≡ rest s) k (respondOn b r e) (respondOn b s e)
   alike-free k r s e g d o h w =
       let v = viewAt b r in
-      let c : eventConcerns (selected v r) e ≡ none = sym (concerns-good (setAt b r) v (S (r .speed)) r e (g .1)) ∙ nobodys (concernsOn b r e) o in
+      let c : eventConcerns (selected v r) e ≡ none = sym (concerns-good v r e) ∙ nobodys (concernsOn b r e) o in
       on-both e h (alike-event (viewFor b) (rest r ≡ rest s) k r s e (soundSelected (setAt b r) v (S (r .speed)) r) (g .0 .sixteen) (d .0 .sixteen)
-      (λ j p. absurd (Option·none-ne-some j (sym c ∙ p))) (λ p. w) (staying r g) (record { part = h; still = λ t. t }))
+      (λ j p. absurd (Option·none-ne-some j (sym c ∙ p))) (λ p. w) (staying r g) (elsewhere r g) (record { part = h; still = λ t. t }))
 
   touch-mine : (d : Device) (e : Event) → Good b d → owned b d e ≡ true
       → Touches (viewAt b d) (who b d e) (settledBy (kind e (respondOn b d e .answer)) d) (respondOn b d e .device)

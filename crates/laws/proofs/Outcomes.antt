@@ -1,17 +1,17 @@
 -- Every outcome of an event on a record that fits, by kind, with what is known where it comes about: the one walk over the events and
 -- requests from which the promises about the step are proved. No axiom.
-use Prim.Native.Nat.{ℕ, _≤_, _<_, min, _/_, _%_}
+use Prim.Native.Nat.{ℕ, _≤_, min, _/_, _%_}
 use mathlib.Core.Path.{_≡_, refl, ap, _∙_}
 use mathlib.Core.List.{[], _∷_, List·Memᴰ}
-use mathlib.Core.Bool.{Bool, true, false, _&&_, _||_, not, and-false}
+use mathlib.Core.Bool.{Bool, true, false, _&&_, _||_, not}
 use mathlib.Core.Option.{Option, some, none}
 use lib.Dec.{eqb, leb, lit≤}
-use borrow.Author.Tests.{eq-eqb, eqb-true, eqb-false, leb-true, leb-false}
+use borrow.Author.Tests.{eq-eqb, eqb-true, eqb-false, leb-true}
 use native.Mathlib.Omega.{arith}
 use Rattle.octets.specs.Bit.{bit, flipBit}
 use Rattle.octets.specs.Sentences.{pick, _⇒_, any, every, first, member}
 use Rattle.octets.proofs.Sentences.{both, if-then, conjunct, every-member, first-some}
-use Rattle.laws.proofs.Recipients.{let-through}
+use Rattle.laws.proofs.Recipients.{let-through, table-judges, refusal-of}
 use Rattle.descriptors.specs.declared.Endpoint.{Endpoint}
 use Rattle.descriptors.specs.Configuration.{hasInterface, hasSetting, canHalt, bitOf}
 use Rattle.sets.specs.declared.Entry.{Entry}
@@ -19,7 +19,7 @@ use Rattle.descriptors.specs.declared.ConfigurationIndex.{ConfigurationIndex}
 use Rattle.sets.specs.View.{View, entryByIndex, wakes}
 use Rattle.sets.proofs.Lookups.{by-index-member}
 use Rattle.records.specs.declared.Device.{Device}
-use Rattle.records.specs.Device.{inDefault, inAddress, inConfigured, nothing, atHighSpeed, afterReset, testWaiting, inTestMode, enterTestMode, settled, withWaiting, withWakeup, withPower, withSuspended, awake, withAddress, withConfiguration, withEndpoints}
+use Rattle.records.specs.Device.{inDefault, inAddress, inConfigured, nothing, atHighSpeed, afterReset, testWaiting, testWaits, inTestMode, enterTestMode, settled, withWaiting, withWakeup, withPower, withSuspended, awake, withAddress, withConfiguration, withEndpoints}
 use Rattle.records.specs.Current.{selected, currentEndpoints, endpointAt}
 use Rattle.requests.specs.declared.Setup.{Setup}
 use Rattle.requests.specs.declared.Row.{Row}
@@ -34,7 +34,7 @@ use Rattle.events.specs.declared.facts.Located.the-variants.{Body, Serial, Nowh
 use Rattle.events.specs.declared.Outcome.{Outcome}
 use Rattle.events.specs.Answer.{numberOf, partOf, gives, done, refused}
 use Rattle.events.specs.Requests.{byRecipient, isEndpointZero, deviceFeature, namesTestMode, testSelector, setTestMode, interfaceFeature, endpointFeature, endpointStatus, haltFeature, clearHalt, setHalt, isEntry, bodyAt, byIndex, languageFor, locateString, locate, describe, withSetting, getStatus, clearFeature, setFeature, setAddress, getDescriptor, getConfiguration, setConfiguration, getInterface, setInterface}
-use Rattle.events.specs.Step.{request, stateFor, setupFor, refusalFor, answerSetup, statusEnd, goodReset, haltAt, halt, passAt, packetPassed, respond}
+use Rattle.events.specs.Step.{request, refusalFor, answerSetup, statusEnd, goodReset, haltAt, halt, passAt, packetPassed, respond}
 
 -- a change of a record that fits, with what is known where it comes about
 pub data Changed (v : View) (d : Device) : Device → Type 0 where
@@ -45,8 +45,8 @@ pub data Changed (v : View) (d : Device) : Device → Type 0 where
       → Changed v d (awake (withEndpoints (d .alternates) (d .halts) (flipBit (d .toggles) (bitOf (e .address))) d))
   waits : (a : ℕ) → a ≤ 127 → d .state ≤ 1 → inTestMode d ≡ false → Changed v d (withWaiting a d)
   awaits : (s : ℕ) → 1 ≤ s → s ≤ 5 → d .speed ≡ atHighSpeed → Changed v d (withWaiting (testWaiting s) d)
-  enters : (d .waiting ≡ nothing → ⊥) → testWaiting 0 ≤ d .waiting → Changed v d (enterTestMode d)
-  applies : (d .waiting ≡ nothing → ⊥) → d .waiting < testWaiting 0 → Changed v d (withAddress (pick (eqb (d .waiting) 0) inDefault inAddress) (d .waiting) d)
+  enters : testWaits d ≡ true → Changed v d (enterTestMode d)
+  applies : (d .waiting ≡ nothing → ⊥) → testWaits d ≡ false → Changed v d (withAddress (pick (eqb (d .waiting) 0) inDefault inAddress) (d .waiting) d)
   unconfigures : 1 ≤ d .state → Changed v d (withConfiguration inAddress 0 d)
   configures : (c : ℕ) → 1 ≤ d .state → d .waiting ≡ nothing → any (λ k. eqb (k .value) c) (v .configurations) ≡ true
       → Changed v d (withConfiguration inConfigured c d)
@@ -205,22 +205,16 @@ module _ (v : View) (d : Device) (s : Setup) where
   configurations l w = chosen (Answered v d) (eqb (s .wValue) 0) (λ e. changes (unconfigures l))
       (λ e. chosen (Answered v d) (any (λ c. eqb (c .value) (s .wValue)) (v .configurations)) (λ e. changes (configures (s .wValue) l w e)) (λ e. missing))
 
-  -- the state that the table judges, of a request that is no SET_FEATURE
-  own-state : (code : ℕ) → eqb (s .bRequest) code ≡ true → eqb code 3 ≡ false → stateFor (v .paired) d s ≡ d .state
-  own-state code e n =
-      let z : eqb (s .bRequest) 3 ≡ false = ap (λ c. eqb c 3) (eqb-true (s .bRequest) code e) ∙ n in
-      ap (λ t. pick (t && eqb (d .speed) atHighSpeed) inAddress (d .state)) (ap (λ t. namesTestMode (v .paired) s && eqb (s .bmRequestType) 0x00 && t) z ∙ and-false (namesTestMode (v .paired) s && eqb (s .bmRequestType) 0x00))
-
   answered : d .waiting ≡ nothing → inTestMode d ≡ false → refusalFor (v .paired) d s ≡ 0 → Answered v d (request v d s)
   unfolding request clearFeature setFeature setAddress getConfiguration getInterface setInterface
   answered w t p =
       chosen (Answered v d) (eqb (s .bRequest) 0x00) (λ e. status)
       (λ e. chosen (Answered v d) (eqb (s .bRequest) 0x01) (λ e. features clearHalt (wakes-or-not 0 (lit≤ tt)) unhalted)
       (λ e. chosen (Answered v d) (eqb (s .bRequest) 0x03) (λ e. features setHalt (chosen (Answered v d) (namesTestMode (v .paired) s) (λ n. test-mode) (λ n. wakes-or-not 1 (lit≤ tt))) halted)
-      (λ e. chosen (Answered v d) (eqb (s .bRequest) 0x05) (λ e. let (a, b) = addressAllowed (stateFor (v .paired) d s) (setupFor (v .paired) s) p (eqb-true (s .bRequest) 5 e) in changes (waits (s .wValue) a (rw (own-state 5 e refl) at b) t))
+      (λ e. chosen (Answered v d) (eqb (s .bRequest) 0x05) (λ e. let c = eqb-true (s .bRequest) 5 e in let (a, b) = addressAllowed (d .state) s (table-judges (v .paired) d s c refl p) c in changes (waits (s .wValue) a b t))
       (λ e. chosen (Answered v d) (eqb (s .bRequest) 0x06) (λ e. descriptors)
       (λ e. chosen (Answered v d) (eqb (s .bRequest) 0x08) (λ e. reads _ refl refl)
-      (λ e. chosen (Answered v d) (eqb (s .bRequest) 0x09) (λ e. configurations (rw (own-state 9 e refl) at (configurationAllowed (stateFor (v .paired) d s) (setupFor (v .paired) s) p (eqb-true (s .bRequest) 9 e))) w)
+      (λ e. chosen (Answered v d) (eqb (s .bRequest) 0x09) (λ e. let c = eqb-true (s .bRequest) 9 e in configurations (configurationAllowed (d .state) s (table-judges (v .paired) d s c refl p) c) w)
       (λ e. chosen (Answered v d) (eqb (s .bRequest) 0x0A) (λ e. chosen (Answered v d) (hasInterface (selected v d) (s .wIndex)) (λ e. reads _ refl refl) (λ e. missing))
       (λ e. chosen (Answered v d) (hasSetting (selected v d) (s .wIndex) (s .wValue)) (λ e. changes (sets (s .wIndex) (s .wValue) e)) (λ e. missing)))))))))
 
@@ -233,7 +227,7 @@ module _ (v : View) (d : Device) where
       (λ e. answered v (settled d) s refl t (eqb-true (refusalFor (v .paired) d s) 0 e))
       (λ e.
       let n = refusalFor (v .paired) d s in
-      let (l, h) = tableRefuses (stateFor (v .paired) d s) (setupFor (v .paired) s) (eqb-false n 0 e) in refusedWith n l h))
+      let (l, h) = refusal-of (λ n. (n ≡ 0 → ⊥) → (10 ≤ n) × (n ≤ 14)) (v .paired) d s (λ z. absurd (z refl)) (λ z. (lit≤ tt, lit≤ tt)) (λ z. (lit≤ tt, lit≤ tt)) (tableRefuses (d .state) s) (eqb-false n 0 e) in refusedWith n l h))
 
   found : (a : ℕ) {e : Endpoint} → endpointAt v d a ≡ some e → List·Memᴰ e (currentEndpoints v d)
   found a p = first-some (λ e. eqb (e .address) a) (currentEndpoints v d) p .0
@@ -243,9 +237,9 @@ module _ (v : View) (d : Device) where
   responded (Request s) = answers (setup s)
   responded Malformed = refuses malformed
   responded StatusEnd = chosen (Responded v d StatusEnd) (eqb (d .waiting) nothing) (λ e. leaves)
-      (λ e. chosen (Responded v d StatusEnd) (leb (testWaiting 0) (d .waiting))
-      (λ t. becomes (enters (eqb-false (d .waiting) nothing e) (leb-true _ _ t)))
-      (λ t. becomes (applies (eqb-false (d .waiting) nothing e) (leb-false _ _ t))))
+      (λ e. chosen (Responded v d StatusEnd) (testWaits d)
+      (λ t. becomes (enters t))
+      (λ t. becomes (applies (eqb-false (d .waiting) nothing e) t)))
   responded (BusReset speed) = chosen (Responded v d (BusReset speed)) (goodReset (v .paired) speed)
       (λ g. chosen (λ x. Responded v d (BusReset speed) (done x)) (inTestMode d) (λ t. leaves) (λ t. becomes (resets speed g)))
       (λ g. refuses noReset)

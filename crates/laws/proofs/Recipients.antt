@@ -2,18 +2,19 @@
 use Prim.Native.Nat.{ℕ, _%_, _≤_}
 use native.Mathlib.Omega.{arith}
 use mathlib.Core.Path.{_≡_, refl, sym, ap, _∙_}
-use mathlib.Core.Bool.{Bool, true, false, _&&_, _||_}
+use mathlib.Core.Bool.{Bool, true, false, _&&_, _||_, false≢true}
 use mathlib.Core.Option.{Option, some, none}
 use mathlib.Core.List.{List·Memᴰ}
 use lib.Dec.{eqb, leb}
-use borrow.Author.Tests.{eqb-true, leb-true}
+use borrow.Author.Tests.{eqb-true, eq-eqb, leb-true}
 use Rattle.octets.specs.Sentences.{pick, _⇒_, every}
-use Rattle.octets.proofs.Sentences.{both, if-then, first-some, every-member}
+use Rattle.octets.proofs.Sentences.{cases, never, both, if-then, first-some, every-member}
 use Rattle.requests.specs.declared.Setup.{Setup}
 use Rattle.requests.specs.declared.Row.{Row}
 use Rattle.requests.specs.Setup.{recipient}
 use Rattle.records.specs.declared.Device.{Device}
-use Rattle.events.specs.Step.{stateFor, setupFor, refusalFor}
+use Rattle.events.specs.Requests.{namesTestMode}
+use Rattle.events.specs.Step.{asksTestMode, testModeInState, testModeFits, refusalFor}
 use Rattle.requests.specs.Table.{table, rowOf, inState, fieldsFit, refusalAt, refusal}
 
 -- the row that let a setup through
@@ -70,8 +71,27 @@ table-fits state s p =
       other = λ q r. eqb-true _ _ (rw (q, r) at c);
     }
 
--- what the table judges is the setup but for its index
+-- ---- the setup of the test mode, which the table does not judge
+pub test-code : (paired : Bool) (s : Setup) → asksTestMode paired s ≡ true → (s .bmRequestType ≡ 0x00) × (s .bRequest ≡ 0x03)
+test-code paired s t =
+    let (k, c) = both (namesTestMode paired s && eqb (s .bmRequestType) 0x00) (eqb (s .bRequest) 0x03) t in
+    (eqb-true _ _ (both (namesTestMode paired s) (eqb (s .bmRequestType) 0x00) k .1), eqb-true _ _ c)
+
+-- any other setup that is not refused is let through by the table
+pub table-judges : (paired : Bool) (d : Device) (s : Setup) {code : ℕ} → s .bRequest ≡ code → eqb code 0x03 ≡ false → refusalFor paired d s ≡ 0 → refusal (d .state) s ≡ 0
+table-judges paired d s c n p = cases (asksTestMode paired s) (λ t. never (eq-eqb _ 0x03 (sym c ∙ test-code paired s t .1)) n) (λ t. rw t at p)
+
+-- its refusals are among the table's
+pub refusal-of : (P : ℕ → Type 0) (paired : Bool) (d : Device) (s : Setup) → P 0 → P 11 → P 12 → P (refusal (d .state) s) → P (refusalFor paired d s)
+refusal-of P paired d s zero eleven twelve other = cases (asksTestMode paired s)
+    (λ t. rw t (cases (testModeInState d) (λ q. rw q (cases (testModeFits s) (λ r. rw r zero) (λ r. rw r twelve))) (λ q. rw q eleven)))
+    (λ t. rw t other)
+
 pub table-passes : (paired : Bool) (d : Device) (s : Setup) → refusalFor paired d s ≡ 0 → Tabled s
-table-passes paired d s p =
-    let t = table-fits (stateFor paired d s) (setupFor paired s) p in
-    record { known = t .known; alone = t .alone; other = t .other }
+table-passes paired d s p = cases (asksTestMode paired s)
+    (λ t. let (k, c) = test-code paired s t in record {
+      known = rw k (omega arith);
+      alone = λ q. rw k refl;
+      other = λ q r. absurd (false≢true (sym (rw c at r)));
+    })
+    (λ t. table-fits (d .state) s (rw t at p))

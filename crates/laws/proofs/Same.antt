@@ -6,12 +6,12 @@ use mathlib.Core.List.{List}
 use mathlib.Core.Option.{Option, some, none}
 use lib.Seq.{ext-getD}
 use lib.Dec.{eqb}
-use Rattle.octets.specs.Sentences.{pick}
+use Rattle.octets.specs.Sentences.{pick, isSome}
 use Rattle.octets.proofs.Bits.{ext-bits}
-use Rattle.sets.specs.Opening.{Board}
+use Rattle.sets.specs.Opening.{Board, lent}
 use Rattle.sets.specs.View.{View, viewOf}
 use Rattle.records.specs.declared.Device.{Device}
-use Rattle.records.specs.Current.{inUse, orEmpty, viewFor, viewAt}
+use Rattle.records.specs.Current.{inUse, orEmpty, pairedAs, viewFor, viewAt}
 use Rattle.records.specs.Device.{atFullSpeed, Sized}
 use Rattle.laws.specs.Parts.{Shared, shared, home, SameIn, Same, rest, Settling, keeps, settles, wakes, settledBy, settle}
 
@@ -67,11 +67,10 @@ in-use none s t x y p = refl
 in-use (some set) s t x y p = ap (λ q. pick q x y) p
 
 pub one-view : (b : Board) (s t : ℕ) → eqb s atFullSpeed ≡ eqb t atFullSpeed → viewFor b s ≡ viewFor b t
-one-view b s t p = ap (λ set. viewOf (record { set = set; serial = b .serial; high = b .high })) (in-use (b .high) s t (b .set) (orEmpty (b .high)) p)
+one-view b s t p = ap (λ set. pairedAs (isSome (b .high)) (viewOf (lent set (b .serial)))) (in-use (b .high) s t (b .set) (orEmpty (b .high)) p)
 
 -- two sets are lent, or one, at every speed
 pub one-board : (b : Board) (s t : ℕ) → viewFor b s .paired ≡ viewFor b t .paired
-unfolding viewOf
 one-board b s t = refl
 
 -- records that anybody cannot tell apart are at one speed, so one set is in use

@@ -10,10 +10,10 @@ use Rattle.octets.specs.Bit.{bit}
 use Rattle.octets.specs.Sentences.{pick, first, isSome}
 use Rattle.descriptors.specs.Configuration.{Configuration, bitOf}
 use Rattle.sets.specs.Opening.{Board}
-use Rattle.sets.specs.View.{View, byValue}
+use Rattle.sets.specs.View.{View}
 use Rattle.records.specs.declared.Device.{Device}
 use Rattle.records.specs.Device.{fresh, awake, settled, Sized}
-use Rattle.records.specs.Current.{viewAt}
+use Rattle.records.specs.Current.{viewAt, selectedIn}
 use Rattle.records.specs.Fits.{fitsOn}
 use Rattle.events.specs.declared.Event.{Event}
 use Rattle.events.specs.declared.Event.the-variants.{Request, Malformed, StatusEnd, BusReset, Halt, PacketPassed, Power, Suspend, Resume, Wake}
@@ -51,7 +51,7 @@ shared d = record { state = d .state; address = d .address; configuration = d .c
 
 -- where bit k is at home: in the selected configuration
 unfoldable pub home : View → Shared → ℕ → ℕ
-home v s k = homeIn (byValue (record { 0 = s .configuration }) (v .configurations)) k
+home v s k = homeIn (selectedIn v (s .state) (s .configuration)) k
 
 -- the shared fields, k's alternate setting, and the halts and toggles of the addresses that k lists
 pub record SameIn (v : View) (k : ℕ) (r s : Device) : Type 0 where

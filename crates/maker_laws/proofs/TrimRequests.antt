@@ -356,6 +356,7 @@ module _ (set serial : List ℕ) where
   left-alike d e = cases (getsDescriptor e) (λ c. describes-leaves v d e c ∙ sym (describes-leaves w d e c)) (λ c. plain-alike set (trimmed set) serial v w same-view d e c .1)
 
   pub fits-again : (d : Device) → fitsOn (lent set serial) d ≡ fitsOn (lent (trimmed set) serial) d
+  unfolding viewOf
   fits-again = fits-alike v w same-view
 
   module _ (small : Bytes set) (ok : accepted (lent set serial) ≡ true) where
@@ -363,7 +364,7 @@ module _ (set serial : List ℕ) where
     accepted-again = eq-eqb (opening fullSpeed (lent (trimmed set) serial)) 0 (opens-again fullSpeed set serial small (eqb-true (opening fullSpeed (lent set serial)) 0 ok))
 
     pub step-alike : (d : Device) (e : Event) → asksDropped set e ≡ false → Alike (step (lent set serial) d e) (step (lent (trimmed set) serial) d e)
-    unfolding step
+    unfolding step viewOf
     step-alike d e h = rw (ok, accepted-again, ← fits-again d) (go (fits v d))
       where
         go : (b : Bool) → Alike (pick b (respond v d e) (refused 8 d)) (pick b (respond w d e) (refused 8 d))

@@ -1,4 +1,4 @@
--- The step before a board could lend two sets: document 01 with L2, L6 and L12. Only what L7 changed stands here, in its old words; `OneSet` says that
+-- The step before a board could lend two sets: document 01 with L2, L6 and L12. Only what L7 changed stands here, in its old words, and opening in `Base`; `OneSet` says that
 -- a board that lends one set has this step still.
 use Prim.Native.Nat.{ℕ, _/_, _%_}
 use mathlib.Core.Bool.{Bool, true, _&&_, _||_}
@@ -6,8 +6,7 @@ use mathlib.Core.List.{List}
 use lib.ListN.{length}
 use lib.Dec.{eqb, leb}
 use Rattle.octets.specs.Sentences.{pick, _⇒_, first}
-use Rattle.descriptors.specs.Limits.{fullSpeed}
-use Rattle.sets.specs.Opening.{Board, opening}
+use Rattle.sets.specs.Opening.{Board}
 use Rattle.sets.specs.View.{View, viewOf, entryByIndex, hasValue, wakes}
 use Rattle.records.specs.declared.Device.{Device}
 use Rattle.records.specs.Device.{inDefault, inAddress, inConfigured, nothing, fresh, awake, settled, withPower, withSuspended, withAddress}
@@ -25,6 +24,7 @@ use Rattle.events.specs.declared.Outcome.{Outcome}
 use Rattle.events.specs.Answer.{done, refused}
 use Rattle.events.specs.Requests.{byRecipient, deviceFeature, interfaceFeature, endpointFeature, setHalt, isEntry, bodyAt, languageFor, locateString, describe, getStatus, clearFeature, setAddress, getConfiguration, setConfiguration, getInterface, setInterface}
 use Rattle.events.specs.Step.{halt, packetPassed, power, wake, Reply, replyOf}
+use Rattle.promises.specs.Base.{opening}
 
 -- ---- fits: byte 7 was zero, and only an address waited
 abbrev pub inRange : Device → Bool
@@ -105,10 +105,10 @@ respond v d Resume = done (awake d)
 respond v d Wake = wake d
 
 unfoldable pub step : Board → Device → Event → Outcome
-step b d e = pick (eqb (opening fullSpeed b) 0) (pick (fits (viewOf b) d) (respond (viewOf b) d e) (refused 8 d)) (refused 7 d)
+step b d e = pick (eqb (opening (b .set) (b .serial)) 0) (pick (fits (viewOf b) d) (respond (viewOf b) d e) (refused 8 d)) (refused 7 d)
 
 -- on images of any length
 unfoldable pub event : Board → List ℕ → Event → Reply
 event b image e =
     pick (eqb (length image) 32) (replyOf (step b (deviceOf image) e))
-    (record { answer = Refused (pick (eqb (opening fullSpeed b) 0) 8 7); image = image })
+    (record { answer = Refused (pick (eqb (opening (b .set) (b .serial)) 0) 8 7); image = image })

@@ -47,6 +47,7 @@ unfolding computed
 bytesS = (octets (S .set) refl, tt)
 
 pub soundS : Sound (S .set) (viewOf S)
+unfolding viewOf
 soundS = sound S bytesS acceptedS 0
 
 pub acceptedT : accepted T ≡ true

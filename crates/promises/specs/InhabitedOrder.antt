@@ -12,13 +12,13 @@ use Rattle.octets.specs.Sentences.{every, only}
 use Rattle.octets.proofs.Sentences.{both}
 use Rattle.sets.specs.Opening.{Board}
 use Rattle.records.specs.declared.Device.{Device}
-use Rattle.records.specs.Device.{zeros, withWakeup, withEndpoints}
+use Rattle.records.specs.Device.{zeros, withEndpoints}
 use Rattle.records.specs.Fits.{fitsOn}
 use Rattle.records.specs.Image.{deviceOf}
 use Rattle.events.specs.declared.Answer.{Answer}
 use Rattle.events.specs.declared.Answer.the-variants.{Done, TwoBytes, Refused}
 use Rattle.events.specs.declared.Event.{Event}
-use Rattle.events.specs.declared.Event.the-variants.{Halt, PacketPassed, StatusEnd, Suspend, Wake}
+use Rattle.events.specs.declared.Event.the-variants.{Halt, PacketPassed, StatusEnd}
 use Rattle.events.specs.Concerns.{concernsOn}
 use Rattle.events.specs.Step.{setupEvent}
 use Rattle.order.specs.Run.{log}
@@ -192,12 +192,3 @@ quietThroughout = (λ p. (refl, λ q. refl), (λ p. (refl, λ q. refl), (λ p. (
 pub unnoticedByOne : left (answerAt T) (nextOf T) (struckFor T 1) configured whole
     ≡ log (answerAt T) (nextOf T) configured (strike (nextOf T) (struckFor T 1) configured whole)
 unnoticedByOne = unnoticed T bytesT acceptedT configured configuredSized configuredFitsT 1 whole quietThroughout .0
-
--- asleep it does: interface 0's packet ends the sleep, so that the wake which is left is refused in the whole run alone
-abbrev asleep : List Event
-asleep = Suspend ∷ PacketPassed 0x81 ∷ Wake ∷ []
-
-pub noticedAsleep : (left (answerOf T) (nextOf T) (struckFor T 1) (withWakeup 1 configured) asleep ≡ (Suspend, Done) ∷ (Wake, Refused 19) ∷ [])
-    × (log (answerOf T) (nextOf T) (withWakeup 1 configured) (strike (nextOf T) (struckFor T 1) (withWakeup 1 configured) asleep) ≡ (Suspend, Done) ∷ (Wake, Done) ∷ [])
-unfolding computed
-noticedAsleep = (refl, refl)

@@ -3,7 +3,6 @@
 use Prim.Native.Nat.{ℕ}
 use mathlib.Core.Path.{_≡_, refl, sym, _∙_}
 use mathlib.Core.List.{List, [], _∷_}
-use mathlib.Core.Option.{Option, some, none}
 use mathlib.Core.Bool.{true, false, _&&_, false≢true, and-true}
 use lib.ListN.{length}
 use lib.Dec.{eqb, leb}
@@ -22,11 +21,13 @@ use Rattle.descriptors.proofs.SuperSpeed as superspeed
 use Rattle.sets.specs.Device.{bDeviceClass, bDeviceSubClass, bMaxPacketSize0, bNumConfigurations, deviceBody}
 use Rattle.sets.specs.Opening.{Board, lent, lentTwo, oneDevice, goodDevices, opening}
 use Rattle.sets.specs.Pieces.{Piece, piecesIn, piecesOf}
-use Rattle.sets.specs.View.{openingBy, openingOf, accepted}
+use Rattle.sets.specs.View.{openingOf, accepted}
 use Rattle.sets.proofs.Groups.{groups, one-device}
 use Rattle.sets.proofs.Pair.{opened}
+use Rattle.records.specs.declared.Device.{Device}
 use Rattle.events.specs.declared.Answer.the-variants.{Refused}
 use Rattle.events.specs.declared.Event.{Event}
+use Rattle.events.specs.Answer.{refused}
 use Rattle.events.specs.Step.{step, event}
 use Rattle.promises.specs.Replies.{goodDeviceOf}
 
@@ -76,24 +77,24 @@ nine-not-64 size p q =
     false≢true (sym (highspeed.control-64 size ∙ rw nine) ∙ q)
 
 -- ---- "Events refuse this kind with 7": lent alone, or as either set of two
-unopened : (b : Board) → (openingOf b ≡ 0 → ⊥) → (image : List ℕ) (e : Event) → event b image e .answer ≡ Refused 7
-unfolding event step
-unopened b p image e =
-    let no : accepted b ≡ false = ne-eqb (openingOf b) 0 p in
-    cases (eqb (length image) 32) (λ l. rw (l, no)) (λ l. rw (l, no))
+pub data Lends (set serial : List ℕ) : Board → Type 0 where
+  alone : Lends set serial (lent set serial)
+  asFull : (high : List ℕ) → Lends set serial (lentTwo set high serial)
+  asHigh : (full : List ℕ) → Lends set serial (lentTwo full set serial)
 
-closed : (b : Board) → opening superSpeed b ≡ 0 → (h : Option (List ℕ)) → openingBy h b ≡ 0 → ⊥
-unfolding opening
-closed b p none q = notSuperSpeed b p q
-closed b p (some high) q = notTwoKinds superSpeed pairedFull nine-alone (lent (b .set) (b .serial)) p (opened (b .set) high (b .serial) q .slow)
+module _ {set serial : List ℕ} (p : opening superSpeed (lent set serial) ≡ 0) where
+  -- a board with such a set does not open
+  pub notOpened : {b : Board} → Lends set serial b → openingOf b ≡ 0 → ⊥
+  notOpened alone q = notSuperSpeed (lent set serial) p q
+  notOpened (asFull high) q = notTwoKinds superSpeed pairedFull nine-alone (lent set serial) p (opened set high serial q .slow)
+  notOpened (asHigh full) q = notTwoKinds superSpeed highSpeed nine-not-64 (lent set serial) p (opened full set serial q .fast)
 
--- a board with such a set does not open
-pub notOpened : (b : Board) → opening superSpeed b ≡ 0 → openingOf b ≡ 0 → ⊥
-notOpened b p = closed b p (b .high)
+  pub refusedSteps : {b : Board} → Lends set serial b → (d : Device) (e : Event) → step b d e ≡ refused 7 d
+  unfolding step
+  refusedSteps {b} l d e = rw (ne-eqb (openingOf b) 0 (notOpened l))
 
-pub refusedEvents : (b : Board) → opening superSpeed b ≡ 0 → (image : List ℕ) (e : Event) → event b image e .answer ≡ Refused 7
-refusedEvents b p image e = unopened b (notOpened b p) image e
-
-pub refusedHigh : (full high serial : List ℕ) → opening superSpeed (lent high serial) ≡ 0 → (image : List ℕ) (e : Event) → event (lentTwo full high serial) image e .answer ≡ Refused 7
-refusedHigh full high serial p image e =
-    unopened (lentTwo full high serial) (λ q. notTwoKinds superSpeed highSpeed nine-not-64 (lent high serial) p (opened full high serial q .fast)) image e
+  pub refusedEvents : {b : Board} → Lends set serial b → (image : List ℕ) (e : Event) → event b image e .answer ≡ Refused 7
+  unfolding event step
+  refusedEvents {b} l image e =
+      let no : accepted b ≡ false = ne-eqb (openingOf b) 0 (notOpened l) in
+      cases (eqb (length image) 32) (λ m. rw (m, no)) (λ m. rw (m, no))

@@ -1,5 +1,5 @@
--- "A board that lends one set keeps every old answer" (L7): over one set the step is the step from before, byte for byte, for every set, serial block,
--- record and event. No axiom.
+-- "A board that lends one set keeps every old answer" (L7): over one set opening is document 01's, and the step is the step from before, byte for byte, for every
+-- set, serial block, record, image and event. No axiom.
 use Prim.Native.Nat.{ℕ, _/_, _%_, _≤_, _<_}
 use native.Mathlib.Omega.{arith}
 use mathlib.Core.Path.{_≡_, refl, sym, ap, _∙_}
@@ -10,19 +10,27 @@ use mathlib.Core.Bool.{Bool, true, false, _&&_, _||_, not, false≢true}
 use lib.ListN.{length}
 use lib.Dec.{eqb, leb}
 use borrow.Author.Tests.{eqb-true, eq-eqb, eqb-false, leb-true, le-leb, lt-leb}
-use Rattle.octets.specs.Sentences.{pick, _⇒_, every, first, neighbours}
-use Rattle.octets.proofs.Sentences.{cases, never, both, joined, either, or-left, or-right, conjunct, same-test, every-member, none-first}
+use Rattle.octets.specs.Sentences.{pick, _⇒_, every, first, member, neighbours, pairs}
+use Rattle.octets.proofs.Sentences.{cases, never, both, joined, either, or-left, or-right, conjunct, same-test, every-member, every-alike, none-first}
 use Rattle.descriptors.specs.Limits.{fullSpeed, named}
+use Rattle.descriptors.specs.Cut.{cut, descriptorsOf, wellCut}
+use Rattle.descriptors.specs.Descriptor.{bDescriptorType, isInterface, isEndpoint, bEndpointAddress, bmAttributes, wMaxPacketSize, bInterval, transferType, goodAddress, goodAttributes, interruptSize, isochronousSize, goodSize, goodInterval, endpointLongEnough, goodEndpoint, interfaceLongEnough, goodDescriptor}
+use Rattle.descriptors.specs.Interfaces.{grouped, goodInterfaces}
+use Rattle.descriptors.specs.Configuration.{bNumInterfaces, goodHead, goodDescriptors, goodConfiguration}
+use Rattle.descriptors.proofs.FullSpeed as row
 use Rattle.sets.specs.declared.Entry.{Entry}
-use Rattle.sets.specs.Contents.{entries, before, endToEnd, bodiesAt, total, goodContents}
-use Rattle.sets.specs.Opening.{lent, opening}
+use Rattle.sets.specs.Contents.{entries, kindAllowed, before, bodyLongEnough, endToEnd, bodiesAt, total, goodFrame, goodContents}
+use Rattle.sets.specs.Pieces.{Piece, piecesIn, piecesOf, bodiesOf, isOne, hasIndex, hasNoLanguage, sole}
+use Rattle.sets.specs.Device.{bMaxPacketSize0, has18Bytes, says18Bytes, isDevice, subclassWithClass, countsConfiguration, atMost8Configurations, countIsEntries, goodDevice}
+use Rattle.sets.specs.Strings.{goodStrings}
+use Rattle.sets.specs.Opening.{lent, goodDevices, numberedFrom, valueNonzero, distinctValues, goodConfigurations, goodBlock, opening}
 use Rattle.sets.specs.View.{View, viewOf, accepted, hasValue, wakes}
 use Rattle.sets.proofs.Groups.{groups}
 use Rattle.records.specs.declared.Device.{Device}
-use Rattle.records.specs.Device.{inDefault, inAddress, inConfigured, nothing, testWaiting, testWaits, inTestMode, afterReset, settled}
+use Rattle.records.specs.Device.{inDefault, inAddress, inConfigured, nothing, testWaiting, testWaits, inTestMode, afterReset, settled, fresh}
 use Rattle.records.specs.Current.{selected, currentEndpoints}
 use Rattle.records.specs.Fits.{inRange, goodWaiting, goodState, goodAlternates, standsAt, fits}
-use Rattle.records.specs.Image.{deviceOf}
+use Rattle.records.specs.Image.{deviceOf, imageOf}
 use Rattle.requests.specs.declared.Setup.{Setup}
 use Rattle.events.specs.declared.Event.{Event}
 use Rattle.events.specs.declared.Event.the-variants.{Request, Malformed, StatusEnd, BusReset, Halt, PacketPassed, Power, Suspend, Resume, Wake}
@@ -31,7 +39,9 @@ use Rattle.events.specs.declared.facts.Located.the-variants.{Nowhere}
 use Rattle.events.specs.declared.Outcome.{Outcome}
 use Rattle.events.specs.Answer.{done, refused}
 use Rattle.events.specs.Requests.{isEntry, bodyAt, byIndex, locate, describe, setFeature, getDescriptor}
-use Rattle.events.specs.Step.{request, answerSetup, statusEnd, respond, step, event}
+use Rattle.events.specs.Step.{request, answerSetup, statusEnd, respond, step, event, opened}
+use Rattle.promises.specs.Kinds.{keepsConfigurations, keepsDevices}
+use Rattle.promises.specs.Base as base
 use Rattle.promises.specs.Before as before
 
 -- ---- words of tests
@@ -42,6 +52,66 @@ or-none false = refl
 same-pick : {A : Type 0} (t : Bool) {x y z w : A} → (t ≡ true → x ≡ w) → (t ≡ false → y ≡ z) → pick t x y ≡ pick t w z
 same-pick true f g = f refl
 same-pick false f g = g refl
+
+-- ---- opening: full speed's row says document 01's numbers
+kinds-same : (e : Entry) → kindAllowed fullSpeed e ≡ base.kindAllowed e
+kinds-same e = row.entry-types (e .kind)
+
+contents-same : (set : List ℕ) → goodContents fullSpeed set ≡ base.goodContents set
+unfolding goodContents
+contents-same set = ap (λ t. t && neighbours before (entries set) && every bodyLongEnough (entries set) && endToEnd (bodiesAt set) (total set) (entries set))
+    (every-alike (kindAllowed fullSpeed) base.kindAllowed (entries set) (λ e m. kinds-same e))
+
+device-same : (n : ℕ) (d : List ℕ) → goodDevice fullSpeed n d ≡ base.goodDevice n d
+device-same n d = ap (λ t. has18Bytes d && says18Bytes d && isDevice d && t && subclassWithClass d && countsConfiguration d && atMost8Configurations d && countIsEntries n d)
+    (row.control-sizes (bMaxPacketSize0 d))
+
+sole-same : (f g : List ℕ → Bool) → ((x : List ℕ) → f x ≡ g x) → (ps : List Piece) → sole f ps ≡ sole g ps
+sole-same f g h [] = refl
+sole-same f g h (p ∷ ps) = ap (λ t. isOne (p ∷ ps) && hasIndex 0 p && hasNoLanguage p && t) (h (p .body))
+
+devices-same : (ps : List Piece) → goodDevices fullSpeed ps ≡ base.goodDevices ps
+devices-same ps = keepsDevices fullSpeed refl ps ∙ sole-same (goodDevice fullSpeed (length (piecesOf 2 ps))) (base.goodDevice (length (piecesOf 2 ps))) (device-same (length (piecesOf 2 ps))) (piecesOf 1 ps)
+
+size-same : (transfer size : ℕ) → goodSize fullSpeed transfer size ≡ base.goodSize transfer size
+size-same transfer size =
+    ap (λ t. (eqb transfer 2 ⇒ t) && interruptSize fullSpeed transfer size && isochronousSize fullSpeed transfer size) (row.control-sizes size)
+    ∙ ap (λ t. (eqb transfer 2 ⇒ base.eightTo64 size) && (eqb transfer 3 ⇒ t) && isochronousSize fullSpeed transfer size) (row.up-to 64 size (omega arith))
+    ∙ ap (λ t. (eqb transfer 2 ⇒ base.eightTo64 size) && (eqb transfer 3 ⇒ leb size 64) && (eqb transfer 1 ⇒ t)) (row.up-to 1023 size (omega arith))
+
+descriptor-same : (d : List ℕ) → goodDescriptor fullSpeed d ≡ base.goodDescriptor d
+descriptor-same d =
+    ap (λ t. not t && (isInterface d ⇒ interfaceLongEnough d) && (isEndpoint d ⇒ goodEndpoint fullSpeed d)) (row.refused-types (bDescriptorType d))
+    ∙ ap (λ t. not (member (bDescriptorType d) (1 ∷ 2 ∷ 3 ∷ 6 ∷ 7 ∷ [])) && (isInterface d ⇒ interfaceLongEnough d)
+    && (isEndpoint d ⇒ (endpointLongEnough d && goodAddress (bEndpointAddress d) && goodAttributes (bmAttributes d) && t && goodInterval fullSpeed (transferType (bmAttributes d)) (bInterval d))))
+    (size-same (transferType (bmAttributes d)) (wMaxPacketSize d))
+
+body-same : (body : List ℕ) → goodConfiguration fullSpeed body ≡ base.goodConfiguration body
+unfolding goodConfiguration goodDescriptors
+body-same body = ap (λ t. wellCut (cut body) && t) (go (descriptorsOf (cut body)))
+  where
+    go : (ds : List (List ℕ)) → goodDescriptors fullSpeed (length body) ds ≡ base.goodDescriptors (length body) ds
+    go [] = refl
+    go (d ∷ ds) = keepsConfigurations fullSpeed refl (length body) d ds
+        ∙ ap (λ t. goodHead (length body) d && t && goodInterfaces (bNumInterfaces d) (grouped ds)) (every-alike (goodDescriptor fullSpeed) base.goodDescriptor ds (λ x m. descriptor-same x))
+
+configurations-same : (ps : List Piece) → goodConfigurations fullSpeed ps ≡ base.goodConfigurations ps
+unfolding goodConfigurations
+configurations-same ps = ap (λ t. numberedFrom 0 (piecesOf 2 ps) && t && every valueNonzero (bodiesOf 2 ps) && pairs distinctValues (bodiesOf 2 ps))
+    (every-alike (goodConfiguration fullSpeed) base.goodConfiguration (bodiesOf 2 ps) (λ x m. body-same x))
+
+-- "A board that lends one set keeps every old answer" (L7), "Older kinds keep every answer" (L13): opening too
+pub openingSame : (set serial : List ℕ) → opening fullSpeed (lent set serial) ≡ base.opening set serial
+unfolding opening base.opening
+openingSame set serial =
+    let ps = piecesIn set in
+    ap (λ t. pick (not (goodFrame set)) 1 (pick (not t) 2 (pick (not (goodDevices fullSpeed ps)) 3 (pick (not (goodConfigurations fullSpeed ps)) 4 (pick (not (goodStrings ps)) 5 (pick (not (goodBlock ps serial)) 6 0)))))) (contents-same set)
+    ∙ ap (λ t. pick (not (goodFrame set)) 1 (pick (not (base.goodContents set)) 2 (pick (not t) 3 (pick (not (goodConfigurations fullSpeed ps)) 4 (pick (not (goodStrings ps)) 5 (pick (not (goodBlock ps serial)) 6 0)))))) (devices-same ps)
+    ∙ ap (λ t. pick (not (goodFrame set)) 1 (pick (not (base.goodContents set)) 2 (pick (not (base.goodDevices ps)) 3 (pick (not t) 4 (pick (not (goodStrings ps)) 5 (pick (not (goodBlock ps serial)) 6 0)))))) (configurations-same ps)
+
+pub openedSame : (set serial image : List ℕ) → opened (lent set serial) image ≡ base.opened set serial image
+unfolding opened base.opened
+openedSame set serial image = ap (λ n. pick (eqb (length image) 32) (record { number = n; image = imageOf fresh }) (record { number = 8; image = image })) (openingSame set serial)
 
 -- ---- what fits where one set is lent: byte 7 is 0, and no test mode waits
 module _ (d : Device) where
@@ -170,11 +240,7 @@ module _ (set serial : List ℕ) where
 
       end-same : statusEnd d ≡ before.statusEnd d
       unfolding statusEnd
-      end-same = same-pick (eqb (d .waiting) nothing) (λ t. refl) (λ n. rw (lt-leb (testWaiting 0) (d .waiting) (low n (either (leb (d .waiting) 127) (eqb (d .waiting) nothing) (was-waiting d f)))))
-        where
-          low : eqb (d .waiting) nothing ≡ false → (leb (d .waiting) 127 ≡ true) ⊎ (eqb (d .waiting) nothing ≡ true) → d .waiting < 128
-          low n (inl q) = let l = leb-true (d .waiting) 127 q in omega arith
-          low n (inr q) = absurd (never q n)
+      end-same = same-pick (eqb (d .waiting) nothing) (λ t. refl) (λ n. rw (low-waits d (was-waiting d f)))
 
       reset-same : (speed : ℕ) → eqb speed 0 ≡ true → respond v d (BusReset speed) ≡ before.respond v d (BusReset speed)
       reset-same speed p =
@@ -195,10 +261,10 @@ module _ (set serial : List ℕ) where
 
   -- ---- the step over one set is the step from before
   pub oneSet : (d : Device) (e : Event) → before.known e ≡ true → step (lent set serial) d e ≡ before.step (lent set serial) d e
-  unfolding step before.step
-  oneSet d e k = cases (accepted (lent set serial))
+  unfolding step before.step viewOf
+  oneSet d e k = rw (← openingSame set serial) (cases (accepted (lent set serial))
       (λ ok. rw (ok, fitsSame d) (cases (before.fits v d) (λ f. rw f (respond-same ok d f e k)) (λ f. rw f)))
-      (λ no. rw no)
+      (λ no. rw no))
 
   -- and a reset to another speed is refused, where the record fits
   pub otherSpeed : (d : Device) (speed : ℕ) → eqb speed 0 ≡ false → accepted (lent set serial) ≡ true → before.fits v d ≡ true
@@ -209,4 +275,4 @@ module _ (set serial : List ℕ) where
   -- ---- on images of any length
   pub oneSetImage : (image : List ℕ) (e : Event) → before.known e ≡ true → event (lent set serial) image e ≡ before.event (lent set serial) image e
   unfolding event before.event
-  oneSetImage image e k = cases (eqb (length image) 32) (λ p. rw (p, oneSet (deviceOf image) e k)) (λ p. rw p)
+  oneSetImage image e k = cases (eqb (length image) 32) (λ p. rw (p, oneSet (deviceOf image) e k)) (λ p. rw (p, ← openingSame set serial))

@@ -119,7 +119,7 @@ left-from reply w p k (suc n) h e =
     let here : packet (length reply) w p k ≡ record { number = 0; offset = k * p; length = min p (length reply - k * p) } = below-count (length reply) w p k h (omega arith) in
     rw (here, ← length-drop (k * p) reply, least p (drop (k * p) reply), i, ← q, ← drop-drop p (k * p) reply) (take-append-drop p (drop (k * p) reply))
 
--- "a reply's packets put together in order are the reply"
+-- a reply's packets put together in order are the reply
 pub whole-reply : (reply : List ℕ) (w p : ℕ) → canCut (length reply) w p ≡ true → joined reply (packets (length reply) w p) ≡ reply
 whole-reply reply w p h = left-from reply w p 0 (count (length reply) w p) h (omega arith) ∙ rw (zero-mul p)
 

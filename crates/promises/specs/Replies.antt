@@ -36,10 +36,11 @@ use Rattle.events.specs.declared.facts.Located.the-variants.{Body, Serial, Nowh
 use Rattle.events.specs.declared.Outcome.{Outcome}
 use Rattle.events.specs.Answer.{numberOf, bytesOf, partOf, refused}
 use Rattle.events.specs.Requests.{byRecipient, isEndpointZero, deviceFeature, namesTestMode, testSelector, setDeviceFeature, interfaceFeature, endpointFeature, endpointStatus, haltFeature, clearHalt, setHalt, locate, describe, getStatus, clearFeature, setFeature, setAddress, getDescriptor, getConfiguration, setConfiguration, getInterface, setInterface}
-use Rattle.events.specs.Step.{request, stateFor, withIndex, setupFor, refusalFor, answerSetup, step, event, setupEvent}
+use Rattle.events.specs.Step.{request, refusalFor, answerSetup, step, event, setupEvent}
 use Rattle.packets.specs.Packets.{canCut}
 use Rattle.sets.proofs.Groups.{groups, one-device}
 use Rattle.sets.proofs.Pieces.{sole-good}
+use Rattle.laws.proofs.Recipients.{table-judges}
 use Rattle.laws.proofs.Outcomes.{ruled, chosen}
 use Rattle.promises.specs.Refusals.{eventNumber}
 
@@ -104,18 +105,18 @@ module _ (v : View) (d : Device) (s : Setup) where
   configuration = chosen Fine (eqb (s .wValue) 0) (λ e. omega arith)
       (λ e. chosen Fine (any (λ c. eqb (c .value) (s .wValue)) (v .configurations)) (λ e. omega arith) (λ e. no 13))
 
-  within : (state index : ℕ) → refusal state (withIndex index s) ≡ 0 → Fine (request v d s)
+  within : (paired : Bool) (r : Device) → refusalFor paired r s ≡ 0 → Fine (request v d s)
   unfolding every request clearFeature setFeature setAddress getConfiguration getInterface setInterface
-  within state index p =
-      chosen Fine (eqb (s .bRequest) 0x00) (λ e. status (asked 0 2 refl state (withIndex index s) p (eqb-true (s .bRequest) 0 e)))
+  within paired r p =
+      chosen Fine (eqb (s .bRequest) 0x00) (λ e. let c = eqb-true (s .bRequest) 0 e in status (asked 0 2 refl (r .state) s (table-judges paired r s c refl p) c))
       (λ e. chosen Fine (eqb (s .bRequest) 0x01) (λ e. feature clearHalt (deviceFeature 0 v d s) (of-device 0))
       (λ e. chosen Fine (eqb (s .bRequest) 0x03) (λ e. feature setHalt (setDeviceFeature v d s) test-mode)
       (λ e. chosen Fine (eqb (s .bRequest) 0x05) (λ e. omega arith)
       (λ e. chosen Fine (eqb (s .bRequest) 0x06) (λ e. descriptor)
-      (λ e. chosen Fine (eqb (s .bRequest) 0x08) (λ e. let l = asked 8 1 refl state (withIndex index s) p (eqb-true (s .bRequest) 8 e) in omega arith)
+      (λ e. chosen Fine (eqb (s .bRequest) 0x08) (λ e. let c = eqb-true (s .bRequest) 8 e in let l = asked 8 1 refl (r .state) s (table-judges paired r s c refl p) c in omega arith)
       (λ e. chosen Fine (eqb (s .bRequest) 0x09) (λ e. configuration)
       (λ e. chosen Fine (eqb (s .bRequest) 0x0A)
-      (λ e. chosen Fine (hasInterface (selected v d) (s .wIndex)) (λ f. let l = asked 10 1 refl state (withIndex index s) p (eqb-true (s .bRequest) 10 e) in omega arith) (λ f. no 13))
+      (λ e. chosen Fine (hasInterface (selected v d) (s .wIndex)) (λ f. let c = eqb-true (s .bRequest) 10 e in let l = asked 10 1 refl (r .state) s (table-judges paired r s c refl p) c in omega arith) (λ f. no 13))
       (λ e. chosen Fine (hasSetting (selected v d) (s .wIndex) (s .wValue)) (λ e. omega arith) (λ e. no 13)))))))))
 
 -- every answer to a setup, on every board and record
@@ -125,7 +126,7 @@ replyWithin b d s = chosen (Within (s .wLength)) (accepted b)
     (λ p. chosen (Within (s .wLength)) (fitsOn b d)
     (λ q. chosen (Within (s .wLength)) (inTestMode d) (λ t. omega arith)
     (λ t. let two = viewAt b d .paired in chosen (Within (s .wLength)) (eqb (refusalFor two d s) 0)
-    (λ r. within (viewAt b d) (settled d) s (stateFor two d s) (setupFor two s .wIndex) (eqb-true _ 0 r)) (λ r. omega arith)))
+    (λ r. within (viewAt b d) (settled d) s two d (eqb-true _ 0 r)) (λ r. omega arith)))
     (λ q. omega arith))
     (λ p. omega arith)
 

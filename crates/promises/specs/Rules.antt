@@ -165,7 +165,7 @@ endpointRules =
     -- "address bits 6–4 zero, number 1–15"
     S-endpoint (endpoint 0x0F 3 8 10) opens 0 ∷ S-endpoint (endpoint 0x8F 3 8 10) opens 0 ∷ S-endpoint (endpoint 0x80 3 8 10) opens 4 ∷ S-endpoint (endpoint 0x00 3 8 10) opens 4 ∷
     S-endpoint (endpoint 0x91 3 8 10) opens 4 ∷ S-endpoint (endpoint 0xC1 3 8 10) opens 4 ∷
-    -- "Attributes bits 7–6 zero; transfer type 1, 2 or 3; bits 5–2 zero unless isochronous."
+    -- "Attributes bits 7–6 zero; transfer type 1 .., 2 .. or 3 ..; bits 5–2 zero unless isochronous."
     S-endpoint (endpoint 0x81 0x43 8 10) opens 4 ∷ S-endpoint (endpoint 0x81 0x81 8 10) opens 4 ∷ S-endpoint (endpoint 0x81 0 8 10) opens 4 ∷
     S-endpoint (endpoint 0x81 0x07 8 10) opens 4 ∷ S-endpoint (endpoint 0x81 0x22 8 10) opens 4 ∷ S-endpoint (endpoint 0x81 0x3D 8 10) opens 0 ∷
     -- "wMaxPacketSize: bulk 8, 16, 32 or 64; interrupt 0–64; isochronous 0–1,023"

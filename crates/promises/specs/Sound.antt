@@ -13,4 +13,5 @@ use Rattle.records.proofs.InUse.{rowFor, opensFor, bytesFor}
 
 pub sound : (b : Board) → BytesOf b → accepted b ≡ true → (speed : ℕ) → Sound (setFor b speed) (viewFor b speed)
 sound b bytes ok speed =
-    Acceptance.sound (rowFor (b .high) speed) (boardFor b speed) (bytesFor b speed bytes) (opensFor b speed (eqb-true (openingOf b) 0 ok))
+    let s = Acceptance.sound (rowFor (b .high) speed) (boardFor b speed) (bytesFor b speed bytes) (opensFor b speed (eqb-true (openingOf b) 0 ok)) in
+    record { configurations = s .configurations; values = s .values; entries = s .entries }

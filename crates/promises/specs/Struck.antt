@@ -32,11 +32,11 @@ use Rattle.events.specs.declared.facts.Located.the-variants.{Body, Serial, Nowh
 use Rattle.events.specs.declared.Outcome.{Outcome}
 use Rattle.events.specs.Answer.{numberOf, gives, done, refused}
 use Rattle.events.specs.Requests.{byRecipient, isEndpointZero, deviceFeature, namesTestMode, testSelector, setTestMode, interfaceFeature, endpointFeature, endpointStatus, haltFeature, clearHalt, setHalt, locate, describe, getStatus, clearFeature, setFeature, setAddress, getDescriptor, getConfiguration, setConfiguration, getInterface, setInterface}
-use Rattle.events.specs.Step.{request, asksTestMode, stateFor, setupFor, refusalFor, answerSetup, statusEnd, goodReset, haltAt, halt, passAt, packetPassed, respond, step}
+use Rattle.events.specs.Step.{request, asksTestMode, refusalFor, answerSetup, statusEnd, goodReset, haltAt, halt, passAt, packetPassed, respond, step}
 use Rattle.order.specs.Strike.{FairRun}
 use Rattle.laws.specs.Parts.{Good, drops}
 use Rattle.laws.proofs.Outcomes.{chosen}
-use Rattle.laws.proofs.Recipients.{let-through}
+use Rattle.laws.proofs.Recipients.{let-through, test-code}
 use Rattle.promises.specs.Keeps.{freshFit, stepFits}
 use Rattle.promises.specs.Rearranged.{answerOf, nextOf}
 use Rattle.promises.specs.Order.{struckFor, Quiet, Unnoticed, unnoticed}
@@ -160,16 +160,18 @@ module _ (v : View) (d : Device) (s : Setup) (w : testWaits d ≡ false) where
 ofRow : (paired : Bool) (d : Device) (s : Setup) → refusalFor paired d s ≡ 0
     → (eqb (s .bRequest) 0x03 ≡ true → eqb (recipient s) 0 ≡ true → eqb (s .bmRequestType) 0 ≡ true) × (eqb (s .bRequest) 0x05 ≡ true → s .wValue ≤ 127)
 unfolding every
-ofRow paired d s p =
-    let (r, m, k, c, i, h) = let-through (stateFor paired d s) (setupFor paired s) p in
+ofRow paired d s p = cases (asksTestMode paired s)
+    (λ t. let (k, c) = test-code paired s t in (λ three zero. eq-eqb _ 0 k, λ five. never five (ap (λ x. eqb x 0x05) c)))
+    (λ t.
+    let (r, m, k, c, i, h) = let-through (d .state) s (rw t at p) in
     let device = every-member (λ r. (eqb (r .code) 3 && eqb (r .kind % 32) 0) ⇒ eqb (r .kind) 0) refl m in
     let address = every-member (λ r. eqb (r .code) 5 ⇒ leb (r .value) 127) refl m in (
       λ three zero. rw k at (if-then _ _ device (joined (ap (λ x. eqb x 3) c ∙ three) (ap (λ x. eqb (x % 32) 0) k ∙ zero))),
       λ five.
           let l = leb-true (r .value) 127 (if-then _ _ address (ap (λ x. eqb x 5) c ∙ five)) in
-          let n = leb-true (s .wValue) (r .value) (conjunct 0 (leb (s .wValue) (r .value) ∷ leb (setupFor paired s .wIndex) (largestIndex r (s .wValue)) ∷ leb (r .shortest) (s .wLength) ∷ leb (s .wLength) (r .longest) ∷ []) h) in
+          let n = leb-true (s .wValue) (r .value) (conjunct 0 (leb (s .wValue) (r .value) ∷ leb (s .wIndex) (largestIndex r (s .wValue)) ∷ leb (r .shortest) (s .wLength) ∷ leb (s .wLength) (r .longest) ∷ []) h) in
           omega arith,
-    )
+    ))
 
 by-setup : (v : View) (d : Device) (s : Setup) → testWaits (answerSetup v d s .device) ≡ true → (asksTestMode (v .paired) s ≡ true) × (numberOf (answerSetup v d s .answer) ≡ 0)
 unfolding answerSetup
@@ -188,7 +190,7 @@ waited v d (Request s) = λ t. let (a, z) = by-setup v d s t in (refl, inr (join
 waited v d Malformed = λ t. (refl, inl t)
 waited v d StatusEnd = chosen (Waited v d StatusEnd) (eqb (d .waiting) nothing)
     (λ e t. absurd (let l = leb-true (d .waiting) 133 (both (leb 129 (d .waiting)) (leb (d .waiting) 133) t .1) in let n = eqb-true (d .waiting) nothing e in omega arith))
-    (λ e. chosen (Waited v d StatusEnd) (leb (testWaiting 0) (d .waiting)) (λ p t. absurd (false≢true t)) (λ p t. absurd (false≢true t)))
+    (λ e. chosen (Waited v d StatusEnd) (testWaits d) (λ p t. absurd (false≢true t)) (λ p t. absurd (false≢true t)))
 waited v d (BusReset speed) = chosen (Waited v d (BusReset speed)) (goodReset (v .paired) speed)
     (λ g. chosen (λ x. Waited v d (BusReset speed) (done x)) (inTestMode d) (λ p t. (refl, inl t)) (λ p t. absurd (false≢true t)))
     (λ g t. (refl, inl t))

@@ -13,7 +13,7 @@ use Rattle.sets.specs.Pieces.{Piece}
 use Rattle.promises.specs.Examples.{computed, piece, board, configuration, interface, endpoint, device, S}
 use Rattle.promises.specs.Rules.{Example, _opens_}
 use Rattle.promises.specs.Refusal.{freshImage}
-use Rattle.promises.specs.Kinds.{refusedEvents}
+use Rattle.promises.specs.Kinds.{alone, refusedEvents}
 
 abbrev companion : List ℕ
 companion = 6 ∷ 48 ∷ 0 ∷ 0 ∷ 0 ∷ 0 ∷ []
@@ -109,7 +109,7 @@ unfolding computed
 acceptedS3 = refl
 
 pub refusedS3 : event S3 freshImage (BusReset 0) .answer ≡ Refused 7
-refusedS3 = refusedEvents S3 acceptedS3 freshImage (BusReset 0)
+refusedS3 = refusedEvents acceptedS3 alone freshImage (BusReset 0)
 
 pub lists : listing superSpeed S3 ≡ line acceptedWord (1 ∷ []) ++ line (67 ∷ []) (1 ∷ 1 ∷ []) ++ line (73 ∷ []) (0 ∷ 0 ∷ 1 ∷ []) ++ line (69 ∷ []) (129 ∷ 3 ∷ 8 ∷ [])
 unfolding computed

@@ -72,10 +72,8 @@ module _ (b : Board) (ok : accepted b ≡ true) (d : Device) (fit : fitsOn b d �
   pub entersAtEnd : testWaits d ≡ true → step b d StatusEnd ≡ done (enterTestMode d)
   unfolding statusEnd
   entersAtEnd t =
-      let (l, h) = both (leb 129 (d .waiting)) (leb (d .waiting) 133) t in
-      let m = leb-true 129 (d .waiting) l in
-      let n = leb-true (d .waiting) 133 h in
-      steps StatusEnd ∙ (rw (ne-eqb (d .waiting) nothing (λ p. omega arith), le-leb (testWaiting 0) (d .waiting) (omega arith)))
+      let n = leb-true (d .waiting) 133 (both (leb 129 (d .waiting)) (leb (d .waiting) 133) t .1) in
+      steps StatusEnd ∙ (rw (ne-eqb (d .waiting) nothing (λ p. omega arith), t))
 
   -- ---- entered
   module _ (t : inTestMode d ≡ true) where

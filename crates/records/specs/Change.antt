@@ -1,10 +1,12 @@
--- Working definitions: a record after an event, by what the event changes of it; no promise cites them.
+-- Working definitions: a record after an event, by what the event changes of it, and what a record fits by; no promise cites them.
 use Prim.Native.Nat.{ℕ}
 use mathlib.Core.Bool.{Bool, true, false}
 use mathlib.Core.List.{List}
 use lib.ListN.{length, set}
 use lib.Dec.{eqb, ltb}
 use Rattle.octets.specs.Sentences.{pick}
+use Rattle.descriptors.specs.Configuration.{Configuration as Described}
+use Rattle.sets.specs.View.{View, byValue}
 use Rattle.records.specs.declared.Device.{Device}
 use Rattle.records.specs.declared.Change.{Change}
 use Rattle.records.specs.declared.Change.the-variants.{Kept, Waiting, Wakeup, Power, Suspended, Address, Configuration, Setting, Endpoints, Passed, Fresh, TestMode}
@@ -55,6 +57,10 @@ waitsAfter (TestMode speed) = nothing
 abbrev pub settledWith : Bool → ℕ → Device → Device
 settledWith true waits d = awake (withWaiting waits d)
 settledWith false waits d = d
+
+-- the configuration with the record's value, in any state; of a record that fits it is the selected one, where no configuration has the value 0
+abbrev pub valued : View → Device → Described
+valued v d = byValue (record { 0 = d .configuration }) (v .configurations)
 
 -- ---- on images of any length
 -- a record that fits no set stands for an image of another length

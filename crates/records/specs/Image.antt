@@ -13,7 +13,7 @@ fourBytes bytes k = byte bytes k + byte bytes (k + 1) * 256 + byte bytes (k + 2)
 unfoldable pub bytesOfFour : ℕ → List ℕ
 bytesOfFour n = n % 256 ∷ n / 256 % 256 ∷ n / 65536 % 256 ∷ n / 16777216 % 256 ∷ []
 
--- "0 state, 1 address, 2 waiting address, 3 configuration value, 4 remote wakeup, 5–7 zero, 8–23 alternate setting of interfaces 0–15";
+-- "0 state .., 1 address, 2 waiting address .., 3 configuration value, 4 remote wakeup .., 5–7 zero, 8–23 alternate setting of interfaces 0–15";
 -- "Record byte 5 becomes the power source (0 bus, 1 own supply)" (L2); "Record byte 6 becomes suspended (0 or 1)" (L12); "record byte 7 says which is in use"
 -- (L7)
 unfoldable pub deviceOf : List ℕ → Device

@@ -1,7 +1,7 @@
 // The device record: what a board keeps between events.
 use descriptors::survey::Survey;
 ghost use mathlib.Core.Path.{_≡_};
-ghost use mathlib.Core.Bool.{true};
+ghost use mathlib.Core.Bool.{true, false};
 ghost use Prim.Native.Nat.{_<_};
 ghost use lib.ListN.{length};
 ghost use Rattle.descriptors.specs.declared.survey.Asked.{Asked};
@@ -9,8 +9,7 @@ ghost use Rattle.descriptors.specs.Survey.{Surveys};
 ghost use Rattle.sets.specs.View.{View, hasValue, wakes};
 ghost use Rattle.records.specs.Device.{fresh, settled, testWaits};
 ghost use Rattle.records.specs.Image.{fourBytes, bytesOfFour, deviceOf, imageOf};
-ghost use Rattle.records.specs.Change.{misfit, recordIn};
-ghost use Rattle.records.specs.Current.{selected};
+ghost use Rattle.records.specs.Change.{valued, misfit, recordIn};
 ghost use Rattle.records.specs.Fits.{inRange, goodWaiting, goodState, fits};
 
 pub mod renewal;
@@ -212,7 +211,7 @@ fn in_range(paired: bool, device: Device) -> bool
 }
 
 // A test mode waits: 128 plus its selector.
-fn test_waits(device: Device) -> bool
+pub fn test_waits(device: Device) -> bool
     ensures { λ r. ⌜ r ≡ testWaits device ⌝ }
 {
     (129 <= device.waiting) & (device.waiting <= 133)
@@ -237,10 +236,10 @@ fn good_state(there: bool, device: Device) -> bool
         & (!(device.state == 2) | (in_use & there & ((device.waiting == 255) | test_waits(device))))
 }
 
-// Whether a record fits. `survey` is the selected configuration's, of no descriptors if none is; `there`: the set has a configuration with the
-// record's value; `waking`: some configuration supports remote wakeup; `paired`: two sets are lent.
+// Whether a record fits. `survey` is of the configuration with the record's value, of no descriptors if none has it; `there`: the set has one; `waking`: some configuration supports remote wakeup; `paired`: two sets are lent.
 pub fn fits(survey: Survey, there: bool, waking: bool, paired: bool, device: Device) -> bool
-    ensures { λ r. ⌜ ((v : View) (a : Asked) → Surveys (selected v device) (device .alternates) a survey
+    ensures { λ r. ⌜ ((v : View) (a : Asked) → Surveys (valued v device) (device .alternates) a survey
+        → hasValue (record { 0 = 0 }) (v .configurations) ≡ false
         → there ≡ hasValue (record { 0 = device .configuration }) (v .configurations)
         → waking ≡ wakes v → paired ≡ v .paired → r ≡ fits v device) ⌝ }
 {

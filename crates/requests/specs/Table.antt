@@ -8,32 +8,92 @@ use Rattle.octets.specs.Sentences.{pick, first}
 use Rattle.requests.specs.declared.Setup.{Setup}
 use Rattle.requests.specs.declared.Row.{Row}
 
+-- ---- a row in the page's words
+-- the least and the most
+pub record Span : Type 0 where
+  pub least : ℕ
+  pub most : ℕ
+
+abbrev span : ℕ → ℕ → Span
+span least most = record { least = least; most = most }
+
 -- every number of two bytes
 abbrev free : ℕ
 free = 65535
 
--- type, code; wValue, wIndex at most, wIndex at most where the type asked is 3; wLength from, to; states from, to
-abbrev asks : ℕ → ℕ → ℕ → ℕ → ℕ → ℕ → ℕ → ℕ → ℕ → Row
-asks t c v i s lf lt sf st = record { kind = t; code = c; value = v; index = i; string = s; shortest = lf; longest = lt; lowest = sf; highest = st }
+-- "wValue 0", "wValue at most 127", "wValue below 256"; or any
+abbrev valueUpTo : ℕ → ℕ
+valueUpTo most = most
 
--- "Default allows 05 and 06. Address allows all but 0A and 0B. Configured allows all but 05."
+abbrev anyValue : ℕ
+anyValue = free
+
+-- the largest wIndex: where the type asked is another than 3, and where it is 3
+pub record Index : Type 0 where
+  pub plain : ℕ
+  pub string : ℕ
+
+-- "wIndex 0"; any; "wIndex 0 unless the type asked is 3"
+abbrev indexZero : Index
+indexZero = record { plain = 0; string = 0 }
+
+abbrev anyIndex : Index
+anyIndex = record { plain = free; string = free }
+
+abbrev indexZeroUnlessString : Index
+indexZeroUnlessString = record { plain = 0; string = free }
+
+-- "wLength 2"; or any
+abbrev lengthIs : ℕ → Span
+lengthIs n = span n n
+
+abbrev anyLength : Span
+anyLength = span 0 free
+
+-- "Default allows 05 and 06. Address allows all but 0A and 0B. Configured allows all but 05."; a record's byte 0 is 0, 1 and 2 there
+abbrev everyState : Span
+everyState = span 0 2
+
+abbrev defaultAndAddress : Span
+defaultAndAddress = span 0 1
+
+abbrev addressAndConfigured : Span
+addressAndConfigured = span 1 2
+
+abbrev configuredAlone : Span
+configuredAlone = span 2 2
+
+abbrev asks : ℕ → ℕ → ℕ → Index → Span → Span → Row
+asks bmRequestType bRequest wValue wIndex wLength states = record {
+  kind = bmRequestType;
+  code = bRequest;
+  value = wValue;
+  index = wIndex .plain;
+  string = wIndex .string;
+  shortest = wLength .least;
+  longest = wLength .most;
+  lowest = states .least;
+  highest = states .most;
+}
+
+-- "Type and code in hexadecimal, fixed fields after them", and the states
 abbrev pub table : List Row
 table =
-    asks 0x80 0x00 0 0 0 2 2 1 2 ∷
-    asks 0x81 0x00 0 free free 2 2 1 2 ∷
-    asks 0x82 0x00 0 free free 2 2 1 2 ∷
-    asks 0x00 0x01 free 0 0 0 0 1 2 ∷
-    asks 0x00 0x03 free 0 0 0 0 1 2 ∷
-    asks 0x01 0x01 free free free 0 0 1 2 ∷
-    asks 0x02 0x01 free free free 0 0 1 2 ∷
-    asks 0x01 0x03 free free free 0 0 1 2 ∷
-    asks 0x02 0x03 free free free 0 0 1 2 ∷
-    asks 0x00 0x05 127 0 0 0 0 0 1 ∷
-    asks 0x80 0x06 free 0 free 0 free 0 2 ∷
-    asks 0x80 0x08 0 0 0 1 1 1 2 ∷
-    asks 0x00 0x09 255 0 0 0 0 1 2 ∷
-    asks 0x81 0x0A 0 free free 1 1 2 2 ∷
-    asks 0x01 0x0B free free free 0 0 2 2 ∷
+    asks 0x80 0x00 (valueUpTo 0) indexZero (lengthIs 2) addressAndConfigured ∷
+    asks 0x81 0x00 (valueUpTo 0) anyIndex (lengthIs 2) addressAndConfigured ∷
+    asks 0x82 0x00 (valueUpTo 0) anyIndex (lengthIs 2) addressAndConfigured ∷
+    asks 0x00 0x01 anyValue indexZero (lengthIs 0) addressAndConfigured ∷
+    asks 0x00 0x03 anyValue indexZero (lengthIs 0) addressAndConfigured ∷
+    asks 0x01 0x01 anyValue anyIndex (lengthIs 0) addressAndConfigured ∷
+    asks 0x02 0x01 anyValue anyIndex (lengthIs 0) addressAndConfigured ∷
+    asks 0x01 0x03 anyValue anyIndex (lengthIs 0) addressAndConfigured ∷
+    asks 0x02 0x03 anyValue anyIndex (lengthIs 0) addressAndConfigured ∷
+    asks 0x00 0x05 (valueUpTo 127) indexZero (lengthIs 0) defaultAndAddress ∷
+    asks 0x80 0x06 anyValue indexZeroUnlessString anyLength everyState ∷
+    asks 0x80 0x08 (valueUpTo 0) indexZero (lengthIs 1) addressAndConfigured ∷
+    asks 0x00 0x09 (valueUpTo 255) indexZero (lengthIs 0) addressAndConfigured ∷
+    asks 0x81 0x0A (valueUpTo 0) anyIndex (lengthIs 1) configuredAlone ∷
+    asks 0x01 0x0B anyValue anyIndex (lengthIs 0) configuredAlone ∷
     []
 
 abbrev pub rowOf : Setup → Option Row

@@ -7,22 +7,22 @@ use mathlib.Core.List.{List, [], List·Memᴰ}
 use mathlib.Core.Option.{Option, some, none}
 use lib.ListN.{length}
 use lib.Dec.{eqb, ltb}
-use borrow.Author.Tests.{eqb-true, ltb-true, ltb-false}
+use borrow.Author.Tests.{eqb-true, ne-eqb, leb-true, ltb-true, ltb-false}
 use Rattle.octets.specs.Bit.{bit}
 use Rattle.octets.specs.Sentences.{pick, every, any, first}
-use Rattle.octets.proofs.Sentences.{both, every-map, every-member, any-member, first-some}
+use Rattle.octets.proofs.Sentences.{both, every-map, every-member, any-map, any-member, none-any, first-some}
 use Rattle.descriptors.specs.declared.Limits.{Limits}
 use Rattle.descriptors.specs.Cut.{cut, cutAfter, descriptorsOf, wellCut}
 use Rattle.descriptors.specs.Interfaces.{grouped, endpointsOf}
-use Rattle.descriptors.specs.Configuration.{Configuration, hasInterface, goodDescriptors, goodConfiguration, groupsOf, configurationOf}
+use Rattle.descriptors.specs.Configuration.{Configuration, bConfigurationValue, hasInterface, goodDescriptors, goodConfiguration, groupsOf, configurationOf}
 use Rattle.descriptors.specs.Survey.{TellsInterfaces}
 use Rattle.sets.specs.declared.Entry.{Entry}
 use Rattle.sets.specs.declared.EntryFound.{EntryFound}
 use Rattle.sets.specs.declared.EntryFound.the-variants.{At, Nothing}
 use Rattle.sets.specs.Contents.{bodyOf, bodies, entriesOf}
-use Rattle.sets.specs.Opening.{Board, opening}
+use Rattle.sets.specs.Opening.{Board, valueNonzero, opening}
 use Rattle.sets.specs.Found.{found, valued, configurationFound}
-use Rattle.sets.specs.View.{byValue}
+use Rattle.sets.specs.View.{hasValue, byValue}
 use Rattle.octets.specs.Octets.{Bytes}
 use Rattle.sets.proofs.Groups.{Groups, groups, each-rule}
 use Rattle.sets.proofs.Bodies.{bytes-part, soundConfiguration}
@@ -58,6 +58,14 @@ module _ (set : List ℕ) where
 
   pub selected-by-value : (value : ℕ) → configurationOf (selectedBody set value) ≡ byValue (record { 0 = value }) (configurationsIn set)
   selected-by-value value = body-found (found (first (valued set value) (entriesOf 2 set))) ∙ sym (value-found set (record { 0 = value }))
+
+-- ---- no configuration of a set that opens has the value 0
+pub no-zero : (limits : Limits) (b : Board) → opening limits b ≡ 0 → hasValue (record { 0 = 0 }) (configurationsIn (b .set)) ≡ false
+unfolding configurationOf
+no-zero limits b p =
+    let nonzero = each-rule limits (b .set) (groups limits b p .configurations) .nonzero in
+    any-map (λ c. eqb (c .value) 0) configurationOf (bodies 2 (b .set))
+    ∙ none-any (λ body. eqb (configurationOf body .value) 0) (bodies 2 (b .set)) (λ body m. let l = leb-true 1 (bConfigurationValue body) (every-member valueNonzero nonzero m) in ne-eqb (bConfigurationValue body) 0 (λ q. omega arith))
 
 -- ---- the selected configuration's body of an accepted board
 module _ (limits : Limits) (b : Board) (h : Bytes (b .set)) (g : Groups limits b) (value : ℕ) where

@@ -38,13 +38,14 @@ use Rattle.sets.proofs.Lookups.{value-there, wakes-found}
 use Rattle.records.specs.declared.Device.{Device}
 use Rattle.records.specs.Device.{inConfigured}
 use Rattle.records.specs.Image.{deviceOf}
-use Rattle.records.specs.Current.{setFor, setAt, boardFor, selected}
+use Rattle.records.specs.Change.{valued as withValue}
+use Rattle.records.specs.Current.{setFor, setAt, boardFor}
 use Rattle.records.specs.Fits.{fits, fitsOn}
 use Rattle.records.proofs.InUse.{rowFor, opensFor}
 use Rattle.events.specs.declared.Answer.the-variants.{Refused}
 use Rattle.events.specs.Answer.{partOf}
 use Rattle.events.specs.Places.{InsideAt}
-use Rattle.steps.specs.Gathering.{viewIn, endpointIn, endpointOnIn, bodyFound, selectedBody, standing, beginning}
+use Rattle.steps.specs.Gathering.{configurationsIn, viewIn, endpointIn, endpointOnIn, bodyFound, selectedBody, standing, beginning}
 use Rattle.steps.proofs.Configurations.{selected-by-value}
 use Rattle.steps.specs.Endpoint.{selectedEntry, inSet, endpointsIn, endpointDescriptors, endpointPart, endpoint, endpointOn}
 
@@ -116,12 +117,12 @@ module _ (paired : Bool) (set serial : List ℕ) (d : Device) {entry : EntryFoun
   pub selected-body : body ≡ selectedBody set (d .configuration)
   selected-body = l ∙ ap (bodyFound set) e
 
-  pub fitting : {survey : Survey} {asked : Asked} {there waking fit : Bool}
+  pub fitting : hasValue (record { 0 = 0 }) (configurationsIn set) ≡ false → {survey : Survey} {asked : Asked} {there waking fit : Bool}
       → Surveys (configurationOf body) (d .alternates) asked survey → there ≡ isFound entry → waking ≡ any canWake (bodies 2 set)
-      → ((v : View) (a : Asked) → Surveys (selected v d) (d .alternates) a survey → there ≡ hasValue (record { 0 = d .configuration }) (v .configurations) → waking ≡ wakes v → paired ≡ v .paired → fit ≡ fits v d)
+      → ((v : View) (a : Asked) → Surveys (withValue v d) (d .alternates) a survey → hasValue (record { 0 = 0 }) (v .configurations) ≡ false → there ≡ hasValue (record { 0 = d .configuration }) (v .configurations) → waking ≡ wakes v → paired ≡ v .paired → fit ≡ fits v d)
       → fit ≡ fits (viewIn paired set serial) d
-  fitting {asked = asked} s t w told =
-      told (viewIn paired set serial) asked (rw (ap configurationOf selected-body ∙ selected-by-value set (d .configuration)) at s) (rw (t, e, value-there set (d .configuration))) (w ∙ sym (wakes-found set)) refl
+  fitting z {asked = asked} s t w told =
+      told (viewIn paired set serial) asked (rw (ap configurationOf selected-body ∙ selected-by-value set (d .configuration)) at s) z (rw (t, e, value-there set (d .configuration))) (w ∙ sym (wakes-found set)) refl
 
 -- ---- each of them is an endpoint descriptor that obeys the rules, and lies in the set where it is said to lie
 pub record Stands (limits : Limits) (set : List ℕ) (p : DescriptorAt) : Type 0 where

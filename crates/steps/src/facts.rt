@@ -24,8 +24,8 @@ ghost use Rattle.sets.specs.Found.{isFound};
 ghost use Rattle.sets.specs.View.{hasValue};
 ghost use Rattle.events.specs.Requests.{languageFor, locateString, locate};
 ghost use Rattle.records.specs.declared.Device.{Device};
-ghost use Rattle.records.specs.Change.{recordIn};
-ghost use Rattle.events.specs.Facts.{naming, questionOf, askedBy, Tells};
+ghost use Rattle.records.specs.Change.{valued, recordIn};
+ghost use Rattle.events.specs.Facts.{naming, questionOf, askedBy, TellsOf};
 ghost use Rattle.steps.specs.Gathering.{configurationsIn, Openable, viewIn, bodyFound, located};
 ghost use Rattle.steps.specs.Selected.{nothingKnown, Knows};
 
@@ -230,7 +230,7 @@ pub fn learn(number: u8, set: &[u8], serial: &[u8], image: &[u8], event: Event) 
 pub fn gather(paired: bool, set: &[u8], serial: &[u8], event: Event, known: Selected) -> Facts
     requires { ⌜ Openable (now set) (now serial) ⌝ }
     ensures { λ r. ⌜ ((d : Device) → Knows (now (set .entry)) (d .configuration) (d .alternates) (askedBy (questionOf event)) known
-        → Tells (viewIn paired (now (set .entry)) (now (serial .entry))) d (questionOf event) r) ⌝ }
+        → (let v = viewIn paired (now (set .entry)) (now (serial .entry)) in TellsOf v (valued v d) d (questionOf event) r)) ⌝ }
 {
     let question = question_of(event);
     let survey = known.survey;

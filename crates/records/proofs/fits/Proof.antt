@@ -1,7 +1,7 @@
 -- `records::fits` meets its contract: each rule from what is told. No axiom.
 use borrow.Author.Needs.{needs}
 use mathlib.Core.Path.{ap, _∙_}
-use Rattle.records.specs.Current.{selected}
+use Rattle.records.specs.Change.{valued}
 use Rattle.records.specs.Fits.{inRange}
 use Rattle.records.proofs.Fitting.{fitting}
 use Rattle.records.proofs.fits.Statement.{statement}
@@ -26,9 +26,9 @@ has-only-requires-2 : tie.Need-has-only-requires-2
 has-only-requires-2 c κs = search needs
 
 returns : tie.Need-returns
-returns c = λ v a t q w p.
+returns c = λ v a t z q w p.
     let d = c .before .before .before .before .before .before .before .before .args .device in
-    fitting v d (c .before .before .before .before .before .before .in-range .ensures ∙ ap (λ x. inRange x d) p) (c .before .before .before .before .before .good-waiting .ensures) (c .before .before .before .before .good-state .ensures v q) (c .before .before .before .alternates-exist .ensures (selected v d) (t .interfaces)) (t .halts) (c .before .before .has-only .ensures) (c .before .has-only2 .ensures) w
+    fitting v d z (c .before .before .before .before .before .before .in-range .ensures ∙ ap (λ x. inRange x d) p) (c .before .before .before .before .before .good-waiting .ensures) (c .before .before .before .before .good-state .ensures v q) (c .before .before .before .alternates-exist .ensures (valued v d) (t .interfaces)) (t .halts) (c .before .before .has-only .ensures) (c .before .has-only2 .ensures) w
 
 pub fits-spec : {M : Type 1} → statement M
 fits-spec =

@@ -2,10 +2,12 @@
 use borrow.Author.Needs.{needs}
 use mathlib.Core.Path.{refl, sym, _∙_}
 use borrow.Author.Tests.{not-true, not-false}
+use Rattle.sets.specs.Opening.{lent}
 use Rattle.records.specs.Change.{recordIn}
 use Rattle.events.specs.Facts.{questionOf, askedBy}
 use Rattle.steps.specs.Gathering.{viewIn}
-use Rattle.steps.proofs.Steps.{set-refused, record-refused, responds, at-work}
+use Rattle.steps.proofs.Configurations.{no-zero}
+use Rattle.steps.proofs.Steps.{set-refused, record-refused, responds, told, at-work}
 use Rattle.steps.proofs.react.Tie as tie
 use Rattle.steps.proofs.react.Statement.{statement}
 
@@ -35,7 +37,7 @@ returns-2 c = let start = c .before .before .before .before .before .before .bef
     let d = c .before .before .before .before .before .read .result in
     let zero = c .before .before .before .before .before .before .if1 .left in
     let t = c .before .before .before .before .gather .ensures d (rw (c .before .before .before .before .before .read .ensures) (start .pre zero .1)) in
-    let fit = c .before .before .fits2 .ensures v (askedBy (questionOf (a .event))) (t .surveyed) (t .configured) (t .waking) refl in
+    let fit = c .before .before .fits2 .ensures v (askedBy (questionOf (a .event))) (t .surveyed) (no-zero (start .pre zero .0 .0) (lent (a .set .now) (a .serial .now)) (start .pre zero .0 .1)) (t .configured) (t .waking) refl in
     rw (c .refused2 .ensures, ← c .before .before .before .before .before .read .ensures) (sym (record-refused (a .number) v d (a .event) zero (sym fit ∙ not-true _ (c .before .if2 .taken))))
 
 respond-requires : tie.Need-respond-requires
@@ -45,7 +47,7 @@ respond-requires c κs = let start = c .before .before .before .before .before .
     let d = c .before .before .before .before .read .result in
     let zero = c .before .before .before .before .before .if1 .left in
     let t = c .before .before .before .gather .ensures d (rw (c .before .before .before .before .read .ensures) (start .pre zero .1)) in
-    let fit = c .before .fits2 .ensures v (askedBy (questionOf (a .event))) (t .surveyed) (t .configured) (t .waking) refl in
+    let fit = c .before .fits2 .ensures v (askedBy (questionOf (a .event))) (t .surveyed) (no-zero (start .pre zero .0 .0) (lent (a .set .now) (a .serial .now)) (start .pre zero .0 .1)) (t .configured) (t .waking) refl in
     at-work v d (sym fit ∙ not-false _ (c .if2 .left))
 
 returns-3 : tie.Need-returns-3
@@ -55,8 +57,9 @@ returns-3 c = let start = c .before .before .before .before .before .before .bef
     let d = c .before .before .before .before .before .read .result in
     let zero = c .before .before .before .before .before .before .if1 .left in
     let t = c .before .before .before .before .gather .ensures d (rw (c .before .before .before .before .before .read .ensures) (start .pre zero .1)) in
-    let fit = c .before .before .fits2 .ensures v (askedBy (questionOf (a .event))) (t .surveyed) (t .configured) (t .waking) refl in
-    rw (c .before .before .before .before .before .read .ensures) at (c .respond .ensures v t ∙ sym (responds (a .number) v d (a .event) zero (sym fit ∙ not-false _ (c .before .if2 .left))))
+    let nonzero = no-zero (start .pre zero .0 .0) (lent (a .set .now) (a .serial .now)) (start .pre zero .0 .1) in
+    let fit = c .before .before .fits2 .ensures v (askedBy (questionOf (a .event))) (t .surveyed) nonzero (t .configured) (t .waking) refl in
+    rw (c .before .before .before .before .before .read .ensures) at (c .respond .ensures v (told v d (questionOf (a .event)) nonzero (sym fit ∙ not-false _ (c .before .if2 .left)) t) ∙ sym (responds (a .number) v d (a .event) zero (sym fit ∙ not-false _ (c .before .if2 .left))))
 
 pub react-spec : {M : Type 1} → statement M
 react-spec =

@@ -1,22 +1,12 @@
 -- `events::respond::answer_setup` meets its contract: by the test mode and the table's refusal. No axiom.
-use Prim.Native.Nat.{ℕ}
-use mathlib.Core.Path.{_≡_, refl, sym, ap, _∙_}
-use mathlib.Core.Bool.{Bool}
+use mathlib.Core.Path.{sym, ap, _∙_}
 use borrow.Author.Needs.{needs}
 use borrow.Author.Tests.{eq-eqb, ne-eqb, le-leb, lt-leb}
-use Rattle.records.specs.declared.Device.{Device}
-use Rattle.requests.specs.declared.Setup.{Setup}
-use Rattle.requests.specs.Table.{refusal}
-use Rattle.events.specs.Step.{stateFor, setupFor, refusalFor, answerSetup}
-use Rattle.events.proofs.Rows.{one-byte}
+use Rattle.events.specs.Step.{refusalFor, answerSetup}
+use Rattle.events.proofs.Rows.{one-byte-for}
 use Rattle.events.proofs.Lookups.{settles, settling}
 use Rattle.events.proofs.respond.answer_setup.Statement.{statement}
 use Rattle.events.proofs.respond.answer_setup.Tie as tie
-
--- the table's refusal of what it judges
-judged : (paired known : Bool) (d : Device) (s : Setup) {n state : ℕ} {tabled : Setup} → known ≡ paired → n ≡ refusal state tabled → state ≡ stateFor known d s
-    → tabled ≡ setupFor known s → n ≡ refusalFor paired d s
-judged paired known d s {tabled = t} k p q r = p ∙ ap (λ x. refusal x t) q ∙ ap (refusal (stateFor known d s)) r ∙ ap (λ x. refusalFor x d s) k
 
 refused-requires : tie.Need-refused-requires
 refused-requires c κs = search needs
@@ -28,25 +18,17 @@ returns : tie.Need-returns
 unfolding answerSetup
 returns c = λ v t. rw (le-leb _ _ (c .before .before .if1 .taken), c .settling .ensures, c .before .refused .ensures)
 
-state-for-requires : tie.Need-state-for-requires
-state-for-requires c κs = search needs
-
-setup-for-requires : tie.Need-setup-for-requires
-setup-for-requires c κs = search needs
-
-refusal-requires : tie.Need-refusal-requires
-refusal-requires c κs = search needs
+refusal-for-requires : tie.Need-refusal-for-requires
+refusal-for-requires c κs = search needs
 
 settled-requires : tie.Need-settled-requires
 settled-requires c κs = search needs
 
 request-requires : tie.Need-request-requires
 request-requires c κs =
-    let start = c .before .before .before .before .before .before .before in
+    let start = c .before .before .before .before .before in
     let a = start .args in
-    let paired = a .facts .paired in
-    let passed = judged paired paired (a .device) (a .setup) refl (c .before .before .refusal .ensures) (c .before .before .before .before .state-for .ensures) (c .before .before .before .setup-for .ensures) in
-    rw (c .settled .ensures) (start .pre .0, (start .pre .1, one-byte (stateFor paired (a .device) (a .setup)) (setupFor paired (a .setup)) (sym passed ∙ c .before .if2 .taken)))
+    rw (c .settled .ensures) (start .pre .0, (start .pre .1, one-byte-for (a .facts .paired) (a .device) (a .setup) (sym (c .before .before .refusal-for .ensures) ∙ c .before .if2 .taken)))
 
 settling-requires-2 : tie.Need-settling-requires-2
 settling-requires-2 c κs = search needs
@@ -54,8 +36,8 @@ settling-requires-2 c κs = search needs
 returns-2 : tie.Need-returns-2
 unfolding answerSetup
 returns-2 c = λ v t.
-    let a = c .before .before .before .before .before .before .before .before .before .args in
-    rw (lt-leb _ _ (c .before .before .before .before .before .before .before .if1 .left), ← judged (v .paired) (a .facts .paired) (a .device) (a .setup) (t .paired) (c .before .before .before .before .refusal .ensures) (c .before .before .before .before .before .before .state-for .ensures) (c .before .before .before .before .before .setup-for .ensures), eq-eqb _ _ (c .before .before .before .if2 .taken), c .settling2 .ensures)
+    let a = c .before .before .before .before .before .before .before .args in
+    rw (lt-leb _ _ (c .before .before .before .before .before .if1 .left), ← (c .before .before .before .before .refusal-for .ensures ∙ ap (λ x. refusalFor x (a .device) (a .setup)) (t .paired)), eq-eqb _ _ (c .before .before .before .if2 .taken), c .settling2 .ensures)
     (settling (a .device) (c .before .request .result) (rw (c .before .before .settled .ensures) at (c .before .request .ensures v (rw (c .before .before .settled .ensures) (settles t)))))
 
 refused-requires-2 : tie.Need-refused-requires-2
@@ -67,8 +49,8 @@ settling-requires-3 c κs = search needs
 returns-3 : tie.Need-returns-3
 unfolding answerSetup
 returns-3 c = λ v t.
-    let a = c .before .before .before .before .before .before .before .before .args in
-    rw (lt-leb _ _ (c .before .before .before .before .before .before .if1 .left), ← judged (v .paired) (a .facts .paired) (a .device) (a .setup) (t .paired) (c .before .before .before .refusal .ensures) (c .before .before .before .before .before .state-for .ensures) (c .before .before .before .before .setup-for .ensures), ne-eqb _ _ (c .before .before .if2 .left), c .settling3 .ensures, c .before .refused2 .ensures)
+    let a = c .before .before .before .before .before .before .args in
+    rw (lt-leb _ _ (c .before .before .before .before .if1 .left), ← (c .before .before .before .refusal-for .ensures ∙ ap (λ x. refusalFor x (a .device) (a .setup)) (t .paired)), ne-eqb _ _ (c .before .before .if2 .left), c .settling3 .ensures, c .before .refused2 .ensures)
 
 pub answer-setup-spec : {M : Type 1} → statement M
 answer-setup-spec =
@@ -77,9 +59,7 @@ answer-setup-spec =
     refused-requires
     settling-requires
     returns
-    state-for-requires
-    setup-for-requires
-    refusal-requires
+    refusal-for-requires
     settled-requires
     request-requires
     settling-requires-2

@@ -1,7 +1,8 @@
 -- `events::respond::status_end` meets its contract: what waits is nothing, a test mode, zero or an address. No axiom.
 use native.Mathlib.Omega.{arith}
 use borrow.Author.Needs.{needs}
-use borrow.Author.Tests.{eq-eqb, ne-eqb, le-leb, lt-leb}
+use mathlib.Core.Path.{sym, _∙_}
+use borrow.Author.Tests.{eq-eqb, ne-eqb}
 use Rattle.events.specs.Step.{statusEnd}
 use Rattle.events.proofs.Lookups.{state-of, test-small}
 use Rattle.events.proofs.respond.status_end.Tie as tie
@@ -14,28 +15,34 @@ returns : tie.Need-returns
 unfolding statusEnd
 returns c = rw (c .done .ensures, eq-eqb _ _ (c .before .if1 .taken))
 
+test-waits-requires : tie.Need-test-waits-requires
+test-waits-requires c κs = search needs
+
+sub-speed : tie.Need-sub-speed
+sub-speed c = omega (arith, test-small (c .before .before .before .args .device) (sym (c .before .test-waits .ensures) ∙ c .if2 .taken))
+
 mul-speed : tie.Need-mul-speed
-mul-speed c = omega (arith, test-small (c .before .before .args .device) (c .before .before .pre) (c .before .if1 .left) (c .if2 .taken))
+mul-speed c = omega (arith, test-small (c .before .before .before .args .device) (sym (c .before .test-waits .ensures) ∙ c .if2 .taken))
 
 add-speed : tie.Need-add-speed
-add-speed c = omega (arith, test-small (c .before .before .args .device) (c .before .before .pre) (c .before .if1 .left) (c .if2 .taken))
+add-speed c = omega (arith, test-small (c .before .before .before .args .device) (sym (c .before .test-waits .ensures) ∙ c .if2 .taken))
 
 done-requires-2 : tie.Need-done-requires-2
 done-requires-2 c κs = search needs
 
 returns-2 : tie.Need-returns-2
 unfolding statusEnd
-returns-2 c = rw (c .done2 .ensures, ne-eqb _ _ (c .before .before .if1 .left), le-leb _ _ (c .before .if2 .taken))
+returns-2 c = rw (c .done2 .ensures, ne-eqb _ _ (c .before .before .before .if1 .left), ← c .before .before .test-waits .ensures, c .before .if2 .taken)
 
-cast-t9 : tie.Need-cast-t9
-cast-t9 c = search needs
+cast-t10 : tie.Need-cast-t10
+cast-t10 c = search needs
 
 done-requires-3 : tie.Need-done-requires-3
 done-requires-3 c κs = search needs
 
 returns-3 : tie.Need-returns-3
 unfolding statusEnd
-returns-3 c = rw (c .done3 .ensures, ne-eqb _ _ (c .before .before .if1 .left), lt-leb _ _ (c .before .if2 .left), state-of (c .before .before .before .args .device .waiting))
+returns-3 c = rw (c .done3 .ensures, ne-eqb _ _ (c .before .before .before .if1 .left), ← c .before .before .test-waits .ensures, c .before .if2 .left, state-of (c .before .before .before .before .args .device .waiting))
 
 pub status-end-spec : {M : Type 1} → statement M
 status-end-spec =
@@ -43,10 +50,12 @@ status-end-spec =
     (tie.spec
     done-requires
     returns
+    test-waits-requires
+    sub-speed
     mul-speed
     add-speed
     done-requires-2
     returns-2
-    cast-t9
+    cast-t10
     done-requires-3
     returns-3)

@@ -9,7 +9,7 @@ use borrow.Author.Tests.{not-true, not-false}
 use Rattle.descriptors.specs.Cut.{cut, wellCut}
 use Rattle.sets.specs.Opening.{lent}
 use Rattle.steps.specs.Gathering.{viewIn}
-use Rattle.steps.proofs.Configurations.{usable}
+use Rattle.steps.proofs.Configurations.{no-zero, usable}
 use Rattle.steps.proofs.EndpointParts.{set-refused, record-refused, none-elsewhere, answers, begins-inside, body-short, selected-body, fitting}
 use Rattle.steps.proofs.endpoint.endpoint.Statement.{statement}
 use Rattle.steps.proofs.endpoint.endpoint.Tie as tie
@@ -43,22 +43,24 @@ fits-requires c κs = search needs
 
 returns-2 : tie.Need-returns-2
 returns-2 c =
-    let a = c .before .before .before .before .before .before .before .before .before .before .before .args in
+    let start = c .before .before .before .before .before .before .before .before .before .before .before in
+    let a = start .args in
     let v = viewIn (a .paired) (a .set .now) (a .serial .now) in
     let entry = c .before .before .before .before .before .before .before .by-value .ensures in
     let body = c .before .before .before .before .before .before .body-found .ensures in
     let opens = c .before .before .before .before .before .before .before .before .if1 .left in
-    let fit = fitting (a .paired) (a .set .now) (a .serial .now) (a .device) entry body (c .before .before .before .before .walk .ensures) (c .before .before .before .is-found .ensures) (c .before .before .wakes .ensures) (c .before .fits2 .ensures) in
+    let fit = fitting (a .paired) (a .set .now) (a .serial .now) (a .device) entry body (no-zero (start .pre opens .0) (lent (a .set .now) (a .serial .now)) (start .pre opens .1)) (c .before .before .before .before .walk .ensures) (c .before .before .before .is-found .ensures) (c .before .before .wakes .ensures) (c .before .fits2 .ensures) in
     sym (record-refused (a .opening) v (a .set .now) (a .device) (a .number) opens (sym fit ∙ not-true _ (c .if2 .taken)))
 
 returns-3 : tie.Need-returns-3
 returns-3 c =
-    let a = c .before .before .before .before .before .before .before .before .before .before .before .before .before .args in
+    let start = c .before .before .before .before .before .before .before .before .before .before .before .before .before in
+    let a = start .args in
     let v = viewIn (a .paired) (a .set .now) (a .serial .now) in
     let entry = c .before .before .before .before .before .before .before .before .before .by-value .ensures in
     let body = c .before .before .before .before .before .before .before .before .body-found .ensures in
     let opens = c .before .before .before .before .before .before .before .before .before .before .if1 .left in
-    let fit = fitting (a .paired) (a .set .now) (a .serial .now) (a .device) entry body (c .before .before .before .before .before .before .walk .ensures) (c .before .before .before .before .before .is-found .ensures) (c .before .before .before .before .wakes .ensures) (c .before .before .before .fits2 .ensures) in
+    let fit = fitting (a .paired) (a .set .now) (a .serial .now) (a .device) entry body (no-zero (start .pre opens .0) (lent (a .set .now) (a .serial .now)) (start .pre opens .1)) (c .before .before .before .before .before .before .walk .ensures) (c .before .before .before .before .before .is-found .ensures) (c .before .before .before .before .wakes .ensures) (c .before .before .before .fits2 .ensures) in
     sym (none-elsewhere (a .opening) v (a .set .now) (a .device) (a .number) opens (sym fit ∙ not-false _ (c .before .before .if2 .left)) (c .if3 .taken))
 
 find-requires : tie.Need-find-requires
@@ -82,12 +84,13 @@ part-of-requires c κs =
 
 returns-4 : tie.Need-returns-4
 returns-4 c =
-    let a = c .before .before .before .before .before .before .before .before .before .before .before .before .before .before .before .args in
+    let start = c .before .before .before .before .before .before .before .before .before .before .before .before .before .before .before in
+    let a = start .args in
     let v = viewIn (a .paired) (a .set .now) (a .serial .now) in
     let entry = c .before .before .before .before .before .before .before .before .before .before .before .by-value .ensures in
     let body = c .before .before .before .before .before .before .before .before .before .before .body-found .ensures in
     let opens = c .before .before .before .before .before .before .before .before .before .before .before .before .if1 .left in
-    let fit = fitting (a .paired) (a .set .now) (a .serial .now) (a .device) entry body (c .before .before .before .before .before .before .before .before .walk .ensures) (c .before .before .before .before .before .before .before .is-found .ensures) (c .before .before .before .before .before .before .wakes .ensures) (c .before .before .before .before .before .fits2 .ensures) in
+    let fit = fitting (a .paired) (a .set .now) (a .serial .now) (a .device) entry body (no-zero (start .pre opens .0) (lent (a .set .now) (a .serial .now)) (start .pre opens .1)) (c .before .before .before .before .before .before .before .before .walk .ensures) (c .before .before .before .before .before .before .before .is-found .ensures) (c .before .before .before .before .before .before .wakes .ensures) (c .before .before .before .before .before .fits2 .ensures) in
     let same = selected-body (a .paired) (a .set .now) (a .serial .now) (a .device) entry body in
     c .part-of .ensures ∙ rw (c .before .find .ensures, same, entry) (sym (answers (a .opening) v (a .set .now) (a .device) (a .number) opens (sym fit ∙ not-false _ (c .before .before .before .before .if2 .left)) (c .before .before .if3 .left)))
 
