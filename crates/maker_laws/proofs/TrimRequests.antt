@@ -39,7 +39,7 @@ use Rattle.events.specs.declared.Outcome.{Outcome}
 use Rattle.events.specs.Answer.{partOf, refused}
 use Rattle.events.specs.Places.{bytesIn}
 use Rattle.events.specs.Requests.{isEntry, bodyAt, byIndex, languageFor, locateString, locate, describe, getStatus, clearFeature, setFeature, setAddress, getDescriptor, getConfiguration, setConfiguration, getInterface, setInterface}
-use Rattle.events.specs.Step.{request, stateFor, setupFor, refusalFor, answerSetup, halt, packetPassed, respond, step, Reply, replyOf, event}
+use Rattle.events.specs.Step.{request, refusalFor, answerSetup, halt, packetPassed, respond, step, Reply, replyOf, event}
 use Rattle.set_writer.proofs.InPieces.{same-bodies}
 use Rattle.trimming.specs.Trim.{named, namedString, zeroStays, kept, trimmed}
 use Rattle.trimming.specs.Keeping.{deviceNames, entryNames}
@@ -140,7 +140,7 @@ no-row s c t = none-first (λ r. eqb (r .kind) (s .bmRequestType) && eqb (r .cod
         never (eq-eqb (s .bmRequestType) 0x80 (sym (eqb-true (r .kind) (s .bmRequestType) k) ∙ device)) t
 
 not-of-device : (d : Device) (s : Setup) → eqb (s .bRequest) 0x06 ≡ true → eqb (s .bmRequestType) 0x80 ≡ false → eqb (refusalFor false d s) 0 ≡ false
-not-of-device d s c t = rw (without-row (stateFor false d s) (setupFor false s) (no-row (setupFor false s) c t))
+not-of-device d s c t = rw (without-row (d .state) s (no-row s c t))
 
 -- "never more than wLength bytes, from the start of the body"
 pub cut-body : (n m : ℕ) (l : List ℕ) → take (min n m) l ≡ take m (take n l)
@@ -392,7 +392,7 @@ module _ (set serial : List ℕ) where
 
     -- the image that is left, whatever is asked for
     pub image-alike : (image : List ℕ) (e : Event) → event (lent set serial) image e .image ≡ event (lent (trimmed set) serial) image e .image
-    unfolding event step
+    unfolding event step viewOf
     image-alike image e = rw (ok, accepted-again, ← fits-again (deviceOf image)) (go (eqb (length image) 32) (fits v (deviceOf image)))
       where
         unread : Reply
