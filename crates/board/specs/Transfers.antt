@@ -1,6 +1,6 @@
 -- Replies and packets: a packet's number is 0 or 15, and 15 shows nothing; the packets of what a setup handed back, cut by any cutter that
 -- meets its statement, are the reply, and only those past the last are refused. No axiom.
-use Prim.Native.Nat.{ℕ, zero, suc, _+_, _-_, _<_, _≤_}
+use Prim.Native.Nat.{ℕ, zero, suc, _+_, _-_, _%_, _<_, _≤_}
 use native.Mathlib.Omega.{arith}
 use native.Mathlib.Nat.{add-zero, div-le-self}
 use mathlib.Core.Path.{_≡_, refl, sym, ap, _∙_}
@@ -23,7 +23,7 @@ use Rattle.records.specs.Current.{setFor, viewAt}
 use Rattle.records.specs.Fits.{fitsOn}
 use Rattle.requests.specs.declared.Setup.{Setup}
 use Rattle.requests.specs.Setup.{setupOf}
-use Rattle.requests.specs.Table.{largestIndex}
+use Rattle.requests.specs.Table.{largestIndex, refusal}
 use Rattle.events.specs.declared.Answer.{Answer}
 use Rattle.events.specs.declared.Answer.the-variants.{Done, OneByte, TwoBytes, SetPart, SerialPart, Refused}
 use Rattle.events.specs.declared.Event.{Event}
@@ -31,7 +31,7 @@ use Rattle.events.specs.declared.Event.the-variants.{Request, Malformed}
 use Rattle.events.specs.declared.Outcome.{Outcome}
 use Rattle.events.specs.Answer.{numberOf, bytesOf, partOf}
 use Rattle.events.specs.Places.{inBlock, bytesAt}
-use Rattle.events.specs.Step.{stateFor, setupFor, refusalFor, answerSetup, respond, step, Reply, event, setupEvent}
+use Rattle.events.specs.Step.{asksTestMode, testModeInState, testModeFits, testModeRefusal, refusalFor, answerSetup, respond, step, Reply, event, setupEvent}
 use Rattle.laws.proofs.Outcomes.{chosen, ruled}
 use Rattle.packets.specs.Packets.{count, canCut, packetWhere, packet}
 use Rattle.promises.specs.Packets.{joined, whole-reply}
@@ -133,12 +133,22 @@ module _ (b : Board) (image setup : List ℕ) where
   not-done : (n : ℕ) → (n ≡ 0 → ⊥) → Small (Refused n)
   not-done n h z = absurd (h z)
 
-  passed : (paired : Bool) (d : Device) → refusalFor paired d s ≡ 0 → s .wLength < 65536
+  by-table : (state : ℕ) → refusal state s ≡ 0 → s .wLength < 65536
   unfolding every
-  passed paired d p =
-      let (r, f, k, i, h) = ruled (λ r. leb (r .longest) 65535) refl (stateFor paired d s) (setupFor paired s) p in
-      let l = leb-true (s .wLength) (r .longest) (conjunct 3 (leb (s .wValue) (r .value) ∷ leb (setupFor paired s .wIndex) (largestIndex r (s .wValue)) ∷ leb (r .shortest) (s .wLength) ∷ leb (s .wLength) (r .longest) ∷ []) h) in
+  by-table state p =
+      let (r, f, k, i, h) = ruled (λ r. leb (r .longest) 65535) refl state s p in
+      let l = leb-true (s .wLength) (r .longest) (conjunct 3 (leb (s .wValue) (r .value) ∷ leb (s .wIndex) (largestIndex r (s .wValue)) ∷ leb (r .shortest) (s .wLength) ∷ leb (s .wLength) (r .longest) ∷ []) h) in
       omega (arith, l, leb-true (r .longest) 65535 f)
+
+  by-test-mode : (d : Device) → testModeRefusal d s ≡ 0 → s .wLength < 65536
+  by-test-mode d p = cases (testModeInState d)
+      (λ q. cases (testModeFits s)
+        (λ f. let (i, l) = both (eqb (s .wIndex % 256) 0) (eqb (s .wLength) 0) f in omega (arith, eqb-true (s .wLength) 0 l))
+        (λ f. let z : 12 ≡ 0 = rw (q, f) at p in omega (arith, z)))
+      (λ q. let z : 11 ≡ 0 = rw q at p in omega (arith, z))
+
+  passed : (paired : Bool) (d : Device) → refusalFor paired d s ≡ 0 → s .wLength < 65536
+  passed paired d p = cases (asksTestMode paired s) (λ t. by-test-mode d (rw t at p)) (λ t. by-table (d .state) (rw t at p))
 
   in-answer : (v : View) (d : Device) → Small (answerSetup v d s .answer)
   unfolding answerSetup
