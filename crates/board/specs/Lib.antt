@@ -15,6 +15,7 @@ pub mod Unnoticed
 pub mod Ports
 pub mod Records
 pub mod InhabitedRuns
+pub mod InhabitedPorts
 pub mod InhabitedTwo
 pub mod Idle
 pub mod InhabitedExports

@@ -1,12 +1,13 @@
 -- An image whose bytes are written one by one, or part by part. No axiom.
-use Prim.Native.Nat.{ℕ, zero, suc, _<_}
+use Prim.Native.Nat.{ℕ, zero, suc, _+_, _<_}
 use native.Mathlib.Omega.{arith}
-use native.Mathlib.Nat.{le-of-eq}
-use mathlib.Core.Path.{_≡_, refl, sym, ap, _∙_}
+use native.Mathlib.Nat.{le-of-eq, le-of-suc-le-suc, not-suc-le-zero}
+use native.Mathlib.Numerals.{add-one}
+use mathlib.Core.Path.{_≡_, refl, sym, ap, subst, _∙_}
 use mathlib.Core.Bool.{Bool, true, false}
 use mathlib.Core.List.{List, [], _∷_, _++_, append-assoc, append-nil}
 use lib.ListN.{length, set, take, drop, replicate, getD, length-append, length-take, length-set, drop-of-length-le}
-use lib.Seq.{take-at, drop-at, drop-drop}
+use lib.Seq.{take-at, take-all, drop-at, drop-drop}
 use lib.Dec.{ltb}
 use Rattle.octets.specs.Sentences.{pick}
 use borrow.Author.Tests.{lt-ltb, le-ltb}
@@ -106,3 +107,17 @@ module _ (d : Device) where
     unfolding imageOf bytesOfFour
     halts-put halts p q =
         rw (p ∙ append-assoc (front d ++ d .alternates) (bytesOfFour (d .halts)) (bytesOfFour (d .toggles)), q) (put-after (front d ++ d .alternates) (bytesOfFour (d .halts) ++ bytesOfFour (d .toggles)) (bytesOfFour halts) 24 4 words-at)
+
+-- a list that becomes another from the front on, byte by byte
+copies : (k : ℕ) (s d : List ℕ) → k < length s → k < length d → set (take k s ++ drop k d) k (getD s k 0) ≡ take (suc k) s ++ drop (suc k) d
+copies k [] d h l = absurd (not-suc-le-zero h)
+copies k (x ∷ s) [] h l = absurd (not-suc-le-zero l)
+copies zero (x ∷ s) (y ∷ d) h l = refl
+copies (suc k) (x ∷ s) (y ∷ d) h l = ap (λ (t : List ℕ). x ∷ t) (copies k s d (le-of-suc-le-suc h) (le-of-suc-le-suc l))
+
+pub copies-more : (k : ℕ) (s d : List ℕ) → k < length s → k < length d → set (take k s ++ drop k d) k (getD s k 0) ≡ take (k + 1) s ++ drop (k + 1) d
+copies-more k s d h l = subst (λ (n : ℕ). set (take k s ++ drop k d) k (getD s k 0) ≡ take n s ++ drop n d) (sym (add-one k)) (copies k s d h l)
+
+-- all of it
+pub copies-all : (k : ℕ) (s d : List ℕ) → length s ≡ k → length d ≡ k → take k s ++ drop k d ≡ s
+copies-all k s d e l = rw (take-all k s (le-of-eq e), drop-of-length-le d (le-of-eq l), append-nil)

@@ -146,6 +146,13 @@ pub fn load(image: &[u8]) -> Device
     }
 }
 
+// The same, of an image by its type.
+pub fn laid(image: &[u8; 32]) -> Device
+    ensures { λ r. ⌜ r ≡ deviceOf (now (image .entry)) ⌝ }
+{
+    load(&image[..])
+}
+
 // A record that fits no set: it stands for an image of another length.
 fn misfit() -> Device
     ensures { λ r. ⌜ r ≡ misfit ⌝ }

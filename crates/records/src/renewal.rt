@@ -5,7 +5,7 @@ ghost use Prim.Native.Nat.{_<_};
 ghost use lib.ListN.{length, set, replicate};
 ghost use Rattle.records.specs.declared.Device.{Device};
 ghost use Rattle.records.specs.Device.{withAddress, withConfiguration, withEndpoints, withPower, withSpeed, fresh};
-ghost use Rattle.records.specs.Image.{bytesOfFour, imageOf};
+ghost use Rattle.records.specs.Image.{bytesOfFour, imageOf, deviceOf};
 ghost use Rattle.records.specs.Change.{withSetting, waitsAfter, settledWith, changed, renewed};
 
 // A byte gets a value: it is written if it has another.
@@ -38,6 +38,26 @@ fn clear(bytes: &mut [u8])
         put(bytes, k, 0);
         k += 1;
     }
+}
+
+// Every byte becomes another slice's.
+fn put_all(bytes: &mut [u8], next: &[u8])
+    requires { ⌜ length (now bytes) ≡ length (now next) ⌝ }
+    ensures { λ _. ⌜ now (bytes .exit) ≡ now (next .entry) ⌝ }
+{
+    let mut k = 0;
+    while k < bytes.len() {
+        put(bytes, k, next[k]);
+        k += 1;
+    }
+}
+
+// The sixteen settings of a record become those of an image.
+pub fn put_settings(settings: &mut [u8; 16], image: &[u8; 32])
+    ensures { λ _. ⌜ now (settings .exit) ≡ deviceOf (now (image .entry)) .alternates ⌝ }
+{
+    let whole = &image[..];
+    put_all(&mut settings[..], &whole[8..24]);
 }
 
 // What waits once a setup has settled the record and changed it: asked before anything is written, so that no byte is written twice.

@@ -2,3 +2,4 @@ pub mod Configurations
 pub mod Steps
 pub mod Images
 pub mod EndpointParts
+pub mod LentSettings

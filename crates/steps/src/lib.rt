@@ -6,8 +6,8 @@ use events::Outcome;
 use events::reaction;
 use events::reaction::Reaction;
 use records::Device;
+use records::renewal;
 ghost use mathlib.Core.Path.{_≡_};
-ghost use mathlib.Core.Bool.{false};
 ghost use lib.Dec.{eqb};
 ghost use lib.ListN.{length};
 ghost use Rattle.octets.specs.Sentences.{pick};
@@ -91,34 +91,45 @@ pub fn step(set: &[u8], serial: &[u8], device: Device, event: Event) -> Outcome
     step_opened(number, set, serial, device, event)
 }
 
-// An event on an image of 32 bytes. It is a caller of `learn` beside the board's, so that `learn` stays a function of its own on x86-64.
+// An event on the image of a record, 32 bytes, on a board that was checked; `paired`: `set` is one of two. It is a caller of `learn` beside the board's, so that `learn`
+// stays a function of its own on x86-64.
+pub fn reply_in(
+    number: u8,
+    paired: bool,
+    set: &[u8],
+    serial: &[u8],
+    image: &mut [u8],
+    event: Event,
+) -> Answer
+    requires { ⌜ (number ≡ 0 → Openable (now set) (now serial)) × (length (now image) ≡ 32) ⌝ }
+    ensures { λ r. ⌜ gives r (deviceOf (now (image .exit))) ≡ stepIn number (viewIn paired (now (set .entry)) (now (serial .entry))) (deviceOf (now (image .entry))) event ⌝ }
+{
+    if number != 0 {
+        return Answer::Refused(7);
+    }
+    let laid = &image[..];
+    let known = facts::learn(0, set, serial, laid, event);
+    let reaction = react(0, paired, set, serial, laid, event, known);
+    let change = reaction.next;
+    renewal::renew(image, reaction.settles, change);
+    reaction.answer
+}
+
+// The same, of a board that lends one set.
 fn reply(number: u8, set: &[u8], serial: &[u8], image: &mut [u8], event: Event) -> Answer
     requires { ⌜ (number ≡ openingOf (lent (now set) (now serial))) × (length (now image) ≡ 32) ⌝ }
     ensures { λ r. ⌜ gives r (deviceOf (now (image .exit))) ≡ step (lent (now (set .entry)) (now (serial .entry))) (deviceOf (now (image .entry))) event ⌝ }
 {
-    let known = facts::learn(number, set, serial, image, event);
-    let reaction = react(number, false, set, serial, image, event, known);
-    let change = reaction.next;
-    records::renewal::renew(image, reaction.settles, change);
-    reaction.answer
+    reply_in(number, false, set, serial, image, event)
 }
 
-// Whether a setting of the record becomes another.
-fn moved(was: Device, next: Device) -> bool
-    ensures { λ r. ⌜ (r ≡ false → was .alternates ≡ next .alternates) × (was .alternates ≡ next .alternates → r ≡ false) ⌝ }
-{
-    let were = was.alternates;
-    let are = next.alternates;
-    !records::same(&were[..], &are[..])
-}
-
-// The record becomes that of an image of 32 bytes: a field that becomes another is stored where it stands.
-fn keep(device: &mut Device, image: &[u8])
-    requires { ⌜ length (now image) ≡ 32 ⌝ }
+// The record becomes that of an image: a field that becomes another is stored where it stands, and of the settings each by itself.
+pub fn keep(device: &mut Device, image: &[u8; 32])
     ensures { λ _. ⌜ now (device .exit) ≡ deviceOf (now (image .entry)) ⌝ }
 {
+    renewal::put_settings(&mut device.alternates, image);
     let was = *device;
-    let next = records::load(image);
+    let next = records::laid(image);
     if was.state != next.state {
         device.state = next.state;
     }
@@ -149,9 +160,6 @@ fn keep(device: &mut Device, image: &[u8])
     if was.toggles != next.toggles {
         device.toggles = next.toggles;
     }
-    if moved(was, next) {
-        device.alternates = next.alternates;
-    }
 }
 
 // The step on a record that is lent, by its image.
@@ -162,6 +170,6 @@ pub fn step_lent(number: u8, device: &mut Device, set: &[u8], serial: &[u8], eve
     let mut image = [0u8; 32];
     records::store(*device, &mut image[..]);
     let answer = reply(number, set, serial, &mut image[..], event);
-    keep(device, &image[..]);
+    keep(device, &image);
     answer
 }
