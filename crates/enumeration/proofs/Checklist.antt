@@ -13,7 +13,7 @@ use borrow.Author.Tests.{le-leb, lt-leb, eq-eqb, ne-eqb, eqb-true, eqb-false, le
 use Rattle.octets.specs.Sentences.{pick, _⇒_, every, any, member, isSome, isEmpty}
 use Rattle.octets.specs.Sentences as words
 use Rattle.octets.proofs.Sentences.{cases, both, if-then, neither, every-member, member-any, first-some}
-use Rattle.octets.proofs.Counting.{at-beyond}
+use Rattle.octets.proofs.Counting.{none-some, at-beyond}
 use Rattle.descriptors.specs.declared.Setting.{Setting}
 use Rattle.descriptors.specs.declared.Endpoint.{Endpoint}
 use Rattle.descriptors.specs.Configuration.{Configuration, configurationOf, bConfigurationValue, hasInterface, hasSetting}
@@ -38,35 +38,21 @@ use Rattle.events.specs.declared.facts.Located.the-variants.{Nowhere}
 use Rattle.events.specs.Answer.{gives}
 use Rattle.events.specs.Answer as events
 use Rattle.events.specs.Requests as requests
-use Rattle.events.specs.Requests.{namesTestMode, isEndpointZero, locate}
-use Rattle.events.specs.Step.{goodReset, step, answerSetup, request, asksTestMode, refusalFor}
+use Rattle.events.specs.Requests.{locate}
+use Rattle.events.specs.Step.{goodReset, step, answerSetup, request, asksTestMode}
 use Rattle.events.specs.Step as steps
+use Rattle.laws.proofs.Recipients.{test-code}
 use Rattle.promises.specs.Sound.{sound}
 use Rattle.enumeration.specs.Script.{Seen, Line, line, reading, done, seenOf, Plays, Ready, ask, getDescriptor, setAddress, setConfiguration, setInterface, getInterface, setHalt, getEndpointStatus, busReset, statusEnd}
 use Rattle.enumeration.specs.Bodies.{configurationBody, stringBody}
 use Rattle.enumeration.specs.Checklist.{Stalls, Answers, Does, getConfiguration, getDeviceStatus, getInterfaceStatus, setWakeup, clearWakeup, Descriptors, Addresses, Configurations, Statuses, Halts, Wakeups, Interfaces, Others, Checklist}
-use Rattle.enumeration.proofs.Asking.{asked, stated, past, gets}
+use Rattle.enumeration.proofs.Asking.{raw, asked, other-code, other-kind, stated, lets, stops, gets}
 use Rattle.enumeration.proofs.Found.{few, many, configurationEntry}
 use Rattle.enumeration.proofs.Located.{high-byte, low-byte}
 use Rattle.enumeration.proofs.Playing.{ready, played, next}
 use Rattle.enumeration.proofs.Reading.{Reads, referenceByte, languageWord, readsDevice, readsConfiguration, readsZero, readsString}
 use Rattle.enumeration.proofs.OtherSpeed.{readsQualifier, readsOther}
 use Rattle.enumeration.proofs.Settings.{everySetting, everyEndpoint}
-
-abbrev raw : ℕ → ℕ → ℕ → ℕ → ℕ → Setup
-raw kind code value index size = record { bmRequestType = kind; bRequest = code; wValue = value; wIndex = index; wLength = size }
-
--- ---- a setup that asks for no test mode is judged by the table alone
-module _ (b : Board) (ok : accepted b ≡ true) {d : Device} (r : Ready b d) (s : Setup) (unasked : asksTestMode (isSome (b .high)) s ≡ false) where
-  plain : refusalFor (isSome (b .high)) d s ≡ refusal (d .state) s
-  plain = rw unasked refl
-
-  lets : refusal (d .state) s ≡ 0 → step b d (Request s) ≡ request (viewAt b d) (settled d) s
-  lets p = past b ok d (r .fit) (r .calm) s (plain ∙ p)
-
-  stops : (n : ℕ) → refusal (d .state) s ≡ n → eqb n 0 ≡ false → step b d (Request s) ≡ events.refused n (settled d)
-  unfolding step answerSetup viewOf
-  stops n p z = let q = plain ∙ p in rw (ok, r .fit, r .calm, q, z) refl
 
 -- one step of a test
 just : {b : Board} {d left : Device} {e : Event} {a : Answer} {s : Seen} → step b d e ≡ gives a left → seenOf b (d .speed) a ≡ s → Plays b d (line e s ∷ []) left
@@ -81,9 +67,9 @@ two p = just p refl
 answers : {b : Board} {d : Device} {e : Event} {bytes : List ℕ} → Reads b d e bytes → Answers b d e bytes
 answers x = just (x .steps) (x .sees)
 
--- a code that is no SET_FEATURE's
-other-code : (paired : Bool) (s : Setup) → eqb (s .bRequest) 3 ≡ false → asksTestMode paired s ≡ false
-other-code paired s e = ap (λ (t : Bool). namesTestMode paired s && eqb (s .bmRequestType) 0x00 && t) e ∙ and-false (namesTestMode paired s && eqb (s .bmRequestType) 0x00)
+has-feature : rowOf (raw 0x00 0x03 0 0 0) ≡ some (getD table 4 (record { kind = 0; code = 0; value = 0; index = 0; string = 0; shortest = 0; longest = 0; lowest = 0; highest = 0 }))
+unfolding words.first
+has-feature = refl
 
 -- every row but SET_ADDRESS's and GET_DESCRIPTOR's is for Address or Configured
 late-rows : every (λ (y : Row). (eqb (y .code) 0x05 || eqb (y .code) 0x06) || leb 1 (y .lowest)) table ≡ true
@@ -106,7 +92,7 @@ module _ (b : Board) (octets : BytesOf b) (ok : accepted b ≡ true) (d : Device
   set = setAt b d
 
   most : d .state ≤ 2
-  most = stated b ok d (r .fit) (r .calm)
+  most = stated b ok r
 
   -- ---- descriptors
   beyond : (i : ℕ) → bNumConfigurations (deviceBody set) ≤ i → i < 256 → (w : ℕ) → locate v (asked 2 i 0 w) ≡ Nowhere
@@ -126,7 +112,7 @@ module _ (b : Board) (octets : BytesOf b) (ok : accepted b ≡ true) (d : Device
       rw (high-byte kind index i, three, two, one, six, seven) refl
 
   nowhere : (kind index : ℕ) → kind < 256 → index < 256 → (w : ℕ) → w ≤ 65535 → locate v (asked kind index 0 w) ≡ Nowhere → Stalls b d (getDescriptor kind index 0 w) 13
-  nowhere kind index k i w l p = stall (gets b ok d (r .fit) (r .calm) kind index 0 w k i (omega arith) l (inr refl) ∙ ap (requests.describe (settled d) w) p)
+  nowhere kind index k i w l p = stall (gets b ok r kind index 0 w k i (omega arith) l (inr refl) ∙ ap (requests.describe (settled d) w) p)
 
   -- a language that is not listed is the first one
   first-listed : isEmpty (languages set) ≡ false → List·Memᴰ (getD (languages set) 0 0) (languages set)
@@ -162,9 +148,9 @@ module _ (b : Board) (octets : BytesOf b) (ok : accepted b ≡ true) (d : Device
       let its = first-listed l in
       let x = readsString b octets ok r index first m z its w t in
       let two = languageWord set (bytesFor b (d .speed) octets) first its in
-      just (gets b ok d (r .fit) (r .calm) 3 index language w (omega arith) small s t (inl refl)
+      just (gets b ok r 3 index language w (omega arith) small s t (inl refl)
       ∙ ap (requests.describe (settled d) w) (as-first index language z small n l w)
-      ∙ sym (gets b ok d (r .fit) (r .calm) 3 index (getD (languages set) 0 0) w (omega arith) small two t (inl refl)) ∙ x .steps) (x .sees)
+      ∙ sym (gets b ok r 3 index (getD (languages set) 0 0) w (omega arith) small two t (inl refl)) ∙ x .steps) (x .sees)
 
   descriptors : Descriptors b d
   descriptors = record {
@@ -194,7 +180,7 @@ module _ (b : Board) (octets : BytesOf b) (ok : accepted b ≡ true) (d : Device
 
     applied : step b waiting statusEnd ≡ events.done (withAddress (pick (eqb a 0) inDefault inAddress) a (settled d))
     unfolding step steps.statusEnd
-    applied = rw (ok, at-waiting .fit, ne-eqb a 255 (λ p. omega arith), lt-leb 128 a (omega arith)) refl
+    applied = rw (ok, at-waiting .fit, ne-eqb a 255 (λ p. omega arith), lt-leb 129 a (omega arith)) refl
 
   addresses : Addresses b d
   unfolding refusal words.first
@@ -222,7 +208,7 @@ module _ (b : Board) (octets : BytesOf b) (ok : accepted b ≡ true) (d : Device
     unfolding refusal request requests.getConfiguration words.first
     tells left p k still fast =
         let at = ready octets ok (setConfiguration (left .configuration)) r p (ap (leb 2) fast ∙ r .calm) in
-        lets b ok at (raw 0x80 0x08 0 0 1) (other-code (isSome (b .high)) (raw 0x80 0x08 0 0 1) refl) (upper (left .state) (stated b ok left (at .fit) (at .calm)) k _)
+        lets b ok at (raw 0x80 0x08 0 0 1) (other-code (isSome (b .high)) (raw 0x80 0x08 0 0 1) refl) (upper (left .state) (stated b ok at) k _)
         ∙ ap (gives (OneByte (left .configuration))) still
 
     module _ (i : ℕ) (there : i < bNumConfigurations (deviceBody set)) where
@@ -280,7 +266,7 @@ module _ (b : Board) (octets : BytesOf b) (ok : accepted b ≡ true) (d : Device
 
     halts-at : (a : ℕ) → a ≤ 65535 → step b d (setHalt a) ≡ requests.endpointFeature requests.setHalt v (settled d) (raw 0x02 0x03 0 a 0)
     unfolding refusal request requests.setFeature words.first
-    halts-at a s = lets b ok r (raw 0x02 0x03 0 a 0) (ap (λ (t : Bool). t && true) (and-false (namesTestMode (isSome (b .high)) (raw 0x02 0x03 0 a 0)))) (upper (d .state) most l _ ∙ rw (le-leb a 65535 s) refl)
+    halts-at a s = lets b ok r (raw 0x02 0x03 0 a 0) (other-kind (isSome (b .high)) (raw 0x02 0x03 0 a 0) refl) (upper (d .state) most l _ ∙ rw (le-leb a 65535 s) refl)
 
     -- SET_FEATURE and CLEAR_FEATURE of remote wakeup
     woken : step b d setWakeup ≡ requests.deviceFeature 1 v (settled d) (raw 0x00 0x03 1 0 0)
@@ -388,8 +374,12 @@ module _ (b : Board) (octets : BytesOf b) (ok : accepted b ≡ true) (d : Device
 
   -- ---- requests that are not there
   unknown-request : (s : Setup) → rowOf s ≡ none → step b d (Request s) ≡ events.refused 10 (settled d)
-  unfolding step answerSetup viewOf refusal
-  unknown-request s n = rw (ok, r .fit, r .calm, n) refl
+  unfolding refusal
+  unknown-request s n = stops b ok r s (cases (asksTestMode (isSome (b .high)) s) (λ t. absurd (known s n (test-code (isSome (b .high)) s t))) (λ t. t)) 10 (rw n refl) refl
+    where
+      -- the table has a row for SET_FEATURE of a device
+      known : (s : Setup) → rowOf s ≡ none → (s .bmRequestType ≡ 0x00) × (s .bRequest ≡ 0x03) → ⊥
+      known s n (k, c) = none-some (sym (rw (k, c) at n) ∙ has-feature)
 
   late-row : (s : Setup) (x : Row) → rowOf s ≡ some x → (eqb (s .bRequest) 0x05 || eqb (s .bRequest) 0x06) ≡ false → leb (x .lowest) 0 ≡ false
   late-row s x p n =
@@ -405,7 +395,7 @@ module _ (b : Board) (octets : BytesOf b) (ok : accepted b ≡ true) (d : Device
   in-default z s x p n = rw (p, z, late-row s x p n) refl
 
   resets : (speed : ℕ) → goodReset (isSome (b .high)) speed ≡ true → step b d (busReset speed) ≡ events.done (afterReset speed d)
-  unfolding step viewOf
+  unfolding step
   resets speed g = rw (ok, r .fit, g, r .calm) refl
 
   others : Others b d

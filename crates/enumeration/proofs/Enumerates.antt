@@ -10,7 +10,7 @@ use lib.Dec.{eqb, leb}
 use borrow.Author.Tests.{le-leb, lt-leb, eq-eqb, ne-eqb, eqb-true}
 use Rattle.octets.specs.Sentences.{pick, only, upTo, isSome, isEmpty}
 use Rattle.octets.specs.Sentences as words
-use Rattle.octets.proofs.Sentences.{cases, both, either, member-any, only-member}
+use Rattle.octets.proofs.Sentences.{both, either, member-any, only-member}
 use Rattle.descriptors.specs.Configuration.{Configuration, configurationOf, wTotalLength, bConfigurationValue}
 use Rattle.sets.specs.Device.{deviceBody, bNumConfigurations}
 use Rattle.sets.specs.Strings.{languages, references, isNonzero}
@@ -35,7 +35,7 @@ use Rattle.enumeration.specs.Script.{Line, line, reading, done, Plays, g
 use Rattle.enumeration.specs.Bodies.{configurationBody, pieceBody, stringBody}
 use Rattle.enumeration.specs.Enumeration.{deviceLines, configurationLines, otherSpeed, otherConfiguration, otherLines, zeroLines, stringLine, stringLines, addressedLines, enumeration, ending, enumerationByTransfers, enumerated}
 use Rattle.enumeration.specs.Enumerates.{Enumerates, EnumeratesByTransfers}
-use Rattle.enumeration.proofs.Asking.{past}
+use Rattle.enumeration.proofs.Asking.{raw, other-code, lets}
 use Rattle.enumeration.proofs.Found.{eighteen, configurationEntry, wholeLength, nineBytes, twoByteLength}
 use Rattle.enumeration.proofs.Located.{zeroAt}
 use Rattle.enumeration.proofs.Playing.{Stays, ready, played, next, each, all-members, all-below, all-append, all-map, all-flat}
@@ -159,7 +159,7 @@ module _ (b : Board) (octets : BytesOf b) (ok : accepted b ≡ true) where
     calm = calm-speed (isSome (b .high)) speed good
 
     by-reset : step b d (busReset speed) ≡ events.done reset
-    unfolding step viewOf
+    unfolding step
     by-reset = rw (ok, from .fit, good, from .calm) refl
 
     at-reset : Ready b reset
@@ -167,18 +167,14 @@ module _ (b : Board) (octets : BytesOf b) (ok : accepted b ≡ true) where
 
     by-address : step b reset (setAddress a) ≡ events.done waits
     unfolding refusal request requests.setAddress words.first
-    by-address =
-        let l = le-leb a 127 high in
-        let n = ne-eqb (a / 256) 3 (λ z. omega arith) in
-        past b ok reset (at-reset .fit) calm (record { bmRequestType = 0x00; bRequest = 0x05; wValue = a; wIndex = 0; wLength = 0 })
-        (cases (isSome (b .high)) (λ p. cases (eqb a 2) (λ q. rw (p, q, l, n) refl) (λ q. rw (p, q, l, n) refl)) (λ p. rw (p, l, n) refl))
+    by-address = lets b ok at-reset (raw 0x00 0x05 a 0 0) (other-code (isSome (b .high)) (raw 0x00 0x05 a 0 0) refl) (rw (le-leb a 127 high, ne-eqb (a / 256) 3 (λ z. omega arith)) refl)
 
     at-waits : Ready b waits
     at-waits = ready octets ok (setAddress a) at-reset by-address calm
 
     by-status : step b waits statusEnd ≡ events.done addressed
     unfolding step steps.statusEnd
-    by-status = rw (ok, at-waits .fit, ne-eqb a 255 (λ p. omega arith), lt-leb 128 a (omega arith), ne-eqb a 0 (λ p. omega arith)) refl
+    by-status = rw (ok, at-waits .fit, ne-eqb a 255 (λ p. omega arith), lt-leb 129 a (omega arith), ne-eqb a 0 (λ p. omega arith)) refl
 
     at-addressed : Ready b addressed
     at-addressed = ready octets ok statusEnd at-waits by-status calm
@@ -196,12 +192,8 @@ module _ (b : Board) (octets : BytesOf b) (ok : accepted b ≡ true) where
     by-configuration =
         let (l, h) = value-range in
         let has : hasValue (record { 0 = value }) (viewFor b speed .configurations) ≡ true = member-any (λ (x : Configuration). eqb (x .value) value) listed (eq-eqb value value refl) in
-        let v = le-leb value 255 (omega arith) in
-        let n = ne-eqb (value / 256) 3 (λ z. omega arith) in
-        let z = ne-eqb value 0 (λ z. omega arith) in
-        past b ok addressed (at-addressed .fit) calm (record { bmRequestType = 0x00; bRequest = 0x09; wValue = value; wIndex = 0; wLength = 0 })
-        (cases (isSome (b .high)) (λ p. cases (eqb value 2) (λ q. rw (p, q, v, n) refl) (λ q. rw (p, q, v, n) refl)) (λ p. rw (p, v, n) refl))
-        ∙ rw (z, has) refl
+        lets b ok at-addressed (raw 0x00 0x09 value 0 0) (other-code (isSome (b .high)) (raw 0x00 0x09 value 0 0) refl) (rw (le-leb value 255 (omega arith), ne-eqb (value / 256) 3 (λ z. omega arith)) refl)
+        ∙ rw (ne-eqb value 0 (λ z. omega arith), has) refl
 
     pub enumeratedReady : Ready b (enumerated speed a value d)
     enumeratedReady = ready octets ok (setConfiguration value) at-addressed by-configuration calm

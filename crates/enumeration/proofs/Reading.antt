@@ -93,7 +93,7 @@ module _ (b : Board) (octets : BytesOf b) (ok : accepted b ≡ true) {d : Device
         → Reads b d (getDescriptor kind index language size) (take size body)
     from-set offset long body p q = record {
       answer = SetPart offset (min long size);
-      steps = gets b ok d (r .fit) (r .calm) kind index language size k i l s at ∙ ap (describe (settled d) size) p;
+      steps = gets b ok r kind index language size k i l s at ∙ ap (describe (settled d) size) p;
       sees = ap reading (cut-part set offset long size ∙ ap (take size) (sym q));
     }
 
@@ -131,7 +131,7 @@ module _ (b : Board) (octets : BytesOf b) (ok : accepted b ≡ true) {d : Device
     readsString size s = cases (eqb index (iSerialNumber (deviceBody set)))
         (λ p. record {
           answer = SerialPart (min (length (b .serial)) size);
-          steps = gets b ok d (r .fit) (r .calm) 3 index language size (omega arith) small two-bytes s (inl refl)
+          steps = gets b ok r 3 index language size (omega arith) small two-bytes s (inl refl)
               ∙ ap (describe (settled d) size) (locatedSerial b ok (d .speed) index language refers nonzero listed small p size);
           sees = rw p (ap reading (cut-part (b .serial) 0 (length (b .serial)) size ∙ ap (take size) (take-all (length (b .serial)) (b .serial) (omega arith))));
         })

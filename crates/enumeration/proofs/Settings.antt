@@ -25,7 +25,6 @@ use Rattle.sets.specs.Sound.{SoundConfiguration}
 use Rattle.records.specs.declared.Device.{Device}
 use Rattle.records.specs.Device.{inConfigured, settled}
 use Rattle.records.specs.Current.{setAt, viewAt, selected, currentEndpoints, endpointAt}
-use Rattle.requests.specs.declared.Setup.{Setup}
 use Rattle.requests.specs.Table.{refusal}
 use Rattle.events.specs.Answer.{gives}
 use Rattle.events.specs.Answer as events
@@ -36,11 +35,8 @@ use Rattle.laws.proofs.Keeping.{soundSelected}
 use Rattle.promises.specs.Sound.{sound}
 use Rattle.enumeration.specs.Script.{Ready, setInterface, getInterface, setHalt, clearHalt, getEndpointStatus}
 use Rattle.enumeration.specs.Works.{afterSelecting, afterHalting, Chosen, Mended, EverySetting, EveryEndpoint}
-use Rattle.enumeration.proofs.Asking.{past}
+use Rattle.enumeration.proofs.Asking.{raw, other-code, other-kind, lets}
 use Rattle.enumeration.proofs.Playing.{ready, played, next}
-
-abbrev raw : ℕ → ℕ → ℕ → ℕ → ℕ → Setup
-raw kind code value index size = record { bmRequestType = kind; bRequest = code; wValue = value; wIndex = index; wLength = size }
 
 eqb-turn : (x y : ℕ) → eqb x y ≡ eqb y x
 eqb-turn x y = cases (eqb x y) (λ p. p ∙ sym (eq-eqb y x (sym (eqb-true x y p)))) (λ p. p ∙ sym (ne-eqb y x (λ z. eqb-false x y p (sym z))))
@@ -69,8 +65,7 @@ module _ (b : Board) (octets : BytesOf b) (ok : accepted b ≡ true) {d : Device
         let y = le-leb (s .alternate) 65535 (omega arith) in
         let n = ne-eqb (s .alternate / 256) 3 (λ z. omega arith) in
         let h : hasSetting (selected v d) (s .interface) (s .alternate) ≡ true = member-any (λ (t : Setting). eqb (t .interface) (s .interface) && eqb (t .alternate) (s .alternate)) m (joined (eq-eqb (s .interface) (s .interface) refl) (eq-eqb (s .alternate) (s .alternate) refl)) in
-        past b ok d (r .fit) (r .calm) (raw 0x01 0x0B (s .alternate) (s .interface) 0)
-        (cases (isSome (b .high)) (λ p. cases (eqb (s .alternate) 2) (λ q. rw (p, q, configured, n, x, y) refl) (λ q. rw (p, q, configured, n, x, y) refl)) (λ p. rw (p, configured, n, x, y) refl))
+        lets b ok r (raw 0x01 0x0B (s .alternate) (s .interface) 0) (other-code (isSome (b .high)) (raw 0x01 0x0B (s .alternate) (s .interface) 0) refl) (rw (configured, n, x, y) refl)
         ∙ rw h refl
 
     pub selectingReady : Ready b (afterSelecting b d s)
@@ -83,8 +78,7 @@ module _ (b : Board) (octets : BytesOf b) (ok : accepted b ≡ true) {d : Device
         let z = r .sized .sixteen in
         let x = le-leb (s .interface) 65535 (omega arith) in
         let h : hasInterface (selected v d) (s .interface) ≡ true = member-any (λ (t : Setting). eqb (t .interface) (s .interface)) m (eq-eqb (s .interface) (s .interface) refl) in
-        past b ok withIt (selectingReady .fit) (r .calm) (raw 0x81 0x0A 0 (s .interface) 1)
-        (cases (isSome (b .high)) (λ p. rw (p, configured, x) refl) (λ p. rw (p, configured, x) refl))
+        lets b ok selectingReady (raw 0x81 0x0A 0 (s .interface) 1) (other-code (isSome (b .high)) (raw 0x81 0x0A 0 (s .interface) 1) refl) (rw (configured, x) refl)
         ∙ rw (h, getD-set-same (d .alternates) (s .interface) (s .alternate) 0 (omega arith)) refl
 
     chosen : Chosen b d s
@@ -147,8 +141,7 @@ module _ (b : Board) (octets : BytesOf b) (ok : accepted b ≡ true) {d : Device
     unfolding refusal request requests.setFeature words.first
     halts-it =
         let x = le-leb (e .address) 65535 small in
-        past b ok d (r .fit) (r .calm) (raw 0x02 0x03 0 (e .address) 0)
-        (cases (isSome (b .high)) (λ p. rw (p, configured, x) refl) (λ p. rw (p, configured, x) refl))
+        lets b ok r (raw 0x02 0x03 0 (e .address) 0) (other-kind (isSome (b .high)) (raw 0x02 0x03 0 (e .address) 0) refl) (rw (configured, x) refl)
         ∙ rw (not-zero, found, can) refl
 
     at-halted : Ready b halted
@@ -158,16 +151,14 @@ module _ (b : Board) (octets : BytesOf b) (ok : accepted b ≡ true) {d : Device
     unfolding refusal request requests.getStatus words.first
     tells-halt =
         let x = le-leb (e .address) 65535 small in
-        past b ok halted (at-halted .fit) (r .calm) (raw 0x82 0x00 0 (e .address) 2)
-        (cases (isSome (b .high)) (λ p. rw (p, configured, x) refl) (λ p. rw (p, configured, x) refl))
+        lets b ok at-halted (raw 0x82 0x00 0 (e .address) 2) (other-kind (isSome (b .high)) (raw 0x82 0x00 0 (e .address) 2) refl) (rw (configured, x) refl)
         ∙ rw (not-zero, found, can, set-same (d .halts) k) refl
 
     clears-it : step b halted (clearHalt (e .address)) ≡ events.done cleared
     unfolding refusal request requests.clearFeature words.first
     clears-it =
         let x = le-leb (e .address) 65535 small in
-        past b ok halted (at-halted .fit) (r .calm) (raw 0x02 0x01 0 (e .address) 0)
-        (cases (isSome (b .high)) (λ p. rw (p, configured, x) refl) (λ p. rw (p, configured, x) refl))
+        lets b ok at-halted (raw 0x02 0x01 0 (e .address) 0) (other-kind (isSome (b .high)) (raw 0x02 0x01 0 (e .address) 0) refl) (rw (configured, x) refl)
         ∙ rw (not-zero, found, can) refl
 
     at-cleared : Ready b cleared
@@ -177,8 +168,7 @@ module _ (b : Board) (octets : BytesOf b) (ok : accepted b ≡ true) {d : Device
     unfolding refusal request requests.getStatus words.first
     tells-cleared =
         let x = le-leb (e .address) 65535 small in
-        past b ok cleared (at-cleared .fit) (r .calm) (raw 0x82 0x00 0 (e .address) 2)
-        (cases (isSome (b .high)) (λ p. rw (p, configured, x) refl) (λ p. rw (p, configured, x) refl))
+        lets b ok at-cleared (raw 0x82 0x00 0 (e .address) 2) (other-kind (isSome (b .high)) (raw 0x82 0x00 0 (e .address) 2) refl) (rw (configured, x) refl)
         ∙ rw (not-zero, found, can, clear-same (halted .halts) k) refl
 
     mended : Mended b d e

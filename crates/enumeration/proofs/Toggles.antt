@@ -3,7 +3,7 @@ use Prim.Native.Nat.{ℕ, _+_, _*_, _-_, _≤_, _<_}
 use native.Mathlib.Omega.{arith}
 use mathlib.Core.Path.{_≡_, refl, sym, ap, subst, _∙_}
 use mathlib.Core.Logic.{_⊎_, inl, inr}
-use mathlib.Core.List.{List, [], _∷_, List·Memᴰ}
+use mathlib.Core.List.{List, [], _∷_, List·Memᴰ, List·Memᴰ·not-nil}
 use mathlib.Core.Bool.{Bool, true, false, _&&_, _||_, not, and-false, false≢true}
 use mathlib.Core.Option.{Option, some, none}
 use lib.ListN.{getD, set}
@@ -19,10 +19,10 @@ use Rattle.descriptors.specs.declared.Endpoint.{Endpoint}
 use Rattle.descriptors.specs.Configuration.{Configuration, hasInterface, hasSetting, isCurrent, canHalt, bitOf, cleared, ofEither}
 use Rattle.descriptors.proofs.EndpointBits.{atBit, cleared-digit}
 use Rattle.sets.specs.Opening.{Board, BytesOf}
-use Rattle.sets.specs.View.{View, accepted, byValue, viewOf, hasValue, wakes}
+use Rattle.sets.specs.View.{View, accepted, unconfigured, byValue, hasValue, wakes}
 use Rattle.sets.specs.Sound.{SoundConfiguration}
 use Rattle.records.specs.declared.Device.{Device}
-use Rattle.records.specs.Device.{inAddress, inConfigured, nothing, atHighSpeed, fresh, afterReset, testWaiting, testWaits, inTestMode, enterTestMode, awake, settled, withEndpoints, Sized}
+use Rattle.records.specs.Device.{inDefault, inAddress, inConfigured, nothing, atHighSpeed, fresh, afterReset, testWaiting, testWaits, inTestMode, enterTestMode, awake, settled, withAddress, withEndpoints, Sized}
 use Rattle.records.specs.Current.{setAt, viewFor, viewAt, selected, currentEndpoints, endpointAt}
 use Rattle.records.specs.Fits.{fitsOn}
 use Rattle.requests.specs.declared.Setup.{Setup}
@@ -36,13 +36,13 @@ use Rattle.events.specs.declared.facts.Located.{Located}
 use Rattle.events.specs.declared.facts.Located.the-variants.{Body, Serial, Nowhere}
 use Rattle.events.specs.Answer.{numberOf, done}
 use Rattle.events.specs.Requests.{byRecipient, isEndpointZero, deviceFeature, namesTestMode, testSelector, setDeviceFeature, interfaceFeature, endpointFeature, endpointStatus, haltFeature, clearHalt, setHalt, locate, describe, withSetting, getStatus, clearFeature, setFeature, setAddress, getDescriptor, getConfiguration, setConfiguration, getInterface, setInterface}
-use Rattle.events.specs.Step.{request, stateFor, setupFor, refusalFor, answerSetup, statusEnd, goodReset, haltAt, halt, passAt, packetPassed, respond, step}
+use Rattle.events.specs.Step.{request, asksTestMode, refusalFor, answerSetup, statusEnd, goodReset, haltAt, halt, passAt, packetPassed, respond, step}
 use Rattle.order.specs.Run.{log}
 use Rattle.laws.proofs.Fitting.{fitting}
 use Rattle.laws.proofs.Homes.{at-home, cleared-other}
 use Rattle.laws.proofs.Keeping.{soundSelected}
 use Rattle.laws.proofs.Outcomes.{chosen}
-use Rattle.laws.proofs.Recipients.{let-through, table-passes}
+use Rattle.laws.proofs.Recipients.{let-through, test-code, table-passes}
 use Rattle.promises.specs.Keeps.{freshFit, stepFits}
 use Rattle.promises.specs.Rearranged.{nextOf, after}
 use Rattle.promises.specs.Sound.{sound}
@@ -54,16 +54,26 @@ use Rattle.enumeration.specs.Toggles.{Book, newBook, inSetting, notesSet
 
 -- ---- books and records that agree, and a record that is another only in what no toggle hangs on
 module _ (b : Board) where
-  alike : {h : Book} {d x : Device} → Agrees b h d → x .speed ≡ d .speed → x .configuration ≡ d .configuration → x .alternates ≡ d .alternates → x .toggles ≡ d .toggles → Agrees b h x
-  alike {h} {d} {x} a s c l t = record {
+  alike : {h : Book} {d x : Device} → Agrees b h d → x .speed ≡ d .speed → x .state ≡ d .state → x .configuration ≡ d .configuration → x .alternates ≡ d .alternates → x .toggles ≡ d .toggles → Agrees b h x
+  alike {h} {d} {x} a s w c l t = record {
     speed = a .speed ∙ sym s;
     configuration = a .configuration ∙ sym c;
-    toggles = λ e m can. rw t (a .toggles e (rw (s, c, l) at m) can);
+    toggles = λ e m can. rw t (a .toggles e (rw (s, w, c, l) at m) can);
   }
+
+  -- outside Configured there is no endpoint
+  outside : {h : Book} {d x : Device} → Agrees b h d → x .speed ≡ d .speed → x .configuration ≡ d .configuration → eqb (x .state) inConfigured ≡ false → Agrees b h x
+  unfolding only
+  outside {h} {d} {x} a s c n = record { speed = a .speed ∙ sym s; configuration = a .configuration ∙ sym c; toggles = λ e m can. absurd (List·Memᴰ·not-nil (rw n at m)) }
 
   -- no toggle is up on either side
   all-down : (h : Book) (d : Device) → h .speed ≡ d .speed → h .configuration ≡ d .configuration → ((k : ℕ) → h .toggles k ≡ false) → d .toggles ≡ 0 → Agrees b h d
   all-down h d s c t z = record { speed = s; configuration = c; toggles = λ e m can. t (bitOf (e .address)) ∙ sym (ap (λ w. bit w (bitOf (e .address))) z ∙ bit-zero (bitOf (e .address))) }
+
+-- outside Configured there is no setting
+no-setting : (j a : ℕ) → hasSetting unconfigured j a ≡ true → ⊥
+unfolding any
+no-setting j a t = false≢true t
 
 -- the table has no other codes
 abbrev coded : ℕ → Bool
@@ -91,8 +101,8 @@ module _ (b : Board) (h : Book) (d : Device) (sized : Sized d) (good : SoundConf
     quiet : Agrees b (notesSetup b h s) d
     quiet = rw same a
 
-    changed : {x : Device} → x .speed ≡ d .speed → x .configuration ≡ d .configuration → x .alternates ≡ d .alternates → x .toggles ≡ d .toggles → Agrees b (notesSetup b h s) x
-    changed w x y z = rw same (alike b a w x y z)
+    changed : {x : Device} → x .speed ≡ d .speed → x .state ≡ d .state → x .configuration ≡ d .configuration → x .alternates ≡ d .alternates → x .toggles ≡ d .toggles → Agrees b (notesSetup b h s) x
+    changed v w x y z = rw same (alike b a v w x y z)
 
     status : Kept (getStatus v d s)
     unfolding getStatus
@@ -105,7 +115,7 @@ module _ (b : Board) (h : Book) (d : Device) (sized : Sized d) (good : SoundConf
         at (some e) = quiet
 
     of-device : (on : ℕ) → Kept (deviceFeature on v d s)
-    of-device on = chosen Kept (eqb (s .wValue) 1 && wakes v) (λ e. changed refl refl refl refl) (λ e. a)
+    of-device on = chosen Kept (eqb (s .wValue) 1 && wakes v) (λ e. changed refl refl refl refl refl) (λ e. a)
 
     of-interface : Kept (interfaceFeature v d s)
     of-interface = chosen Kept (hasInterface (selected v d) (s .wIndex)) (λ e. a) (λ e. a)
@@ -114,12 +124,12 @@ module _ (b : Board) (h : Book) (d : Device) (sized : Sized d) (good : SoundConf
     unfolding setFeature
     setting = chosen Kept (eqb (recipient s) 0)
         (λ e. chosen Kept (namesTestMode (v .paired) s)
-        (λ n. chosen Kept (eqb (d .speed) atHighSpeed && leb 1 (testSelector s) && leb (testSelector s) 5) (λ e. changed refl refl refl refl) (λ e. a)) (λ n. of-device 1))
+        (λ n. chosen Kept (eqb (d .speed) atHighSpeed && leb 1 (testSelector s) && leb (testSelector s) 5) (λ e. changed refl refl refl refl refl) (λ e. a)) (λ n. of-device 1))
         (λ e. chosen Kept (eqb (recipient s) 1) (λ e. of-interface) (λ e. chosen Kept (isEndpointZero (s .wIndex)) (λ e. a) (λ e. at (endpointAt v d (s .wIndex)))))
       where
         at : (o : Option Endpoint) → Kept (haltFeature setHalt d s o)
         at none = a
-        at (some x) = chosen Kept (eqb (s .wValue) 0 && canHalt x) (λ e. changed refl refl refl refl) (λ e. a)
+        at (some x) = chosen Kept (eqb (s .wValue) 0 && canHalt x) (λ e. changed refl refl refl refl refl) (λ e. a)
 
     descriptor : Kept (getDescriptor v d s)
     unfolding getDescriptor
@@ -222,11 +232,11 @@ module _ (b : Board) (h : Book) (d : Device) (sized : Sized d) (good : SoundConf
         eleven = eqb-true (s .bRequest) 0x0B c
 
         -- the host's configuration is the selected one
-        its : byValue (record { 0 = h .configuration }) (viewFor b (h .speed) .configurations) ≡ selected v d
-        its = rw (a .speed, a .configuration) refl
+        its : hasSetting (selected v d) j chosenSetting ≡ true → byValue (record { 0 = h .configuration }) (viewFor b (h .speed) .configurations) ≡ selected v d
+        its t = cases (eqb (d .state) inConfigured) (λ c. rw (a .speed, a .configuration, c) refl) (λ c. absurd (no-setting j chosenSetting (rw c at t)))
 
         noted : hasSetting (selected v d) j chosenSetting ≡ true → Agrees b (notesSetup b h s) (withSetting v d j chosenSetting)
-        noted t = rw (eleven, its) (record { speed = a .speed; configuration = a .configuration; toggles = at })
+        noted t = rw (eleven, its t) (record { speed = a .speed; configuration = a .configuration; toggles = at })
           where
             small : j < 16
             small =
@@ -257,7 +267,7 @@ module _ (b : Board) (h : Book) (d : Device) (sized : Sized d) (good : SoundConf
       chosen Kept (eqb (s .bRequest) 0x00) (λ e. status (unnoted 0x00 e refl refl refl))
       (λ e0. chosen Kept (eqb (s .bRequest) 0x01) (λ e. clearing e)
       (λ e1. chosen Kept (eqb (s .bRequest) 0x03) (λ e. setting (unnoted 0x03 e refl refl refl))
-      (λ e3. chosen Kept (eqb (s .bRequest) 0x05) (λ e. changed (unnoted 0x05 e refl refl refl) refl refl refl refl)
+      (λ e3. chosen Kept (eqb (s .bRequest) 0x05) (λ e. changed (unnoted 0x05 e refl refl refl) refl refl refl refl refl)
       (λ e5. chosen Kept (eqb (s .bRequest) 0x06) (λ e. descriptor (unnoted 0x06 e refl refl refl))
       (λ e6. chosen Kept (eqb (s .bRequest) 0x08) (λ e. quiet (unnoted 0x08 e refl refl refl))
       (λ e8. chosen Kept (eqb (s .bRequest) 0x09) (λ e. configuration e)
@@ -267,9 +277,11 @@ module _ (b : Board) (h : Book) (d : Device) (sized : Sized d) (good : SoundConf
     where
       last : eqb (s .bRequest) 0x00 ≡ false → eqb (s .bRequest) 0x01 ≡ false → eqb (s .bRequest) 0x03 ≡ false → eqb (s .bRequest) 0x05 ≡ false → eqb (s .bRequest) 0x06 ≡ false
           → eqb (s .bRequest) 0x08 ≡ false → eqb (s .bRequest) 0x09 ≡ false → eqb (s .bRequest) 0x0A ≡ false → eqb (s .bRequest) 0x0B ≡ true
-      last e0 e1 e3 e5 e6 e8 e9 eA =
-          let (r, m, k, c, i, f) = let-through (stateFor (v .paired) d s) (setupFor (v .paired) s) p in
-          rw (e0, e1, e3, e5, e6, e8, e9, eA) at (rw c at (every-member (λ r. coded (r .code)) {xs = table} all-coded m))
+      last e0 e1 e3 e5 e6 e8 e9 eA = cases (asksTestMode (v .paired) s)
+          (λ t. absurd (false≢true (sym e3 ∙ eq-eqb (s .bRequest) 0x03 (test-code (v .paired) s t .1))))
+          (λ t.
+          let (r, m, k, c, i, f) = let-through (d .state) s (rw t at p) in
+          rw (e0, e1, e3, e5, e6, e8, e9, eA) at (rw c at (every-member (λ r. coded (r .code)) {xs = table} all-coded m)))
 
 -- ---- every event
 -- a book agrees with a record, or a test mode was entered, in which nothing is heard any more
@@ -285,24 +297,17 @@ module _ (b : Board) (octets : BytesOf b) (ok : accepted b ≡ true) (h : Book) 
 
   module _ (a : Agrees b h d) where
     -- a test mode that waits is entered
-    enters : eqb (d .waiting) nothing ≡ false → leb (testWaiting 0) (d .waiting) ≡ true → inTestMode (enterTestMode d) ≡ true
-    enters w t =
-        let m = waits (either (eqb (d .waiting) nothing || (leb (d .waiting) 127 && not (inTestMode d))) (testWaits d && eqb (d .speed) atHighSpeed) (fitting (viewAt b d) d fit .common .waiting)) in
+    enters : testWaits d ≡ true → inTestMode (enterTestMode d) ≡ true
+    enters t =
+        let m = leb-true 129 (d .waiting) (both (leb 129 (d .waiting)) (leb (d .waiting) 133) t .0) in
         le-leb 2 (1 + 16 * (d .waiting - 128)) (omega arith)
-      where
-        low : (eqb (d .waiting) nothing ≡ true) ⊎ ((leb (d .waiting) 127 && not (inTestMode d)) ≡ true) → 129 ≤ d .waiting
-        low (inl p) = absurd (false≢true (sym w ∙ p))
-        low (inr p) =
-            let l = leb-true (d .waiting) 127 (both (leb (d .waiting) 127) (not (inTestMode d)) p .0) in
-            let m = leb-true 128 (d .waiting) t in
-            omega arith
 
-        waits : ((eqb (d .waiting) nothing || (leb (d .waiting) 127 && not (inTestMode d))) ≡ true) ⊎ ((testWaits d && eqb (d .speed) atHighSpeed) ≡ true) → 129 ≤ d .waiting
-        waits (inl p) = low (either (eqb (d .waiting) nothing) (leb (d .waiting) 127 && not (inTestMode d)) p)
-        waits (inr p) = leb-true 129 (d .waiting) (both (leb 129 (d .waiting)) (leb (d .waiting) 133) (both (testWaits d) (eqb (d .speed) atHighSpeed) p .0) .0)
+    -- an address is applied outside Configured
+    applied : Fine b h (withAddress (pick (eqb (d .waiting) 0) inDefault inAddress) (d .waiting) d)
+    applied = inr (outside b a refl refl (cases (eqb (d .waiting) 0) (λ z. rw z refl) (λ z. rw z refl)))
 
-    alike-it : {x : Device} → x .speed ≡ d .speed → x .configuration ≡ d .configuration → x .alternates ≡ d .alternates → x .toggles ≡ d .toggles → Fine b h x
-    alike-it p q r s = inr (alike b a p q r s)
+    alike-it : {x : Device} → x .speed ≡ d .speed → x .state ≡ d .state → x .configuration ≡ d .configuration → x .alternates ≡ d .alternates → x .toggles ≡ d .toggles → Fine b h x
+    alike-it p o q r s = inr (alike b a p o q r s)
 
     passes : (address : ℕ) (o : Option Endpoint) → endpointAt (viewAt b d) d address ≡ o → FineAfter b h (PacketPassed address) (passAt d o)
     passes address none q = inr a
@@ -322,13 +327,13 @@ module _ (b : Board) (octets : BytesOf b) (ok : accepted b ≡ true) (h : Book) 
 
     responds : (e : Event) → FineAfter b h e (respond (viewAt b d) d e)
     unfolding answerSetup statusEnd halt packetPassed
-    responds (Request s) = chosen (FineAfter b h (Request s)) (inTestMode d) (λ t. alike-it refl refl refl refl)
+    responds (Request s) = chosen (FineAfter b h (Request s)) (inTestMode d) (λ t. alike-it refl refl refl refl refl)
         (λ t. chosen (FineAfter b h (Request s)) (eqb (refusalFor (viewAt b d .paired) d s) 0)
-        (λ p. inr (requested b h (settled d) (record { sixteen = sized .sixteen; halts-fit = sized .halts-fit; toggles-fit = sized .toggles-fit }) good-at (alike b a refl refl refl refl) s (eqb-true (refusalFor (viewAt b d .paired) d s) 0 p)))
-        (λ p. rw p (alike-it refl refl refl refl)))
+        (λ p. inr (requested b h (settled d) (record { sixteen = sized .sixteen; halts-fit = sized .halts-fit; toggles-fit = sized .toggles-fit }) good-at (alike b a refl refl refl refl refl) s (eqb-true (refusalFor (viewAt b d .paired) d s) 0 p)))
+        (λ p. rw p (alike-it refl refl refl refl refl)))
     responds Malformed = inr a
     responds StatusEnd = chosen (FineAfter b h StatusEnd) (eqb (d .waiting) nothing) (λ w. inr a)
-        (λ w. chosen (FineAfter b h StatusEnd) (leb (testWaiting 0) (d .waiting)) (λ t. inl (enters w t)) (λ t. alike-it refl refl refl refl))
+        (λ w. chosen (FineAfter b h StatusEnd) (testWaits d) (λ t. inl (enters t)) (λ t. applied))
     responds (BusReset speed) = chosen (FineAfter b h (BusReset speed)) (goodReset (viewAt b d .paired) speed)
         (λ g. chosen (λ (x : Device). Fine b (newBook speed) x) (inTestMode d) (λ t. inl t) (λ t. inr (all-down b (newBook speed) (afterReset speed d) refl refl (λ k. refl) refl)))
         (λ g. inr a)
@@ -336,11 +341,11 @@ module _ (b : Board) (octets : BytesOf b) (ok : accepted b ≡ true) (h : Book) 
       where
         at : (o : Option Endpoint) → FineAfter b h (Halt address) (haltAt d o)
         at none = inr a
-        at (some e) = chosen (FineAfter b h (Halt address)) (canHalt e) (λ t. alike-it refl refl refl refl) (λ t. inr a)
+        at (some e) = chosen (FineAfter b h (Halt address)) (canHalt e) (λ t. alike-it refl refl refl refl refl) (λ t. inr a)
     responds (PacketPassed address) = passes address (endpointAt (viewAt b d) d address) refl
-    responds (Power source) = chosen (FineAfter b h (Power source)) (leb source 1) (λ t. alike-it refl refl refl refl) (λ t. inr a)
-    responds Suspend = alike-it refl refl refl refl
-    responds Resume = alike-it refl refl refl refl
+    responds (Power source) = chosen (FineAfter b h (Power source)) (leb source 1) (λ t. alike-it refl refl refl refl refl) (λ t. inr a)
+    responds Suspend = alike-it refl refl refl refl refl
+    responds Resume = alike-it refl refl refl refl refl
     responds Wake = chosen (FineAfter b h Wake) (eqb (d .suspended) 1 && eqb (d .wakeup) 1) (λ t. inr a) (λ t. inr a)
 
   stepped : (e : Event) → step b d e ≡ respond (viewAt b d) d e
@@ -362,7 +367,7 @@ module _ (b : Board) (octets : BytesOf b) (ok : accepted b ≡ true) where
   in-calm c (inr a) = a
 
   resets : (d : Device) → Ready b d → (speed : ℕ) → goodReset (isSome (b .high)) speed ≡ true → step b d (BusReset speed) ≡ done (afterReset speed d)
-  unfolding step viewOf
+  unfolding step
   resets d r speed g = rw (ok, r .fit, g, r .calm) refl
 
 pub neverDriftFromOpening : NeverDriftFromOpening

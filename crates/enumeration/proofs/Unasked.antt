@@ -10,13 +10,13 @@ use lib.Dec.{eqb, leb}
 use borrow.Author.Tests.{eqb-true, eq-eqb, ne-eqb, leb-true, lt-leb}
 use Rattle.octets.specs.Bit.{bit}
 use Rattle.octets.specs.Sentences.{_⇒_, every, any, isSome}
-use Rattle.octets.proofs.Sentences.{joined, if-then, conjunct, every-member}
+use Rattle.octets.proofs.Sentences.{cases, joined, if-then, conjunct, every-member}
 use Rattle.descriptors.specs.declared.Endpoint.{Endpoint}
 use Rattle.descriptors.specs.Configuration.{hasInterface, hasSetting, canHalt, bitOf}
 use Rattle.sets.specs.Opening.{Board}
 use Rattle.sets.specs.View.{View, accepted, viewOf, wakes}
 use Rattle.records.specs.declared.Device.{Device}
-use Rattle.records.specs.Device.{nothing, testWaiting, inTestMode, settled}
+use Rattle.records.specs.Device.{nothing, inTestMode, settled}
 use Rattle.records.specs.Current.{viewAt, selected, endpointAt}
 use Rattle.records.specs.Fits.{fitsOn}
 use Rattle.requests.specs.declared.Setup.{Setup}
@@ -28,9 +28,9 @@ use Rattle.events.specs.declared.Outcome.{Outcome}
 use Rattle.events.specs.declared.facts.Located.{Located}
 use Rattle.events.specs.declared.facts.Located.the-variants.{Body, Serial, Nowhere}
 use Rattle.events.specs.Requests.{byRecipient, isEndpointZero, deviceFeature, namesTestMode, setDeviceFeature, interfaceFeature, endpointFeature, endpointStatus, haltFeature, clearHalt, setHalt, locate, describe, getStatus, clearFeature, setFeature, setAddress, getDescriptor, getConfiguration, setConfiguration, getInterface, setInterface}
-use Rattle.events.specs.Step.{request, asksTestMode, stateFor, setupFor, refusalFor, answerSetup, statusEnd, goodReset, haltAt, halt, passAt, packetPassed, respond, step}
+use Rattle.events.specs.Step.{request, asksTestMode, refusalFor, answerSetup, statusEnd, goodReset, haltAt, halt, passAt, packetPassed, respond, step}
 use Rattle.laws.proofs.Outcomes.{chosen}
-use Rattle.laws.proofs.Recipients.{let-through}
+use Rattle.laws.proofs.Recipients.{let-through, table-judges}
 use Rattle.enumeration.specs.Unasked.{asksForTest}
 use Rattle.enumeration.proofs.Enumerates.{calm-speed}
 
@@ -77,20 +77,20 @@ module _ (v : View) (d : Device) (s : Setup) (calm : inTestMode d ≡ false) (w 
   -- SET_FEATURE that the table lets through has type 0, 1 or 2: so one of a device that names the test mode asks for it
   asked-for : eqb (s .bRequest) 0x03 ≡ true → eqb (recipient s) 0 ≡ true → namesTestMode (v .paired) s ≡ true → asksTestMode (v .paired) s ≡ true
   unfolding every
-  asked-for c z n =
-      let (r, m, k, x, i, f) = let-through (stateFor (v .paired) d s) (setupFor (v .paired) s) p in
+  asked-for c z n = cases (asksTestMode (v .paired) s) (λ t. t) (λ t.
+      let (r, m, k, x, i, f) = let-through (d .state) s (rw t at p) in
       let code : s .bRequest ≡ 3 = eqb-true (s .bRequest) 3 c in
       let low = leb-true (r .kind) 2 (if-then (eqb (r .code) 3) (leb (r .kind) 2) (every-member (λ r. eqb (r .code) 3 ⇒ leb (r .kind) 2) {xs = table} refl m) (eq-eqb (r .code) 3 (x ∙ code))) in
       let zero : s .bmRequestType % 32 ≡ 0 = eqb-true (recipient s) 0 z in
-      joined (joined n (eq-eqb (s .bmRequestType) 0 (omega (arith, k, low)))) c
+      joined (joined n (eq-eqb (s .bmRequestType) 0 (omega (arith, k, low)))) c)
 
   in-address : eqb (s .bRequest) 0x05 ≡ true → s .wValue ≤ 127
   unfolding every
   in-address c =
-      let (r, m, k, x, i, f) = let-through (stateFor (v .paired) d s) (setupFor (v .paired) s) p in
       let code : s .bRequest ≡ 5 = eqb-true (s .bRequest) 5 c in
+      let (r, m, k, x, i, f) = let-through (d .state) s (table-judges (v .paired) d s code refl p) in
       let low = leb-true (r .value) 127 (if-then (eqb (r .code) 5) (leb (r .value) 127) (every-member (λ r. eqb (r .code) 5 ⇒ leb (r .value) 127) {xs = table} refl m) (eq-eqb (r .code) 5 (x ∙ code))) in
-      let fits = leb-true (s .wValue) (r .value) (conjunct 0 (leb (s .wValue) (r .value) ∷ leb (setupFor (v .paired) s .wIndex) (largestIndex r (s .wValue)) ∷ leb (r .shortest) (s .wLength) ∷ leb (s .wLength) (r .longest) ∷ []) f) in
+      let fits = leb-true (s .wValue) (r .value) (conjunct 0 (leb (s .wValue) (r .value) ∷ leb (s .wIndex) (largestIndex r (s .wValue)) ∷ leb (r .shortest) (s .wLength) ∷ leb (s .wLength) (r .longest) ∷ []) f) in
       omega arith
 
   setting : eqb (s .bRequest) 0x03 ≡ true → Keeps (setFeature v d s)
@@ -140,7 +140,7 @@ module _ (b : Board) (d : Device) (q : Peaceful d) where
     where
       go : (d .waiting ≡ nothing) ⊎ (d .waiting ≤ 127) → Keeps (statusEnd d)
       go (inl w) = rw (eq-eqb (d .waiting) nothing w) q
-      go (inr w) = rw (ne-eqb (d .waiting) nothing (λ z. omega arith), lt-leb (testWaiting 0) (d .waiting) (omega arith)) (record { calm = q .calm; waits = inl refl })
+      go (inr w) = rw (ne-eqb (d .waiting) nothing (λ z. omega arith), lt-leb 129 (d .waiting) (omega arith)) (record { calm = q .calm; waits = inl refl })
 
   responds : (e : Event) → asksForTest (viewAt b d .paired) e ≡ false → Keeps (respond (viewAt b d) d e)
   unfolding answerSetup halt packetPassed

@@ -13,7 +13,7 @@ use Rattle.descriptors.specs.Configuration.{canHalt, bitOf}
 use Rattle.sets.specs.Opening.{Board, BytesOf}
 use Rattle.sets.specs.View.{accepted}
 use Rattle.records.specs.declared.Device.{Device}
-use Rattle.records.specs.Device.{nothing, testWaiting}
+use Rattle.records.specs.Device.{nothing, testWaits}
 use Rattle.records.specs.Image.{deviceOf, imageOf}
 use Rattle.records.specs.Current.{viewAt, endpointAt}
 use Rattle.records.specs.Fits.{fitsOn}
@@ -66,7 +66,7 @@ module _ (b : Board) (d : Device) where
 
   silent : (h : Happening) → Silent (step b d (happened h))
   unfolding statusEnd halt packetPassed
-  silent endOfStatus = stepped StatusEnd (chosen Silent (eqb (d .waiting) nothing) (λ p. refl) (λ p. chosen Silent (leb (testWaiting 0) (d .waiting)) (λ p. refl) (λ p. refl)))
+  silent endOfStatus = stepped StatusEnd (chosen Silent (eqb (d .waiting) nothing) (λ p. refl) (λ p. chosen Silent (testWaits d) (λ p. refl) (λ p. refl)))
   silent toFull = stepped (BusReset 0) refl
   silent suspend = stepped Suspend refl
   silent resume = stepped Resume refl
