@@ -1,7 +1,7 @@
 /* unwritten [EVENTS]: only bytes that differ are written. Each random event is done on an ordinary image and record first; then again on an image that lies
  * across the border of two pages, cut anywhere, of which each is read-only if none of its bytes is to become another: a write there ends the test. Where the event
- * changes nothing, both pages are read-only. The same again at a port, whose record lies across the border, and by hk_record_event, which stores its record field by
- * field: there the cut lies between two fields, of which the sixteen settings are one.
+ * changes nothing, both pages are read-only. The same again at a port and by hk_record_event, whose record lies across the border: it is aligned, so that it is cut
+ * at every fourth byte, between its settings too. Of its halts and of its toggles, four bytes each, all four are written where one becomes another.
  *
  * The calls that change nothing must come up: GET_STATUS, refusals with 7, 8, 9, 16 and 19, a status end with nothing waiting, opening what is fresh already. */
 #define _DEFAULT_SOURCE
@@ -66,7 +66,6 @@ static void count(const struct event *event, const hk_answer *answer) {
 }
 
 static void at_event(const struct event *event) {
-    static const uint8_t borders[] = {0, 4, 8, 24, 28, 32}; /* the record's alignment is 4 */
     uint8_t before[HK_IMAGE_LENGTH], *copy;
     hk_answer expected, answer;
     memcpy(before, image, sizeof before);
@@ -78,11 +77,11 @@ static void at_event(const struct event *event) {
     answer = on_image(copy, event);
     agree("an image", &expected, &answer, copy, image);
     call = "hk_port_event";
-    copy = lay(before, image, 4 * below(HK_IMAGE_LENGTH / 4 + 1));
+    copy = lay(before, image, 4 * below(HK_IMAGE_LENGTH / 4 + 1)); /* the record's alignment is 4 */
     answer = at_port((hk_record *)copy, event);
     agree("a port's record", &expected, &answer, copy, image);
     call = "hk_record_event";
-    copy = lay(before, image, borders[below(sizeof borders)]);
+    copy = lay(before, image, 4 * below(HK_IMAGE_LENGTH / 4 + 1));
     answer = on_record((hk_record *)copy, event);
     agree("a record", &expected, &answer, copy, image);
     if (memcmp(before, image, sizeof before) == 0)
