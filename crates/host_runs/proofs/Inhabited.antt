@@ -12,7 +12,7 @@ use Rattle.descriptors.specs.Limits.{fullSpeed}
 use Rattle.sets.specs.Device.{deviceBody, bNumConfigurations}
 use Rattle.sets.specs.Pieces.{Piece}
 use Rattle.sets.specs.Opening.{Board, lent}
-use Rattle.set_writer.specs.Pieces as stream
+use Rattle.set_writer.specs.Writer as stream
 use Rattle.maker_promises.specs.WrittenExample.{assembled, pieces}
 use Rattle.records.specs.Device.{inTestMode}
 use Rattle.records.specs.Image.{deviceOf, imageOf}

@@ -23,13 +23,13 @@ abbrev pub seenGiven : Given → Seen
 seenGiven (number n) = record { number = n; reads = [] }
 seenGiven (handed n bytes count shown spot) = record { number = n; reads = reply bytes count shown }
 
--- ---- the packets of a reply to a setup, by some cutter that meets hk_packet's statement: the numbers that it gave, the bytes and their places
+-- ---- the packets of a reply to a setup, by some cutter that meets hk_packet's statement for every packet number that C can pass: the numbers that it gave, the bytes and their places
 pub record Cut (b : Board) (image asked bytes : List ℕ) : Type 0 where
   pub at : Spot
   pub numbers : ℕ → ℕ
   pub packets : ℕ → List ℕ
   pub places : ℕ → Spot
-  pub meets : (k : ℕ) → CutsPacket bytes at (setupOf asked .wLength) (packetSize b image) k (numbers k) (packets k) (places k)
+  pub meets : (k : ℕ) → k < 4294967296 → CutsPacket bytes at (setupOf asked .wLength) (packetSize b image) k (numbers k) (packets k) (places k)
 
 -- how many there are; they are the reply: those below the count put together, each given, every later one refused with 15
 abbrev pub many : {b : Board} {image asked bytes : List ℕ} → Cut b image asked bytes → ℕ
@@ -38,7 +38,7 @@ many {b} {image} {asked} {bytes} c = count (length bytes) (setupOf asked .wLengt
 pub record Arrives {b : Board} {image asked bytes : List ℕ} (c : Cut b image asked bytes) : Type 0 where
   pub together : flatMap (c .packets) (upTo (many c)) ≡ bytes
   pub given : (k : ℕ) → k < many c → c .numbers k ≡ 0
-  pub past : (k : ℕ) → many c ≤ k → c .numbers k ≡ 15
+  pub past : (k : ℕ) → k < 4294967296 → many c ≤ k → c .numbers k ≡ 15
 
 -- what a call that tells a setup, hk_setup, or hk_two_event or hk_record_event as event 0, answered, arrives as these bytes, whatever the cutter
 abbrev pub ArriveAs : Board → List ℕ → Call → List ℕ → Type 0

@@ -123,7 +123,7 @@ module _ (stream serial : List ℕ) (asked : List ℕ) {index language : ℕ} (a
       (λ t. chosen (λ (o : Outcome). Says speed (o .answer)) (eqb (refusalFor (v .paired) d s) 0) (λ n. requested (settled d) speed) (λ n. refuses speed (refusalFor (v .paired) d s) (eqb-false (refusalFor (v .paired) d s) 0 n)))
 
   stepped : (d : Device) (speed : ℕ) → Says speed (step b d (Request s) .answer)
-  unfolding step
+  unfolding step viewOf
   stepped d speed = chosen (λ (o : Outcome). Says speed (o .answer)) (accepted b)
       (λ p. chosen (λ (o : Outcome). Says speed (o .answer)) (fitsOn b d) (λ f. answered d speed) (λ f. refuses speed 8 (λ z. omega arith)))
       (λ p. refuses speed 7 (λ z. omega arith))

@@ -5,10 +5,9 @@ use mathlib.Core.Bool.{true}
 use mathlib.Core.List.{List, reverse}
 use Rattle.descriptors.specs.Limits.{fullSpeed}
 use Rattle.sets.specs.Opening.{Board, lent}
-use Rattle.sets.specs.View.{viewOf}
 use Rattle.octets.specs.Octets.{Bytes}
 use Rattle.records.specs.declared.Device.{Device}
-use Rattle.records.specs.Fits.{fits}
+use Rattle.records.specs.Fits.{fitsOn}
 use Rattle.records.specs.Device.{Sized}
 use Rattle.events.specs.declared.Event.{Event}
 use Rattle.set_writer.specs.Stream.{streamOf}
@@ -32,7 +31,7 @@ module _ (stream serial : List ℕ) (room : ℕ) (bytes : Bytes stream) (w : wri
   writtenFits = reachedFits (writtenBoard stream serial) (writtenBytes fullSpeed stream serial room bytes w, tt) (opens fullSpeed stream serial room w)
 
   -- demand 3: the order of two interfaces' events does not matter
-  pub writtenOrder : (d : Device) → Sized d → fits (viewOf (writtenBoard stream serial)) d ≡ true → (xs ys : List Event) → Rearranged (writtenBoard stream serial) d xs ys
+  pub writtenOrder : (d : Device) → Sized d → fitsOn (writtenBoard stream serial) d ≡ true → (xs ys : List Event) → Rearranged (writtenBoard stream serial) d xs ys
       → (after (writtenBoard stream serial) d xs ≡ after (writtenBoard stream serial) d ys) × ((k : ℕ) → heard (writtenBoard stream serial) d k xs ≡ heard (writtenBoard stream serial) d k ys)
   writtenOrder = order (writtenBoard stream serial) (writtenBytes fullSpeed stream serial room bytes w, tt) (opens fullSpeed stream serial room w)
 
