@@ -143,8 +143,8 @@ module _ (b : Board) (image setup : List ℕ) where
   by-test-mode : (d : Device) → testModeRefusal d s ≡ 0 → s .wLength < 65536
   by-test-mode d p = cases (testModeInState d)
       (λ q. cases (testModeFits s)
-        (λ f. let (i, l) = both (eqb (s .wIndex % 256) 0) (eqb (s .wLength) 0) f in omega (arith, eqb-true (s .wLength) 0 l))
-        (λ f. let z : 12 ≡ 0 = rw (q, f) at p in omega (arith, z)))
+      (λ f. let (i, l) = both (eqb (s .wIndex % 256) 0) (eqb (s .wLength) 0) f in omega (arith, eqb-true (s .wLength) 0 l))
+      (λ f. let z : 12 ≡ 0 = rw (q, f) at p in omega (arith, z)))
       (λ q. let z : 11 ≡ 0 = rw q at p in omega (arith, z))
 
   passed : (paired : Bool) (d : Device) → refusalFor paired d s ≡ 0 → s .wLength < 65536

@@ -61,7 +61,7 @@ module _ {stream serial buffer left : List ℕ} {size : ℕ} (wrote : Writes ful
   is-set : take size left ≡ setOf stream
   is-set = ap (λ (k : ℕ). take k left) (wrote .counts) ∙ there (wrote .fills) refl
 
-  bytes-so : Bytes (take size left)
+  pub bytes-so : Bytes (take size left)
   bytes-so = rw is-set (writtenBytes fullSpeed stream serial (length buffer) (wrote .octets) (sym (wrote .fills .number)))
 
 pub readsGiven : ReadsGiven

@@ -2,4 +2,5 @@ pub mod Calls
 pub mod NeverLockedOut
 pub mod Given
 pub mod Replaced
+pub mod AtPorts
 pub mod Inhabited

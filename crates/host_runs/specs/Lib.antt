@@ -2,3 +2,4 @@ pub mod Calls
 pub mod NeverLockedOut
 pub mod Given
 pub mod Replaced
+pub mod AtPorts
