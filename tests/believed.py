@@ -4,7 +4,7 @@ A statement is the `ensures` of an exported function (crates/board/src). What it
 definition, and from there on; of a file only what is really named counts, and a type that code declares counts as its declaration. A
 variable that has a definition's name counts as that: so nothing is left out.
 """
-import os, re
+import os, re, textwrap
 
 from shared import TOP
 
@@ -233,8 +233,8 @@ def table(believed, names, types):
         said = re.split(r"(?<=\w)[.:](?: |$)| \(document", reached[name].first)[0].strip(" .")
         lines.append(f"| `{name}` | {reached[name].size} | {said} |")
     files = [reached[name] for name in names]
-    lines += ["", f"{counted(files)}, and the declarations of {len(types)} types, {sum(types.values())} lines: " + ", ".join(f"`{name}`" for name in sorted(types)) + "."]
-    return "\n".join(lines)
+    declared = f"{counted(files)}, and the declarations of {len(types)} types, {sum(types.values())} lines: "
+    return "\n".join([*lines, "", *textwrap.wrap(declared + ", ".join(f"`{name}`" for name in sorted(types)) + ".", 120)])
 
 
 HEADINGS = ("### For a board's calls", "### For the makers' calls, beyond these")
@@ -248,5 +248,5 @@ def lists(files):
     total = f"Together {counted(both.values())}."
     return {
         HEADINGS[0]: table(board, set(first), board.types),
-        HEADINGS[1]: table(everything, set(both) - set(first), more) + " " + total,
+        HEADINGS[1]: table(everything, set(both) - set(first), more) + "\n" + total,
     }
