@@ -151,6 +151,12 @@ enumeratesHigh = enumerates pair bytesPair acceptedPair (withSpeed 1 configured)
 pub enumeratesFull : Plays pair (withSpeed 1 configured) (enumeration pair 0 7 0) (enumerated 0 7 (bConfigurationValue (configurationBody (setFor pair 0) 0)) (withSpeed 1 configured))
 enumeratesFull = enumerates pair bytesPair acceptedPair (withSpeed 1 configured) onPair 0 refl 7 (omega arith) (omega arith) 0 (omega (arith, onePair .0))
 
+-- and at high speed each of its settings in turn
+pub toursHigh : (let settings = configurationOf (configurationBody (setFor pair 1) 0) .settings in
+    Plays pair (withSpeed 1 configured) (enumeration pair 1 7 0 ++ visiting settings)
+    (afterVisiting pair (enumerated 1 7 (bConfigurationValue (configurationBody (setFor pair 1) 0)) (withSpeed 1 configured)) settings))
+toursHigh = tours pair bytesPair acceptedPair (withSpeed 1 configured) onPair 1 refl 7 (omega arith) (omega arith) 0 (omega (arith, onePair .1))
+
 -- at high speed, what it reads of the other speed: the qualifier, and the configuration with its type 7
 pub otherPair : otherLines (setFor pair 0) ≡
     line (setup 0x8006000600000A00) (reading (bytes 10 0x0A060002000000400100)) ∷

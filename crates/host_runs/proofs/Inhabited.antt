@@ -14,6 +14,7 @@ use Rattle.sets.specs.Pieces.{Piece}
 use Rattle.sets.specs.Opening.{Board, lent}
 use Rattle.set_writer.specs.Writer as stream
 use Rattle.maker_promises.specs.WrittenExample.{assembled, pieces}
+use Rattle.records.specs.declared.Device.{Device}
 use Rattle.records.specs.Device.{inTestMode}
 use Rattle.records.specs.Image.{deviceOf, imageOf}
 use Rattle.records.specs.Current.{setFor}
@@ -28,17 +29,22 @@ use Rattle.enumeration.specs.Script.{does, reading, getDescriptor}
 use Rattle.enumeration.specs.Bodies.{configurationBody}
 use Rattle.enumeration.specs.Enumeration.{enumeration, enumerated}
 use Rattle.enumeration.specs.Unasked.{asksForTest}
-use Rattle.board.specs.Exports.{Opens}
+use Rattle.board.specs.Exports.{Opens, Spots}
 use Rattle.board.specs.Makers.{Writes}
-use Rattle.board.specs.Runs.{Call, setup, tell, recordEvent, eventOf, number, handed, Runs, gives, leaves, meets, runs, ends, halt}
+use Rattle.board.specs.Runs.{Call, Given, setup, tell, recordEvent, eventOf, number, handed, Runs, gives, leaves, meets, runs, ends, halt}
 use Rattle.board.specs.Unnoticed.{kept, keptOf, Alike}
 use Rattle.board.specs.InhabitedRuns.{start, opens, configuring, setSpot, lie, doneAlone, configures, wholeRun}
 use Rattle.board.specs.InhabitedTwo.{opensTwo, lieTwo}
+use Rattle.board.specs.InhabitedPorts.{opened, freshSized}
+use Rattle.board.specs.InhabitedPorts as ports
+use Rattle.board.specs.Ports.{RowRuns}
 use Rattle.host_runs.specs.Calls.{seenGiven, PlayedFrom, CalledSince, callOf, callsOf}
 use Rattle.host_runs.specs.NeverLockedOut.{EnumeratesFrom}
 use Rattle.host_runs.specs.Given.{Collects}
 use Rattle.host_runs.proofs.Calls.{areCalled}
-use Rattle.host_runs.proofs.NeverLockedOut.{neverLockedOut, neverLockedOutUnasked}
+use Rattle.host_runs.specs.AtPorts.{OwnDevice}
+use Rattle.host_runs.proofs.NeverLockedOut.{neverLockedOut, neverLockedOutOne, neverLockedOutUnasked}
+use Rattle.host_runs.proofs.AtPorts.{portsAreDevices}
 use Rattle.host_runs.proofs.Given.{readsGiven, collectsWhatIsExported}
 use Rattle.host_runs.proofs.Replaced.{replacedByPage}
 
@@ -107,6 +113,22 @@ bytesSet = octets (take 63 (S .set)) refl
 -- ---- what a host collects of S is what hk_export writes of it
 pub collectsS : Collects (take 63 (S .set)) [] lie freshImage
 collectsS = collectsWhatIsExported (take 63 (S .set)) [] lie bytesSet freshImage sinceS
+
+-- ---- S, written and opened, enumerates
+pub enumeratesS : EnumeratesFrom enumeration written lie freshImage
+enumeratesS = neverLockedOutOne (take 63 (S .set)) [] lie bytesSet freshImage sinceS
+
+-- ---- the second of two titrators at ports, after a run at both: a device of its own
+abbrev titrators : ℕ → Board
+titrators k = T
+
+abbrev spots : ℕ → Spots
+spots k = lie
+
+pub titratorAtPort : {last : List Device} {gs : List Given} → RowRuns titrators spots opened ports.wholeRun gs last → OwnDevice titrators spots 1 last
+unfolding computed
+titratorAtPort {last} {gs} r = portsAreDevices titrators spots 1 bytesT last
+    (record { start = start; row = opened; before = ports.wholeRun; gave = gs; long = refl; opens = ports.opens; sized = freshSized; within = omega arith; run = r })
 
 -- ---- a pair was reset to high speed, and enumerates at either
 abbrev highImage : List ℕ
