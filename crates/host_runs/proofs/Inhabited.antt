@@ -1,17 +1,20 @@
 -- The theorems over runs at work: the titrator T, opened, addressed and configured, enumerates again at another address; S, written and exported; a pair at high speed; a driver of T replaced.
 use Prim.Native.Nat.{ℕ}
 use native.Mathlib.Omega.{arith}
-use mathlib.Core.Path.{_≡_, refl}
+use mathlib.Core.Path.{_≡_, refl, subst}
 use mathlib.Core.List.{List, [], _∷_, _++_, List·Memᴰ, List·Memᴰ·head, List·Memᴰ·tail}
 use mathlib.Core.Bool.{false}
 use lib.ListN.{take, replicate}
 use Rattle.octets.specs.Octets.{Bytes}
-use Rattle.octets.specs.Sentences.{any, isSome}
+use lib.Dec.{eqb}
+use Rattle.octets.specs.Sentences.{pick, any, isSome}
 use Rattle.descriptors.specs.Configuration.{bConfigurationValue}
 use Rattle.descriptors.specs.Limits.{fullSpeed}
 use Rattle.sets.specs.Device.{deviceBody, bNumConfigurations}
-use Rattle.sets.specs.Pieces.{Piece}
-use Rattle.sets.specs.Opening.{Board, lent}
+use Rattle.sets.specs.Pieces.{Piece, piecesIn}
+use Rattle.sets.specs.Opening.{Board, BytesOf, lent, lentTwo}
+use Rattle.set_writer.specs.Stream.{streamOf}
+use Rattle.set_writer.specs.Writer.{setOf}
 use Rattle.set_writer.specs.Writer as stream
 use Rattle.maker_promises.specs.WrittenExample.{assembled, pieces}
 use Rattle.records.specs.declared.Device.{Device}
@@ -22,7 +25,7 @@ use Rattle.order.specs.Run.{run}
 use Rattle.promises.specs.Examples.{computed, bytes, S, T}
 use Rattle.promises.specs.Inhabited.{octets, bytesT}
 use Rattle.promises.specs.InhabitedOrder.{configuredImage}
-use Rattle.promises.specs.Pairs.{pair, bytesPair}
+use Rattle.promises.specs.Pairs.{full, high, pair, bytesPair}
 use Rattle.promises.specs.Refusal.{freshImage}
 use Rattle.promises.specs.Struck.{PageRun}
 use Rattle.enumeration.specs.Script.{does, reading, getDescriptor}
@@ -40,12 +43,12 @@ use Rattle.board.specs.InhabitedPorts as ports
 use Rattle.board.specs.Ports.{RowRuns}
 use Rattle.host_runs.specs.Calls.{seenGiven, PlayedFrom, CalledSince, callOf, callsOf}
 use Rattle.host_runs.specs.NeverLockedOut.{EnumeratesFrom}
-use Rattle.host_runs.specs.Given.{Collects}
+use Rattle.host_runs.specs.Given.{ReadFrom, Collects}
 use Rattle.host_runs.proofs.Calls.{areCalled}
 use Rattle.host_runs.specs.AtPorts.{OwnDevice}
 use Rattle.host_runs.proofs.NeverLockedOut.{neverLockedOut, neverLockedOutOne, neverLockedOutUnasked}
 use Rattle.host_runs.proofs.AtPorts.{portsAreDevices}
-use Rattle.host_runs.proofs.Given.{readsGiven, collectsWhatIsExported}
+use Rattle.host_runs.proofs.Given.{readsGiven, readsGivenTwo, collectsWhatIsExported}
 use Rattle.host_runs.proofs.Replaced.{replacedByPage}
 
 -- ---- computed facts, each by itself
@@ -147,6 +150,39 @@ sincePair = record { start = start; image = freshImage; before = recordEvent 2 1
 
 pub enumeratesPair : EnumeratesFrom enumeration pair lieTwo highImage
 enumeratesPair = neverLockedOutUnasked pair lieTwo bytesPair highImage sincePair unasked
+
+-- ---- the same pair, each set written from its pieces: at high speed the host reads the device_qualifier that the maker gave
+abbrev slow : List ℕ
+slow = streamOf (piecesIn full)
+
+abbrev fast : List ℕ
+fast = streamOf (piecesIn high)
+
+writtenPair : pair ≡ lentTwo (setOf slow) (setOf fast) []
+unfolding assembled streamOf
+writtenPair = refl
+
+abbrev qualifier : Piece
+qualifier = record { kind = 6; index = 0; language = 0; body = bytes 10 0x0A060002000000400100 }
+
+qualifierGiven : List·Memᴰ qualifier (stream.pieces fast)
+unfolding assembled streamOf
+qualifierGiven = List·Memᴰ·tail (List·Memᴰ·tail (List·Memᴰ·head refl))
+
+inUse : deviceOf highImage .speed ≡ 1
+unfolding computed
+inUse = refl
+
+ofTheSetInUse : List·Memᴰ qualifier (stream.pieces (pick (eqb (deviceOf highImage .speed) 0) slow fast))
+ofTheSetInUse = rw inUse qualifierGiven
+
+calmHigh : inTestMode (deviceOf highImage) ≡ false
+unfolding computed
+calmHigh = refl
+
+pub readsQualifier : ReadFrom (lentTwo (setOf slow) (setOf fast) []) lieTwo highImage 6 0 0 64 (bytes 10 0x0A060002000000400100)
+readsQualifier = readsGivenTwo slow fast [] (subst BytesOf writtenPair bytesPair) lieTwo highImage (subst (λ (b : Board). CalledSince b lieTwo highImage) writtenPair sincePair) calmHigh
+    qualifier ofTheSetInUse 64 (omega arith)
 
 -- ---- replacement: interface 0's driver lets a packet pass at 81, or halts 02 twice instead: interface 1's SET_INTERFACE and halt are given the same
 abbrev instead : List Call
