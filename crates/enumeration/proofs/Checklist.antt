@@ -12,21 +12,24 @@ use lib.Dec.{eqb, leb}
 use borrow.Author.Tests.{le-leb, lt-leb, eq-eqb, ne-eqb, eqb-true, eqb-false, leb-true, leb-false}
 use Rattle.octets.specs.Sentences.{pick, _⇒_, every, any, member, isSome, isEmpty}
 use Rattle.octets.specs.Sentences as words
-use Rattle.octets.proofs.Sentences.{cases, both, if-then, neither, every-member, member-any, first-some}
+use Rattle.octets.proofs.Sentences.{cases, both, joined, neither, every-member, member-any, first-some, none-first}
 use Rattle.octets.proofs.Counting.{none-some, at-beyond}
 use Rattle.descriptors.specs.declared.Setting.{Setting}
 use Rattle.descriptors.specs.declared.Endpoint.{Endpoint}
 use Rattle.descriptors.specs.Configuration.{Configuration, configurationOf, bConfigurationValue, hasInterface, hasSetting}
-use Rattle.sets.specs.Contents.{entriesOf, bodyOf}
-use Rattle.sets.specs.Device.{deviceBody, bNumConfigurations, iSerialNumber}
-use Rattle.sets.specs.Strings.{languages, references, isNonzero}
+use Rattle.sets.specs.declared.Entry.{Entry}
+use Rattle.sets.specs.Contents.{entries, entriesOf, bodyOf}
+use Rattle.sets.specs.Pieces.{piecesIn, piecesOf}
+use Rattle.sets.specs.Device.{deviceBody, bNumConfigurations, iSerialNumber, goodDevice}
+use Rattle.sets.specs.Strings.{languages, references, isString, isNonzero}
 use Rattle.sets.specs.Opening.{Board, BytesOf}
 use Rattle.sets.specs.View.{View, accepted, hasValue, viewOf, wakes}
+use Rattle.sets.proofs.Groups.{one-device}
 use Rattle.set_writer.proofs.Accepted.{mapping}
 use Rattle.records.specs.declared.Device.{Device}
 use Rattle.records.specs.Device.{inDefault, inAddress, inConfigured, nothing, afterReset, settled, awake, withSuspended, withWaiting, withWakeup, withAddress, withConfiguration}
 use Rattle.records.specs.Current.{setAt, setFor, viewFor, viewAt, selected, endpointAt}
-use Rattle.records.proofs.InUse.{bytesFor}
+use Rattle.records.proofs.InUse.{rowFor, bytesFor}
 use Rattle.requests.specs.declared.Setup.{Setup}
 use Rattle.requests.specs.declared.Row.{Row}
 use Rattle.requests.specs.Table.{table, rowOf, inState, refusalAt, refusal}
@@ -47,10 +50,12 @@ use Rattle.enumeration.specs.Script.{Seen, Line, line, reading, done, se
 use Rattle.enumeration.specs.Bodies.{configurationBody, stringBody}
 use Rattle.enumeration.specs.Checklist.{Stalls, Answers, Does, getConfiguration, getDeviceStatus, getInterfaceStatus, setWakeup, clearWakeup, Descriptors, Addresses, Configurations, Statuses, Halts, Wakeups, Interfaces, Others, Checklist}
 use Rattle.enumeration.proofs.Asking.{raw, asked, other-code, other-kind, stated, lets, stops, gets}
-use Rattle.enumeration.proofs.Found.{few, many, configurationEntry}
+use Rattle.enumeration.proofs.Found.{rules, many, configurationEntry}
 use Rattle.enumeration.proofs.Located.{high-byte, low-byte}
 use Rattle.enumeration.proofs.Playing.{ready, played, next}
 use Rattle.enumeration.proofs.Reading.{Reads, referenceByte, languageWord, readsDevice, readsConfiguration, readsZero, readsString}
+use Rattle.enumeration.proofs.EveryPiece as EveryPiece
+use Rattle.enumeration.proofs.EveryPiece.{sole-member, of-type}
 use Rattle.enumeration.proofs.OtherSpeed.{readsQualifier, readsOther}
 use Rattle.enumeration.proofs.Settings.{everySetting, everyEndpoint}
 
@@ -111,6 +116,48 @@ module _ (b : Board) (octets : BytesOf b) (ok : accepted b ≡ true) (d : Device
       let (seven, m7) = neither (eqb kind 7) _ m6 in
       rw (high-byte kind index i, three, two, one, six, seven) refl
 
+  -- no entry is of another speed's types where one set is lent
+  one-speed : isSome (b .high) ≡ false → (kind : ℕ) → requests.byIndex kind ≡ true → eqb kind 2 ≡ false → eqb kind 3 ≡ false → eqb 1 kind ≡ false → eqb 2 kind ≡ false → eqb 3 kind ≡ false
+      → (i : ℕ) → i < 256 → (w : ℕ) → locate v (asked kind i 0 w) ≡ Nowhere
+  unfolding locate viewOf
+  one-speed one kind by two three x y z i s w =
+      rw (high-byte kind i s, low-byte kind i s, three, two, by, none-first (requests.isEntry kind i 0) (entries set) (λ e m. other e (EveryPiece.kind b octets ok r e m 0 (omega arith)))) refl
+    where
+      other : (e : Entry) → EveryPiece.Kind (isSome (b .high)) (e .kind) → requests.isEntry kind i 0 e ≡ false
+      other e (EveryPiece.isDevice q) = rw (q, x) refl
+      other e (EveryPiece.isConfiguration q) = rw (q, y) refl
+      other e (EveryPiece.isString q) = rw (q, z) refl
+      other e (EveryPiece.isQualifier t q) = absurd (false≢true (sym one ∙ t))
+      other e (EveryPiece.isOther t q) = absurd (false≢true (sym one ∙ t))
+
+  -- the one device entry has index 0
+  other-device : (i : ℕ) → 1 ≤ i → i < 256 → (w : ℕ) → locate v (asked 1 i 0 w) ≡ Nowhere
+  unfolding locate viewOf
+  other-device i l s w = rw (high-byte 1 i s, low-byte 1 i s, none-first (requests.isEntry 1 i 0) (entries set) (λ e m. at e m)) refl
+    where
+      at : (e : Entry) → List·Memᴰ e (entries set) → requests.isEntry 1 i 0 e ≡ false
+      at e m = cases (eqb (e .kind) 1)
+          (λ q.
+          let device = of-type b octets ok r e m 0 (omega arith) 1 (eqb-true (e .kind) 1 q) in
+          let zero = sole-member (goodDevice (rowFor (b .high) (d .speed)) (length (piecesOf 2 (piecesIn set)))) (piecesOf 1 (piecesIn set)) (one-device _ _ (rules b ok (d .speed))) device .0 in
+          rw (q, ne-eqb (e .index) i (λ n. omega (arith, zero))) refl)
+          (λ q. rw q refl)
+
+  -- a string that has no entry
+  no-string : (index language : ℕ) → 1 ≤ index → index < 256 → eqb index (iSerialNumber (deviceBody set)) ≡ false → member language (languages set) ≡ true
+      → any (isString index language) (piecesOf 3 (piecesIn set)) ≡ false → (w : ℕ) → locate v (asked 3 index language w) ≡ Nowhere
+  unfolding locate viewOf
+  no-string index language l s other m absent w =
+      rw (high-byte 3 index s, low-byte 3 index s, ne-eqb index 0 (λ z. omega arith), m, other, and-false (leb 1 index), none-first (requests.isEntry 3 index language) (entries set) (λ e n. at e n)) refl
+    where
+      at : (e : Entry) → List·Memᴰ e (entries set) → requests.isEntry 3 index language e ≡ false
+      at e n = cases (requests.isEntry 3 index language e)
+          (λ q.
+          let (k, x) = both (eqb (e .kind) 3 && eqb (e .index) index) (eqb (e .language) language) q in
+          let (t, i) = both (eqb (e .kind) 3) (eqb (e .index) index) k in
+          absurd (false≢true (sym absent ∙ member-any (isString index language) (of-type b octets ok r e n 0 (omega arith) 3 (eqb-true (e .kind) 3 t)) (joined i x))))
+          (λ q. q)
+
   nowhere : (kind index : ℕ) → kind < 256 → index < 256 → (w : ℕ) → w ≤ 65535 → locate v (asked kind index 0 w) ≡ Nowhere → Stalls b d (getDescriptor kind index 0 w) 13
   nowhere kind index k i w l p = stall (gets b ok r kind index 0 w k i (omega arith) l (inr refl) ∙ ap (requests.describe (settled d) w) p)
 
@@ -155,13 +202,19 @@ module _ (b : Board) (octets : BytesOf b) (ok : accepted b ≡ true) (d : Device
   descriptors : Descriptors b d
   descriptors = record {
     device = λ w l. answers (readsDevice b octets ok r w l);
+    noDevice = λ i n s w l. nowhere 1 i (omega arith) s w l (other-device i n s w);
     configurations = λ i n w l. answers (readsConfiguration b octets ok r i n w l);
     noConfiguration = λ i n s w l. nowhere 2 i (omega arith) s w l (beyond i n s w);
     stringZero = λ n w l. answers (readsZero b octets ok r n w l);
     strings = λ i x m z n w l. answers (readsString b octets ok r i x m z n w l);
+    noString = λ i x l s o m t n w q. stall (gets b ok r 3 i x w (omega arith) s t q (inl refl) ∙ ap (requests.describe (settled d) w) (no-string i x l s o m n w));
     otherLanguage = in-first;
     qualifier = λ two w l. answers (readsQualifier b octets ok two r w l);
     otherSpeeds = λ two i n w l. answers (readsOther b octets ok two r i n w l);
+    oneSpeed = λ one i s w l. (
+      nowhere 6 i (omega arith) s w l (one-speed one 6 refl refl refl refl refl refl i s w),
+      nowhere 7 i (omega arith) s w l (one-speed one 7 refl refl refl refl refl refl i s w),
+    );
     otherTypes = λ k i m s t w l. nowhere k i s t w l (elsewhere k i m t w);
   }
 

@@ -43,7 +43,7 @@ use Rattle.enumeration.proofs.Reading.{Reads, from-set}
 use Rattle.enumeration.proofs.OtherSpeed.{numbered, agreed}
 
 -- ---- the types of an accepted set's entries
-data Kind (paired : Bool) (k : ℕ) : Type 0 where
+pub data Kind (paired : Bool) (k : ℕ) : Type 0 where
   isDevice : k ≡ 1 → Kind paired k
   isConfiguration : k ≡ 2 → Kind paired k
   isString : k ≡ 3 → Kind paired k
@@ -77,7 +77,7 @@ position : {A : Type 0} {x : A} (l : List A) → List·Memᴰ x l → (i : ℕ) 
 position [] m = absurd (List·Memᴰ·not-nil m)
 position (y ∷ l) m = ⊎-elim (λ p. (0, ap some (sym p))) (λ k. let (i, q) = position l k in (suc i, q)) (List·Memᴰ·cases-cons m)
 
-sole-member : (good : List ℕ → Bool) (ps : List Piece) → sole good ps ≡ true → {p : Piece} → List·Memᴰ p ps → (p .index ≡ 0) × (p .language ≡ 0)
+pub sole-member : (good : List ℕ → Bool) (ps : List Piece) → sole good ps ≡ true → {p : Piece} → List·Memᴰ p ps → (p .index ≡ 0) × (p .language ≡ 0)
 sole-member good [] s m = absurd (List·Memᴰ·not-nil m)
 sole-member good (x ∷ y ∷ ps) s m = absurd (false≢true s)
 sole-member good (x ∷ []) s {p} m =
@@ -102,7 +102,7 @@ module _ (b : Board) (octets : BytesOf b) (ok : accepted b ≡ true) {d : Device
     bounds : (e .index < 256) × (e .language ≤ 65535)
     bounds = entries-small _ (drop 4 set) (drop-bytes 4 set (bytesFor b (d .speed) octets)) m
 
-    kind : Kind (isSome (b .high)) (e .kind)
+    pub kind : Kind (isSome (b .high)) (e .kind)
     unfolding goodContents
     kind =
         let row = rowFor (b .high) (d .speed) in
@@ -110,7 +110,7 @@ module _ (b : Board) (octets : BytesOf b) (ok : accepted b ≡ true) {d : Device
         kind-of (b .high) (d .speed) (e .kind) (every-member (kindAllowed row) all m)
 
     -- its piece is one of its type
-    of-type : (t : ℕ) → e .kind ≡ t → List·Memᴰ (pieceFor set e) (piecesOf t (piecesIn set))
+    pub of-type : (t : ℕ) → e .kind ≡ t → List·Memᴰ (pieceFor set e) (piecesOf t (piecesIn set))
     of-type t k = member-only (kindOf t) (mapping (pieceFor set) m) (eq-eqb (e .kind) t k)
 
     -- ---- by index: types 1, 6 and 7

@@ -7,12 +7,13 @@ use mathlib.Core.Bool.{true, false, _||_}
 use mathlib.Core.Option.{some, none}
 use lib.ListN.{take, getD}
 use lib.Dec.{eqb, leb}
-use Rattle.octets.specs.Sentences.{pick, member, isSome, isEmpty}
+use Rattle.octets.specs.Sentences.{pick, any, member, isSome, isEmpty}
 use Rattle.descriptors.specs.declared.Setting.{Setting}
 use Rattle.descriptors.specs.declared.Endpoint.{Endpoint}
 use Rattle.descriptors.specs.Configuration.{bConfigurationValue, hasInterface, hasSetting, canHalt}
-use Rattle.sets.specs.Device.{deviceBody, bNumConfigurations}
-use Rattle.sets.specs.Strings.{languages, references, isNonzero}
+use Rattle.sets.specs.Pieces.{piecesIn, piecesOf}
+use Rattle.sets.specs.Device.{deviceBody, bNumConfigurations, iSerialNumber}
+use Rattle.sets.specs.Strings.{languages, references, isString, isNonzero}
 use Rattle.sets.specs.Pair.{qualifierOf, retyped}
 use Rattle.sets.specs.Opening.{Board, BytesOf}
 use Rattle.sets.specs.View.{accepted, hasValue, wakes}
@@ -62,19 +63,25 @@ clearWakeup = ask 0x00 0x01 1 0 0
 -- ---- descriptors (9.4.3), in every state and at every wLength: never more than the descriptor, never more than asked
 pub record Descriptors (b : Board) (d : Device) : Type 0 where
   pub device : (w : ℕ) → w ≤ 65535 → Answers b d (getDescriptor 1 0 0 w) (take w (deviceBody (setAt b d)))
+  pub noDevice : (i : ℕ) → 1 ≤ i → i < 256 → (w : ℕ) → w ≤ 65535 → Stalls b d (getDescriptor 1 i 0 w) 13
   pub configurations : (i : ℕ) → i < bNumConfigurations (deviceBody (setAt b d)) → (w : ℕ) → w ≤ 65535 → Answers b d (getDescriptor 2 i 0 w) (take w (configurationBody (setAt b d) i))
   pub noConfiguration : (i : ℕ) → bNumConfigurations (deviceBody (setAt b d)) ≤ i → i < 256 → (w : ℕ) → w ≤ 65535 → Stalls b d (getDescriptor 2 i 0 w) 13
   pub stringZero : isEmpty (languages (setAt b d)) ≡ false → (w : ℕ) → w ≤ 65535 → Answers b d (getDescriptor 3 0 0 w) (take w (pieceBody (setAt b d) 3 0 0))
   pub strings : (index language : ℕ) → List·Memᴰ index (references (setAt b d)) → isNonzero index ≡ true → List·Memᴰ language (languages (setAt b d)) → (w : ℕ) → w ≤ 65535
       → Answers b d (getDescriptor 3 index language w) (take w (stringBody b (d .speed) index language))
+  pub noString : (index language : ℕ) → 1 ≤ index → index < 256 → eqb index (iSerialNumber (deviceBody (setAt b d))) ≡ false → member language (languages (setAt b d)) ≡ true → language ≤ 65535
+      → any (isString index language) (piecesOf 3 (piecesIn (setAt b d))) ≡ false → (w : ℕ) → w ≤ 65535 → Stalls b d (getDescriptor 3 index language w) 13
   -- DEPARTS (document 02, L6): a language that is not listed is answered in the first one; USB 2.0 has the request stalled
   pub otherLanguage : (index language : ℕ) → List·Memᴰ index (references (setAt b d)) → isNonzero index ≡ true → member language (languages (setAt b d)) ≡ false → language ≤ 65535
       → isEmpty (languages (setAt b d)) ≡ false → (w : ℕ) → w ≤ 65535
       → Answers b d (getDescriptor 3 index language w) (take w (stringBody b (d .speed) index (getD (languages (setAt b d)) 0 0)))
-  -- a device of two speeds has both descriptors of the other speed (9.6.2, 9.6.4); INTERFACE, ENDPOINT and every other type is not had by GET_DESCRIPTOR
+  -- a device of two speeds has both descriptors of the other speed (9.6.2, 9.6.4)
   pub qualifier : isSome (b .high) ≡ true → (w : ℕ) → w ≤ 65535 → Answers b d (getDescriptor 6 0 0 w) (take w (qualifierOf (deviceBody (setFor b (otherSpeed (d .speed))))))
   pub otherSpeeds : isSome (b .high) ≡ true → (i : ℕ) → i < bNumConfigurations (deviceBody (setFor b (otherSpeed (d .speed)))) → (w : ℕ) → w ≤ 65535
       → Answers b d (getDescriptor 7 i 0 w) (take w (retyped (configurationBody (setFor b (otherSpeed (d .speed))) i)))
+  -- a device of one speed stalls both
+  pub oneSpeed : isSome (b .high) ≡ false → (i : ℕ) → i < 256 → (w : ℕ) → w ≤ 65535 → Stalls b d (getDescriptor 6 i 0 w) 13 × Stalls b d (getDescriptor 7 i 0 w) 13
+  -- INTERFACE, ENDPOINT and every other type is not had by GET_DESCRIPTOR
   pub otherTypes : (kind index : ℕ) → member kind (1 ∷ 2 ∷ 3 ∷ 6 ∷ 7 ∷ []) ≡ false → kind < 256 → index < 256 → (w : ℕ) → w ≤ 65535 → Stalls b d (getDescriptor kind index 0 w) 13
 
 -- ---- addresses (9.4.6)
