@@ -1,28 +1,30 @@
 -- Document 02, L5, over exported calls one after the other: export of what import wrote, import of what export wrote. No axiom.
-use Prim.Native.Nat.{ℕ, _≤_, _<_}
+use Prim.Native.Nat.{ℕ, _+_, _*_, _≤_, _<_}
 use mathlib.Core.Path.{_≡_, refl, sym, ap, _∙_}
-use native.Mathlib.Omega.{arith}
-use mathlib.Core.Bool.{Bool, true, false, not}
+use mathlib.Core.Bool.{true}
 use mathlib.Core.List.{List, []}
 use lib.ListN.{length, take, drop}
 use lib.Dec.{eqb, leb, ltb}
-use borrow.Author.Tests.{eqb-true, eq-eqb, lt-ltb}
+use borrow.Author.Tests.{eqb-true, eq-eqb, lt-ltb, le-ltb}
 use Rattle.octets.specs.Sentences.{pick, every}
 use Rattle.octets.proofs.Sentences.{cases}
 use Rattle.descriptors.specs.Limits.{fullSpeed}
-use Rattle.sets.specs.Contents.{entries}
+use Rattle.sets.specs.Contents.{entries, bodies}
 use Rattle.sets.specs.Opening.{lent, opening}
 use Rattle.sets.specs.Pieces.{piecesIn}
 use Rattle.sets.specs.Strings.{references}
 use Rattle.set_writer.specs.Writer.{laid, opensAs}
-use Rattle.set_writer.proofs.Filling.{there, behind, untouched}
-use Rattle.dumps.specs.Dump.{splits, zeroed, imported, tooLarge, importing, exported, exporting}
+use Rattle.set_writer.proofs.Filling.{there, behind}
+use Rattle.dumps.specs.Dump.{splits, zeroed, imported, exported}
 use Rattle.dumps.specs.Import.{Accepted}
 use Rattle.dumps.specs.Export.{own}
-use Rattle.maker_promises.specs.Returned.{accepted, accepts, again, sameLength, exports, twice, exportedSplits}
+use Rattle.maker_promises.specs.Returned.{accepted, accepts, again, sameLength, exports, twice, exportedSplits, noReferences, zeroedPieces, importedSet, importedPieces, importedSize, importedOpens, importedNumber}
 use Rattle.maker_promises.specs.Returned as returned
 use Rattle.maker_laws.proofs.DumpHome.{back as home-pieces}
+use Rattle.promises.specs.Refusal.{freshImage}
+use Rattle.board.specs.Exports.{Opens}
 use Rattle.board.specs.Makers.{Takes, Dumps}
+use Rattle.board.specs.Runs as runs
 
 -- ---- hk_import gave 0
 module _ {dump buffer set : List ℕ} {written : ℕ} (i : Takes dump buffer 0 set written) where
@@ -87,15 +89,37 @@ module _ {set serial buffer dumped : List ℕ} {many : ℕ} (x : Dumps set seria
     is-imported : n ≡ 0 → take written left ≡ imported (exported set)
     is-imported z = let e : written ≡ length (imported (exported set)) = i .counts ∙ rw z in ap (λ (k : ℕ). take k left) e ∙ there (i .fills) z
 
-    -- it splits, so import never gives 23
-    pub splitsAgain : n ≡ 23 → ⊥
-    splitsAgain p = no-23 (tooLarge (exported set)) (opensAs fullSpeed (imported (exported set)) []) (ltb (length room) (length (imported (exported set)))) (sym (rw (exportedSplits set serial opens) at (i .fills .number)) ∙ p)
-      where
-        no-23 : (a b c : Bool) → pick {A = ℕ} a 21 (pick (not b) 21 (pick c 22 0)) ≡ 23 → ⊥
-        no-23 true b c q = omega arith
-        no-23 false false c q = omega arith
-        no-23 false true true q = omega arith
-        no-23 false true false q = omega arith
+    number-is : n ≡ pick (ltb (length room) (length (imported (exported set)))) 22 0
+    number-is = i .fills .number ∙ importedNumber set serial opens (length room)
+
+    -- it gives 0 and the set of the zeroed device and configurations, without strings, if the buffer holds that; what lies behind stays
+    pub broughtBack : length (laid (zeroedPieces set)) ≤ length room
+        → (n ≡ 0) × (written ≡ length (laid (zeroedPieces set))) × (take written left ≡ laid (zeroedPieces set)) × (drop written left ≡ drop written room)
+    broughtBack h =
+        let e = importedSet set serial opens in
+        let z : n ≡ 0 = number-is ∙ rw (e, le-ltb (length room) (length (laid (zeroedPieces set))) h) in
+        let w : written ≡ length (imported (exported set)) = i .counts ∙ rw z in
+        (z, w ∙ ap length e, is-imported z ∙ e, rw w (behind (i .fills) z))
+
+    -- else 22, and nothing is written
+    pub broughtShort : length room < length (laid (zeroedPieces set)) → (n ≡ 22) × (written ≡ 0) × (left ≡ room)
+    broughtShort h =
+        let z : n ≡ 22 = number-is ∙ rw (importedSet set serial opens, lt-ltb (length room) (length (laid (zeroedPieces set))) h) in
+        (z, i .counts ∙ rw z, i .fills .bytes ∙ rw z)
+
+    -- how long it is
+    pub broughtSize : length (laid (zeroedPieces set)) ≡ 4 + 8 * (1 + length (bodies 2 set)) + many
+    broughtSize = ap length (sym (importedSet set serial opens)) ∙ importedSize set serial opens ∙ rw (x .counts)
+
+    -- it holds those pieces and no other, and no reference
+    pub broughtPieces : n ≡ 0 → (piecesIn (take written left) ≡ zeroedPieces set) × (every (λ r. eqb r 0) (references (take written left)) ≡ true)
+    broughtPieces z = rw (is-imported z) (importedPieces set serial opens, noReferences (exported set) (importedOpens set serial opens))
+
+    -- and hk_open takes it with an empty serial block
+    pub broughtOpens : n ≡ 0 → {start image : List ℕ} {m : ℕ} → length start ≡ 32 → Opens (lent (take written left) []) start m image → (m ≡ 0) × (image ≡ freshImage)
+    broughtOpens z long o =
+        let (_, accepts, last) = runs.opening long o in
+        (accepts (rw (is-imported z) (importedOpens set serial opens)), last)
 
     -- a set without references: its device and its configurations come back, if the buffer holds them
     module _ (none : every (λ r. eqb r 0) (references set) ≡ true) where

@@ -1,7 +1,7 @@
 -- The calls at work, by computing: S written and opened, T trimmed and asked, a dump taken in and given back, and a broken set explained.
 use Prim.Native.Nat.{ℕ, _/_}
 use native.Mathlib.Omega.{arith}
-use mathlib.Core.Path.{_≡_, refl, sym, ap, _∙_}
+use mathlib.Core.Path.{_≡_, refl, sym, _∙_}
 use mathlib.Core.Bool.{true, false}
 use mathlib.Core.List.{List, [], _∷_}
 use lib.ListN.{length, take, replicate}
@@ -9,14 +9,16 @@ use Rattle.descriptors.specs.Limits.{fullSpeed}
 use Rattle.sets.specs.Opening.{lent}
 use Rattle.records.specs.Image.{imageOf}
 use Rattle.events.specs.Step.{setupEvent}
-use Rattle.dumps.specs.Dump.{zeroed}
+use Rattle.set_writer.specs.Writer.{laid}
+use Rattle.dumps.specs.Dump.{zeroed, exported}
 use Rattle.trimming.specs.Trim.{trimmed, padded}
-use Rattle.promises.specs.Examples.{bytes, computed, S, T}
+use Rattle.promises.specs.Examples.{bytes, piece, device, configuration, interface, endpoint, computed, S, T}
 use Rattle.promises.specs.Bench.{stands}
 use Rattle.promises.specs.Inhabited.{octets, configured}
 use Rattle.promises.specs.Refusal.{freshImage}
 use Rattle.maker_laws.specs.TrimRequests.{asksDropped}
 use Rattle.maker_promises.specs.WrittenExample.{assembled, pieces}
+use Rattle.maker_promises.specs.Returned.{zeroedPieces}
 use Rattle.maker_promises.specs.ReturnedExample.{parted, dump}
 use Rattle.maker_promises.specs.TrimmedExample.{trimming, askTwo, askFive}
 use Rattle.board.specs.Exports.{Opens, Spots}
@@ -24,7 +26,7 @@ use Rattle.board.specs.Makers.{Writes, Takes, Dumps, Shortens, Tells}
 use Rattle.board.specs.Runs.{Call, setup, tell, statusEnd, Given, Runs}
 use Rattle.maker_calls.specs.Trimmed.{Alike, sameRuns}
 use Rattle.maker_calls.specs.Explained.{FirstBroken, explains}
-use Rattle.maker_calls.specs.Dumped.{givenBack, wholeSet}
+use Rattle.maker_calls.specs.Dumped.{givenBack, broughtBack, broughtShort, broughtOpens, wholeSet}
 use Rattle.maker_calls.specs.Written.{writtenOpens}
 
 -- ---- L1: S, written from its two pieces into 63 bytes
@@ -74,6 +76,44 @@ exportsS = record { fills = record { number = refl; bytes = refl }; counts = ref
 pub homeS : {place : List ℕ} {n written : ℕ} → Takes (take 43 (zeroed dump)) (replicate 63 0) n place written → (n ≡ 0) × (written ≡ 63) × (take written place ≡ S .set)
 unfolding parted
 homeS i = wholeSet exportsS i refl refl (omega arith)
+
+-- ---- L5, of a set with strings: T, whose device has references 1 to 3, its configuration 1 and two of its settings 2, given out into 117 bytes
+abbrev dumpT : List ℕ
+dumpT = exported (T .set)
+
+pub exportsT : Dumps (T .set) (T .serial) (replicate 117 170) 0 dumpT 117
+unfolding parted
+exportsT = record { fills = record { number = refl; bytes = refl }; counts = refl; octets = octets (T .set) refl }
+
+-- T without its strings and without references
+abbrev plainT : List ℕ
+plainT = laid (
+    piece 1 0 0 (device 0 0 64 0 0 0 1) ∷
+    piece 2 0 0 (configuration 1 2 0 0xE0 50 (
+    interface 0 0 2 0 ∷ endpoint 0x81 2 64 0 ∷ endpoint 0x02 2 64 0 ∷
+    interface 0 1 3 0 ∷ endpoint 0x81 2 64 0 ∷ endpoint 0x02 2 64 0 ∷ endpoint 0x83 3 8 10 ∷
+    interface 1 0 0 0 ∷ (5 ∷ 0x24 ∷ 1 ∷ 0 ∷ 1 ∷ []) ∷
+    interface 1 1 2 0 ∷ endpoint 0x84 0x05 192 1 ∷ endpoint 0x85 3 8 10 ∷ [])) ∷ [])
+
+isPlain : laid (zeroedPieces (T .set)) ≡ plainT
+unfolding parted
+isPlain = refl
+
+sizeT : length (laid (zeroedPieces (T .set))) ≡ 137
+unfolding parted
+sizeT = refl
+
+-- taken in again, into 137 bytes: T without strings, which opens with an empty serial block
+pub homeT : {place : List ℕ} {n written : ℕ} → Takes (take 117 dumpT) (replicate 137 170) n place written → (n ≡ 0) × (written ≡ 137) × (take written place ≡ plainT)
+homeT i = let (z, w, b, _) = broughtBack exportsT i (omega (arith, sizeT)) in (z, w ∙ sizeT, b ∙ isPlain)
+
+pub opensHomeT : {place : List ℕ} {n written : ℕ} → Takes (take 117 dumpT) (replicate 137 170) n place written
+    → {image : List ℕ} {m : ℕ} → Opens (lent (take written place) []) (replicate 32 170) m image → (m ≡ 0) × (image ≡ freshImage)
+opensHomeT i = broughtOpens exportsT i (homeT i .0) refl
+
+-- into 136 bytes: 22, and nothing is written
+pub shortT : {place : List ℕ} {n written : ℕ} → Takes (take 117 dumpT) (replicate 136 170) n place written → (n ≡ 22) × (written ≡ 0) × (place ≡ replicate 136 170)
+shortT i = broughtShort exportsT i (omega (arith, sizeT))
 
 -- ---- U3: S with its interface's bLength 0 is refused with 4, and the rule that is told is of group 4, broken, and the first that is
 pub explainsBroken : {n rule place : ℕ} → Tells fullSpeed (stands .set) (stands .serial) n rule place → (n ≡ 4) × (rule / 100 ≡ 4) × FirstBroken stands n rule place

@@ -2,9 +2,8 @@
 use Prim.Native.Nat.{ℕ, _+_, _≤_}
 use native.Mathlib.Omega.{arith}
 use mathlib.Core.Path.{_≡_, refl, sym, ap, _∙_}
-use mathlib.Core.Logic.{⊎-elim}
 use mathlib.Core.Bool.{Bool, true}
-use mathlib.Core.List.{List, [], _∷_, _++_, map, List·Memᴰ, List·Memᴰ·head, List·Memᴰ·tail, List·Memᴰ·not-nil, List·Memᴰ·cases-cons}
+use mathlib.Core.List.{List, [], _∷_, _++_, map, List·Memᴰ, List·Memᴰ·head, List·Memᴰ·tail}
 use lib.ListN.{length, length-map}
 use lib.Dec.{eqb}
 use borrow.Author.Tests.{eqb-true, leb-true}
@@ -24,11 +23,8 @@ use Rattle.sets.specs.Pieces.{Piece, piecesIn, piecesOf, kindOf, bodyIs, headBo
 use Rattle.set_writer.proofs.ReadBack.{read-back}
 use Rattle.dumps.specs.Dump.{splits, deviceIn, configurationsIn, zeroedDevice, zeroedConfiguration, devicePiece, configurationPiece, numbered, piecesFor, imported, exported}
 use Rattle.dumps.specs.Export.{own}
-use Rattle.maker_laws.proofs.DumpKept.{Sized, sized, same-body, blanked-same, joined-splits, joined-device, joined-configurations}
-
-map-same : (f : List ℕ → List ℕ) (bs : List (List ℕ)) → ((b : List ℕ) → List·Memᴰ b bs → f b ≡ b) → map f bs ≡ bs
-map-same f [] h = refl
-map-same f (b ∷ bs) h = rw (h b (List·Memᴰ·head refl), map-same f bs (λ c m. h c (List·Memᴰ·tail m)))
+use Rattle.maker_laws.proofs.DumpZeroed.{map-same, device-same, zeroed-same}
+use Rattle.maker_laws.proofs.DumpKept.{Sized, sized, joined-splits, joined-device, joined-configurations}
 
 -- ---- pieces by what is asked of them
 same-piece : (p : Piece) {k i l : ℕ} → p .kind ≡ k → p .index ≡ i → p .language ≡ l → p ≡ record { kind = k; index = i; language = l; body = p .body }
@@ -116,23 +112,15 @@ module _ (set serial : List ℕ) (opened : opensAs fullSpeed set serial ≡ true
     zeros-hold : Rattle.octets.proofs.Sentences.row true zeros ≡ true
     zeros-hold = sym (references-set (λ r. eqb r 0) set) ∙ none
 
-    pub no-serial : iSerialNumber (deviceBody set) ≡ 0
-    no-serial = eqb-true (iSerialNumber (deviceBody set)) 0 (conjunct 2 zeros zeros-hold)
-
     same-device : zeroedDevice (deviceBody set) ≡ deviceBody set
     same-device =
         let d = deviceBody set in
-        blanked-same (14 ∷ 15 ∷ 16 ∷ []) d
-        (λ p m. ⊎-elim (λ q. rw q (eqb-true (iManufacturer d) 0 (conjunct 0 zeros zeros-hold)))
-        (λ n. ⊎-elim (λ q. rw q (eqb-true (iProduct d) 0 (conjunct 1 zeros zeros-hold)))
-        (λ o. ⊎-elim (λ q. rw q (eqb-true (iSerialNumber d) 0 (conjunct 2 zeros zeros-hold))) (λ k. absurd (List·Memᴰ·not-nil k)) (List·Memᴰ·cases-cons o))
-        (List·Memᴰ·cases-cons n))
-        (List·Memᴰ·cases-cons m))
+        device-same d (eqb-true (iManufacturer d) 0 (conjunct 0 zeros zeros-hold)) (eqb-true (iProduct d) 0 (conjunct 1 zeros zeros-hold)) (eqb-true (iSerialNumber d) 0 (conjunct 2 zeros zeros-hold))
 
     same-configurations : map zeroedConfiguration (contents.bodies 2 set) ≡ contents.bodies 2 set
     same-configurations =
         map-same zeroedConfiguration (contents.bodies 2 set)
-        (λ b m. same-body fullSpeed b (good-body b m) (every-member (λ b. every (λ r. eqb r 0) (configurationReferences b)) (conjunct 3 zeros zeros-hold) m))
+        (λ b m. zeroed-same fullSpeed b (good-body b m) (every-member (λ b. every (λ r. eqb r 0) (configurationReferences b)) (conjunct 3 zeros zeros-hold) m))
 
     -- "export then import .. gives its device and configurations back"
     pub back : piecesFor (exported set) ≡ own set

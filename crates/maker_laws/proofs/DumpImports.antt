@@ -1,7 +1,7 @@
 -- What import accepts, and what it leaves. No axiom.
 use Prim.Native.Nat.{ℕ, _≤_}
 use native.Mathlib.Omega.{arith}
-use mathlib.Core.Path.{_≡_, refl, ap}
+use mathlib.Core.Path.{_≡_, refl, ap, _∙_}
 use mathlib.Core.Bool.{Bool, true, false, not}
 use mathlib.Core.List.{List, [], _∷_, map}
 use lib.ListN.{length, drop, length-append, length-drop}
@@ -52,10 +52,13 @@ small ps p =
     let frame = leb 4 (length set) ∷ leb (length set) 16384 ∷ eqb (total set) (length set) ∷ leb 1 (count set) ∷ leb (count set) 64 ∷ eqb (byte set 3) 0 ∷ leb (bodiesAt set) (total set) ∷ [] in
     (omega (arith, count-laid ps, leb-true (count set) 64 (conjunct 4 frame (g .frame))), leb-true (length set) 16384 (conjunct 1 frame (g .frame)))
 
+pub answers : (dump : List ℕ) (room : ℕ) → splits dump ≡ true → opensAs fullSpeed (imported dump) [] ≡ true → importing dump room ≡ pick (ltb room (length (imported dump))) 22 0
+answers dump room whole opens =
+    let (n, l) = small (piecesFor dump) opens in
+    rw (whole, le-ltb 64 (length (piecesFor dump)) n, le-ltb 16384 (length (imported dump)) l, opens)
+
 pub accepts : (dump : List ℕ) (room : ℕ) → Accepted dump room → importing dump room ≡ 0
-accepts dump room a =
-    let (n, l) = small (piecesFor dump) (a .opens) in
-    rw (a .whole, le-ltb 64 (length (piecesFor dump)) n, le-ltb 16384 (length (imported dump)) l, a .opens, le-ltb room (length (imported dump)) (a .fits))
+accepts dump room a = answers dump room (a .whole) (a .opens) ∙ rw (le-ltb room (length (imported dump)) (a .fits))
 
 -- ---- "string references set to zero": no reference of the set is left
 pub no-references : (dump : List ℕ) → opensAs fullSpeed (imported dump) [] ≡ true → every (λ r. eqb r 0) (references (imported dump)) ≡ true
@@ -85,7 +88,7 @@ again dump =
     let configurations = map zeroedConfiguration (configurationsIn dump) in
     rw (device-again device configurations, configurations-again device configurations)
 
-flat-length : (bs : List (List ℕ)) → length (flat (map zeroedConfiguration bs)) ≡ length (flat bs)
+pub flat-length : (bs : List (List ℕ)) → length (flat (map zeroedConfiguration bs)) ≡ length (flat bs)
 unfolding flat
 flat-length [] = refl
 flat-length (b ∷ bs) = omega (arith, length-append (zeroedConfiguration b) (flat (map zeroedConfiguration bs)), length-append b (flat bs), zeroed-length b, flat-length bs)

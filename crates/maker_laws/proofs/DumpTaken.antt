@@ -1,33 +1,36 @@
--- A set without references, exported: import takes what comes out. No axiom.
-use Prim.Native.Nat.{ℕ, _+_, _≤_}
+-- Import takes what was exported from a set that opens, with its references zeroed. No axiom.
+use Prim.Native.Nat.{ℕ, _+_, _*_, _≤_}
 use native.Mathlib.Omega.{arith}
 use mathlib.Core.Path.{_≡_, refl, sym, ap, _∙_}
 use mathlib.Core.Bool.{Bool, true, false}
-use mathlib.Core.List.{List, [], _∷_}
-use lib.ListN.{length, drop, length-map}
-use lib.Dec.{eqb, leb}
-use borrow.Author.Tests.{eqb-true, leb-true}
+use mathlib.Core.List.{List, [], _∷_, map, flatMap}
+use lib.ListN.{length, drop, length-map, length-append}
+use lib.Dec.{eqb, leb, ltb}
+use borrow.Author.Tests.{eqb-true, eq-eqb, leb-true}
 use Rattle.octets.specs.Octets.{byte}
 use Rattle.octets.specs.Sentences.{pick, every, only}
-use Rattle.octets.proofs.Sentences.{conjunct}
+use Rattle.octets.proofs.Sentences.{joined, conjunct, every-member, member-every, every-map}
 use Rattle.descriptors.specs.Limits.{fullSpeed}
+use Rattle.descriptors.specs.Configuration.{goodConfiguration, configurationReferences}
 use Rattle.sets.specs.Contents.{entries, total, count, bodiesAt, goodFrame}
 use Rattle.sets.specs.Contents as contents
-use Rattle.sets.specs.Device.{deviceBody}
+use Rattle.sets.specs.Device.{deviceBody, iManufacturer, iProduct, iSerialNumber}
 use Rattle.sets.specs.Pieces.{Piece, pieceFor, piecesIn, piecesOf, kindOf}
-use Rattle.sets.specs.Strings.{references, referencesOf}
-use Rattle.sets.proofs.Pieces.{bodies-of}
+use Rattle.sets.specs.Strings.{referencesOf}
 use Rattle.sets.specs.Opening.{lent, opening}
+use Rattle.sets.proofs.References.{every-flat}
 use Rattle.set_writer.specs.Writer.{laid, opensAs}
 use Rattle.set_writer.proofs.Canonical.{entries-length}
-use Rattle.dumps.specs.Dump.{imported, exported, importing}
-use Rattle.dumps.specs.Export.{own}
+use Rattle.dumps.specs.Dump.{flat, zeroedDevice, zeroedConfiguration, imported, exported, importing}
+use Rattle.dumps.proofs.Blanking.{blanked-length}
+use Rattle.dumps.proofs.Importing.{imported-length}
 use Rattle.dumps.proofs.Together.{dump}
 use Rattle.maker_laws.proofs.DumpByType.{device-is, bodies-are}
+use Rattle.maker_laws.proofs.DumpZeroed.{zeroed-good, zeroed-plain, zeroed-nonzero, zeroed-distinct, device-good, device-plain}
 use Rattle.maker_laws.proofs.DumpKept.{sized}
-use Rattle.maker_laws.proofs.DumpHome.{held, device, device-long, configurations-many, configurations-held, good-body, exported-splits, own-pieces, no-serial, back}
+use Rattle.maker_laws.proofs.DumpHome.{held, device, device-long, configurations-many, configurations-held, good-body, exported-splits, exported-device, exported-configurations}
 use Rattle.maker_laws.proofs.DumpOpens.{ps, Good, made-opens}
-use Rattle.maker_laws.proofs.DumpImports.{accepts}
+use Rattle.maker_laws.proofs.DumpImports.{flat-length, answers}
 
 -- two types have no more pieces than all
 two-types : (ps : List Piece) → length (piecesOf 1 ps) + length (piecesOf 2 ps) ≤ length ps
@@ -42,16 +45,32 @@ two-types (p ∷ ps) = go (kindOf 1 p) refl (kindOf 2 p) refl (two-types ps)
     go false q true r h = omega arith
     go false q false r h = omega arith
 
-same-references : (set : List ℕ) → referencesOf (ps (deviceBody set) (contents.bodies 2 set)) ≡ references set
-unfolding references
-same-references set = rw (device-is (deviceBody set) (contents.bodies 2 set), bodies-are (deviceBody set) (contents.bodies 2 set), bodies-of set 2)
-
-module _ (set serial : List ℕ) (opened : opensAs fullSpeed set serial ≡ true) (none : every (λ r. eqb r 0) (references set) ≡ true) where
+module _ (set serial : List ℕ) (opened : opensAs fullSpeed set serial ≡ true) where
   abbrev d : List ℕ
-  d = deviceBody set
+  d = zeroedDevice (deviceBody set)
 
   abbrev bs : List (List ℕ)
-  bs = contents.bodies 2 set
+  bs = map zeroedConfiguration (contents.bodies 2 set)
+
+  bodies-good : every (goodConfiguration fullSpeed) bs ≡ true
+  bodies-good =
+      every-map (goodConfiguration fullSpeed) zeroedConfiguration (contents.bodies 2 set)
+      ∙ member-every (λ b. goodConfiguration fullSpeed (zeroedConfiguration b)) (contents.bodies 2 set) (λ b m. zeroed-good fullSpeed b (good-body set serial opened b m) refl)
+
+  abbrev none : ℕ → Bool
+  none r = eqb r 0
+
+  bodies-plain : every none (flatMap configurationReferences bs) ≡ true
+  bodies-plain =
+      every-flat none configurationReferences bs
+      ∙ every-map (λ b. every none (configurationReferences b)) zeroedConfiguration (contents.bodies 2 set)
+      ∙ member-every (λ b. every none (configurationReferences (zeroedConfiguration b))) (contents.bodies 2 set) (λ b m. zeroed-plain fullSpeed b (good-body set serial opened b m))
+
+  plain : every none (referencesOf (ps d bs)) ≡ true
+  unfolding every
+  plain =
+      let (m, p, s) = device-plain (deviceBody set) in
+      rw (device-is d bs, bodies-are d bs) (joined (eq-eqb (iManufacturer d) 0 m) (joined (eq-eqb (iProduct d) 0 p) (joined (eq-eqb (iSerialNumber d) 0 s) bodies-plain)))
 
   good : Good d bs
   unfolding goodFrame
@@ -65,30 +84,35 @@ module _ (set serial : List ℕ) (opened : opensAs fullSpeed set serial ≡ true
       let n = entries-length (count set) (drop 4 set) in
       let all = length-map (entries set) (pieceFor set) in
       let m = configurations-many set serial opened in
+      let k = length-map (contents.bodies 2 set) zeroedConfiguration in
+      let l = blanked-length (14 ∷ 15 ∷ 16 ∷ []) (deviceBody set) in
       let x = dump set serial (eqb-true (opening fullSpeed (lent set serial)) 0 opened) in
       let rules = configurations-held set serial opened in
       record {
         few = omega arith;
-        small = omega (arith, x .fits, x .size);
-        device = rw m (device set serial opened .1);
+        small = omega (arith, x .fits, x .size, length-append d (flat bs), length-append (deviceBody set) (flat (contents.bodies 2 set)), flat-length (contents.bodies 2 set));
+        device = rw (k, m) (device-good (deviceBody set) fullSpeed _ ∙ device set serial opened .1);
         device-long = omega (arith, device-long set serial opened);
-        bodies-long = λ b k. omega (arith, sized fullSpeed b (good-body set serial opened b k) .least);
-        configurations = rules .good;
-        values = rules .nonzero;
-        distinct = rules .distinct;
-        no-references = rw (same-references set) none;
-        no-serial = no-serial set serial opened none;
+        bodies-long = λ b k. omega (arith, sized fullSpeed b (every-member (goodConfiguration fullSpeed) bodies-good k) .least);
+        configurations = bodies-good;
+        values = zeroed-nonzero (contents.bodies 2 set) ∙ rules .nonzero;
+        distinct = zeroed-distinct (contents.bodies 2 set) ∙ rules .distinct;
+        no-references = plain;
+        no-serial = device-plain (deviceBody set) .2;
       }
 
-  pub own-opens : opensAs fullSpeed (laid (own set)) [] ≡ true
-  own-opens = rw (own-pieces set serial opened) (made-opens d bs good)
+  -- the set that is made of what was exported
+  pub is-made : imported (exported set) ≡ laid (ps d bs)
+  is-made = rw (exported-device set serial opened, exported-configurations set serial opened)
 
-  -- import takes the dump, and gives a set that opens with an empty serial block
-  pub taken : (room : ℕ) → length (laid (own set)) ≤ room → importing (exported set) room ≡ 0
-  taken room h =
-      let e : imported (exported set) ≡ laid (own set) = ap laid (back set serial opened none) in
-      accepts (exported set) room (record {
-        whole = exported-splits set serial opened;
-        opens = rw e own-opens;
-        fits = rw e h;
-      })
+  pub opens : opensAs fullSpeed (imported (exported set)) [] ≡ true
+  opens = rw is-made (made-opens d bs good)
+
+  -- import takes it, exactly if the buffer holds the set
+  pub answered : (room : ℕ) → importing (exported set) room ≡ pick (ltb room (length (imported (exported set)))) 22 0
+  answered room = answers (exported set) room (exported-splits set serial opened) opens
+
+  pub size : length (imported (exported set)) ≡ 4 + 8 * (1 + length (contents.bodies 2 set)) + length (exported set)
+  size =
+      imported-length (exported set) (exported-splits set serial opened)
+      ∙ ap (λ (cs : List (List ℕ)). 4 + 8 * (1 + length cs) + length (exported set)) (exported-configurations set serial opened)

@@ -1,5 +1,6 @@
 pub mod DumpByType
 pub mod DumpOpens
+pub mod DumpZeroed
 pub mod DumpKept
 pub mod DumpImports
 pub mod DumpHome
