@@ -4,3 +4,4 @@ pub mod Given
 pub mod Replaced
 pub mod AtPorts
 pub mod Inhabited
+pub mod InhabitedReplaced
