@@ -5,3 +5,4 @@ pub mod Replaced
 pub mod AtPorts
 pub mod Inhabited
 pub mod InhabitedReplaced
+pub mod InhabitedCalls
