@@ -1,5 +1,5 @@
 """What the page knows of the repository, each from the one place where it is kept."""
-import base64, hashlib, json, os, re, sys
+import base64, hashlib, json, os, sys
 
 TOP = os.path.dirname(os.path.dirname(os.path.abspath(__file__)))
 sys.path[1:1] = [os.path.join(TOP, "bench")]
@@ -7,6 +7,7 @@ sys.dont_write_bytecode = True
 
 import paths  # noqa: F401 (the bench's own folders)
 import events, text, words
+from rules import RULES
 
 # The sets to look at first: the texts of makers/, and a set of bench/ that is refused.
 TEXTS = [("Bench set S", "makers/bench.txt"), ("Titrator", "makers/titrator.txt"), ("Laboratory scale", "bench/sets/scale.txt")]
@@ -18,36 +19,9 @@ def read(name, mode="r"):
         return file.read()
 
 
-def plain(cell):
-    """A table's cell as a person reads it: no backquotes, no links."""
-    return re.sub(r"\[([^\]]*)\]\([^)]*\)", r"\1", cell).replace("`", "").strip()
-
-
-def cells(line):
-    return [cell.strip() for cell in line.strip().strip("|").split("|")]
-
-
 def rules():
-    """The rules of opening: by their numbers where makers/ keeps these, else as docs/MAKERS.md has them, group by group."""
-    try:
-        from rules import RULES
-    except ImportError:
-        return rules_of_guide()
+    """The rules of opening, by their numbers."""
     return [{"number": number, "group": number // 100, "rule": asks, "remedy": "There may stand", "words": may} for number, (asks, may) in RULES.items()]
-
-
-def rules_of_guide():
-    """Each row of a table with a column `Rule` and one `Refused with N`."""
-    found, columns = [], None
-    for line in read("docs/MAKERS.md").splitlines():
-        if not line.startswith("|"):
-            columns = None
-        elif columns is None:
-            columns = cells(line)
-        elif "Rule" in columns and "Mend it" in columns and not line.startswith("|--"):
-            row, group = dict(zip(columns, cells(line))), next(re.search(r"\d+", name) for name in columns if name.startswith("Refused with"))
-            found.append({"group": int(group[0]), "rule": plain(row["Rule"]), "remedy": "Mend it", "words": plain(row["Mend it"])})
-    return found
 
 
 def text_help():
