@@ -4,13 +4,16 @@ use Prim.Native.Nat.{ℕ, suc}
 use mathlib.Core.Path.{_≡_, refl, sym, ap, _∙_}
 use mathlib.Core.List.{List}
 use lib.ListN.{length, replicate}
-use lib.Dec.{eqb}
+use lib.Dec.{eqb, ltb}
+use lib.Seq.{set-getD}
 use borrow.Author.Tests.{eq-eqb}
+use Rattle.octets.specs.Sentences.{pick}
 use Rattle.octets.proofs.Sentences.{cases}
 use Rattle.descriptors.specs.declared.Limits.{Limits}
 use Rattle.descriptors.specs.Limits.{fullSpeed, superSpeed}
 use Rattle.sets.specs.Opening.{Board, lent, lentTwo, opening}
 use Rattle.records.specs.declared.Device.{Device}
+use Rattle.records.specs.Device.{fresh}
 use Rattle.events.specs.declared.Event.{Event}
 use Rattle.events.specs.declared.Event.the-variants.{BusReset}
 use Rattle.events.specs.declared.Outcome.{Outcome}
@@ -22,7 +25,7 @@ use Rattle.promises.specs.Refusal.{freshImage}
 use Rattle.promises.specs.Kinds.{Lends, asFull, notOpened, refusedSteps, refusedEvents}
 use Rattle.promises.specs.Pairs.{pair}
 use Rattle.promises.specs.SuperSpeed.{S3}
-use Rattle.board.specs.Exports.{Opens, Happens, Spot, Spots, AnswersSetup, AnswersRecordEvent, AnswersImage}
+use Rattle.board.specs.Exports.{Opens, Happens, Spot, Spots, AnswersSetup, AnswersRecordEvent, AnswersImage, AnswersPortEvent, recordAt}
 use Rattle.board.specs.Makers.{OpensAs}
 use Rattle.board.specs.InhabitedRuns.{start}
 
@@ -75,6 +78,15 @@ module _ {set serial image : List ℕ} {left : List ℕ} (l : length image ≡ 3
   pub superImage : {lie : Spots} {was : List ℕ} {e : Event} {n : ℕ} {after bytes : List ℕ} {count : ℕ} {shown : List ℕ} {spot : Spot}
       → AnswersImage b lie was e n after bytes count shown spot → n ≡ 7
   superImage {was = was} {e} a = a .answers .number ∙ ap numberOf (refusedEvents accepts lends was e)
+
+  -- hk_port_event and hk_two_port_event: 18 at a port that is not there, "before 7"; either way the row stays as it was
+  pub superPort : {lie : Spots} {row : List Device} {port : ℕ} {e : Event} {n : ℕ} {after : List Device} {bytes : List ℕ} {count : ℕ} {shown : List ℕ} {spot : Spot}
+      → AnswersPortEvent b lie row port e n after bytes count shown spot → (n ≡ pick (ltb port (length row)) 7 18) × (after ≡ row)
+  superPort {row = row} {port} {e} a =
+      let r = refusedSteps accepts lends (recordAt row port) e in
+      cases (ltb port (length row))
+      (λ p. rw p (rw (p, r) at (a .answers .number), (rw (p, r) at (a .leaves)) ∙ set-getD row port fresh))
+      (λ p. rw p (rw p at (a .answers .number), rw p at (a .leaves)))
 
 -- ---- inhabited: the bench set as a SuperSpeed device
 pub opensS3 : OpensAs superSpeed S3 start 0 freshImage

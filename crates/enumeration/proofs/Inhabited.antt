@@ -5,11 +5,15 @@ use mathlib.Core.Path.{_≡_, refl, subst}
 use mathlib.Core.Bool.{true, false}
 use mathlib.Core.List.{List, [], _∷_, _++_, map, List·Memᴰ, List·Memᴰ·head, List·Memᴰ·tail}
 use lib.ListN.{replicate}
+use borrow.Author.Tests.{eqb-true}
+use Rattle.descriptors.specs.Limits.{fullSpeed}
 use Rattle.descriptors.specs.Configuration.{configurationOf, bConfigurationValue, bitOf}
 use Rattle.descriptors.specs.declared.Setting.{Setting}
 use Rattle.descriptors.specs.declared.Endpoint.{Endpoint}
 use Rattle.sets.specs.Device.{deviceBody, bNumConfigurations}
 use Rattle.sets.specs.Pieces.{Piece, piecesIn}
+use Rattle.sets.specs.Opening.{lent, opening}
+use Rattle.sets.specs.Pair.{openingTwo}
 use Rattle.set_writer.proofs.ReadBack.{read-back}
 use Rattle.records.specs.declared.Device.{Device}
 use Rattle.records.specs.Device.{zeros, fresh, inTestMode, withPower, withSuspended, withSpeed, withEndpoints}
@@ -21,11 +25,12 @@ use Rattle.promises.specs.Rearranged.{after}
 use Rattle.promises.specs.Examples.{computed, bytes, piece, string, titratorDevice, titratorConfiguration, titratorStrings, S, T}
 use Rattle.promises.specs.Bench.{setup}
 use Rattle.promises.specs.Inhabited.{acceptedS, bytesS, acceptedT, bytesT, configured, busy, busyFits}
-use Rattle.promises.specs.Pairs.{pair, acceptedPair, bytesPair}
+use Rattle.promises.specs.Pairs.{full, high, pair, acceptedPair, bytesPair}
 use Rattle.enumeration.specs.Script.{Line, line, reading, done, Plays, getDescriptor, Ready}
 use Rattle.enumeration.specs.Enumeration.{otherLines, zeroLines, stringLines, enumeration, enumerationByTransfers, enumerated}
-use Rattle.enumeration.specs.Works.{halting, visiting, afterHalting, afterVisiting, Chosen}
+use Rattle.enumeration.specs.Works.{halting, visiting, afterHalting, afterVisiting, Chosen, Mended}
 use Rattle.enumeration.proofs.Enumerates.{enumerates, enumeratesByTransfers}
+use Rattle.enumeration.proofs.Boards.{enumeratesOne, enumeratesTwo}
 use Rattle.enumeration.specs.Toggles.{Book, newBook, Agrees, bookAfter}
 use Rattle.enumeration.specs.Checklist.{Passes}
 use Rattle.enumeration.proofs.Toggles.{neverDriftFromOpening, neverDriftFromReset}
@@ -91,6 +96,32 @@ haltsS = everyEndpoint S bytesS acceptedS used usedReady refl endpoint81 (rw end
 pub haltsEnd : afterHalting used 0x81 ≡ withPower 1 configured
 haltsEnd = refl
 
+-- its only setting, chosen anew, and the whole tour
+abbrev first : Setting
+first = record { interface = 0; alternate = 0 }
+
+settingsS : selected (viewAt S used) used .settings ≡ first ∷ []
+unfolding computed
+settingsS = refl
+
+pub selectsS : Chosen S used first
+selectsS = everySetting S bytesS acceptedS used usedReady refl first (rw settingsS (List·Memᴰ·head refl))
+
+pub toursS : (let settings = configurationOf (configurationBody (setFor S 0) 0) .settings in
+    Plays S used (enumeration S 0 9 0 ++ visiting settings) (afterVisiting S (enumerated 0 9 (bConfigurationValue (configurationBody (setFor S 0) 0)) used) settings))
+toursS = tours S bytesS acceptedS used usedReady 0 refl 9 (omega arith) (omega arith) 0 (omega (arith, oneS))
+
+-- written out for one set, of its bytes alone
+opensS : opening fullSpeed (lent (S .set) []) ≡ 0
+opensS = eqb-true (opening fullSpeed S) 0 acceptedS
+
+countS : bNumConfigurations (deviceBody (S .set)) ≡ 1
+unfolding computed
+countS = refl
+
+pub enumeratesOneS : Plays S used (enumeration S 0 9 0) (enumerated 0 9 (bConfigurationValue (configurationBody (S .set) 0)) used)
+enumeratesOneS = enumeratesOne (S .set) [] (bytesS .0) opensS used (usedReady .sized) (usedReady .fit) 9 (omega arith) (omega arith) 0 (omega (arith, countS))
+
 -- ---- the titrator T: its strings, in German and in English; string 3 is the serial number's
 pub stringsT : map (λ (l : Line). l .1 .reads) (zeroLines (T .set) ++ stringLines T 0) ≡
     bytes 6 0x060307040904 ∷
@@ -115,11 +146,22 @@ settingsT : selected (viewAt T busy) busy .settings ≡
 unfolding computed
 settingsT = refl
 
-abbrev first : Setting
-first = record { interface = 0; alternate = 0 }
-
 pub selectsT : Chosen T busy first
 selectsT = everySetting T bytesT acceptedT busy busyReady refl first (rw settingsT (List·Memᴰ·head refl))
+
+-- endpoint 85, of its interface 1's setting 1, is halted and mended
+abbrev endpoint85 : Endpoint
+endpoint85 = record { interface = 1; alternate = 1; address = 0x85; attributes = 3 }
+
+endpointsT : List·Memᴰ endpoint85 (currentEndpoints (viewAt T busy) busy)
+unfolding computed
+endpointsT = List·Memᴰ·tail (List·Memᴰ·tail (List·Memᴰ·tail (List·Memᴰ·tail (List·Memᴰ·head refl))))
+
+pub haltsT : Mended T busy endpoint85
+haltsT = everyEndpoint T bytesT acceptedT busy busyReady refl endpoint85 endpointsT refl
+
+pub transfersT : Plays T busy (enumerationByTransfers T 0 127 0) (enumerated 0 127 (bConfigurationValue (configurationBody (setFor T 0) 0)) busy)
+transfersT = enumeratesByTransfers T bytesT acceptedT busy busyReady 0 refl 127 (omega arith) (omega arith) 0 (omega (arith, oneT))
 
 -- the whole tour of T: enumerated at address 9, then each of its settings in turn
 pub toursT : Plays T busy (enumeration T 0 9 0 ++ visiting (configurationOf (configurationBody (setFor T 0) 0) .settings))
@@ -151,7 +193,39 @@ enumeratesHigh = enumerates pair bytesPair acceptedPair (withSpeed 1 configured)
 pub enumeratesFull : Plays pair (withSpeed 1 configured) (enumeration pair 0 7 0) (enumerated 0 7 (bConfigurationValue (configurationBody (setFor pair 0) 0)) (withSpeed 1 configured))
 enumeratesFull = enumerates pair bytesPair acceptedPair (withSpeed 1 configured) onPair 0 refl 7 (omega arith) (omega arith) 0 (omega (arith, onePair .0))
 
--- and at high speed each of its settings in turn
+pub transfersHigh : Plays pair (withSpeed 1 configured) (enumerationByTransfers pair 1 7 0) (enumerated 1 7 (bConfigurationValue (configurationBody (setFor pair 1) 0)) (withSpeed 1 configured))
+transfersHigh = enumeratesByTransfers pair bytesPair acceptedPair (withSpeed 1 configured) onPair 1 refl 7 (omega arith) (omega arith) 0 (omega (arith, onePair .1))
+
+-- written out for two sets, of their bytes alone
+opensPair : openingTwo full high [] ≡ 0
+opensPair = eqb-true (openingTwo full high []) 0 acceptedPair
+
+countHigh : bNumConfigurations (deviceBody high) ≡ 1
+unfolding computed
+countHigh = refl
+
+pub enumeratesTwoPair : Plays pair (withSpeed 1 configured) (enumeration pair 1 7 0) (enumerated 1 7 (bConfigurationValue (configurationBody high 0)) (withSpeed 1 configured))
+enumeratesTwoPair = enumeratesTwo full high [] (bytesPair .0) (bytesPair .1) opensPair (withSpeed 1 configured) (onPair .sized) (onPair .fit) refl 1 (omega arith) 7 (omega arith) (omega arith) 0 (omega (arith, countHigh))
+
+-- at high speed its setting is chosen, and its bulk endpoint 81 is halted and mended
+settingsPair : selected (viewAt pair (withSpeed 1 configured)) (withSpeed 1 configured) .settings ≡ first ∷ []
+unfolding computed
+settingsPair = refl
+
+pub selectsPair : Chosen pair (withSpeed 1 configured) first
+selectsPair = everySetting pair bytesPair acceptedPair (withSpeed 1 configured) onPair refl first (rw settingsPair (List·Memᴰ·head refl))
+
+abbrev bulk81 : Endpoint
+bulk81 = record { interface = 0; alternate = 0; address = 0x81; attributes = 2 }
+
+endpointsPair : currentEndpoints (viewAt pair (withSpeed 1 configured)) (withSpeed 1 configured) ≡ bulk81 ∷ []
+unfolding computed
+endpointsPair = refl
+
+pub haltsPair : Mended pair (withSpeed 1 configured) bulk81
+haltsPair = everyEndpoint pair bytesPair acceptedPair (withSpeed 1 configured) onPair refl bulk81 (rw endpointsPair (List·Memᴰ·head refl)) refl
+
+-- and each of its settings in turn
 pub toursHigh : (let settings = configurationOf (configurationBody (setFor pair 1) 0) .settings in
     Plays pair (withSpeed 1 configured) (enumeration pair 1 7 0 ++ visiting settings)
     (afterVisiting pair (enumerated 1 7 (bConfigurationValue (configurationBody (setFor pair 1) 0)) (withSpeed 1 configured)) settings))

@@ -4,3 +4,5 @@ pub mod Given
 pub mod Replaced
 pub mod AtPorts
 pub mod Inhabited
+pub mod InhabitedReplaced
+pub mod InhabitedCalls
