@@ -18,8 +18,8 @@ mod words;
 // The operations, each by its letter; a heading alone has none.
 fn work<'a>(operation: u8, serial: &'a [u8], given: &'a [u8], wanted: &[u8], out: &mut [u8]) {
     match operation {
-        b'l' => makers::list(given, serial, descriptors::full_speed()),
-        b's' => makers::list(given, serial, descriptors::super_speed()),
+        b'l' => makers::list(given, serial, descriptors::limits::full_speed()),
+        b's' => makers::list(given, serial, descriptors::limits::super_speed()),
         b'w' => makers::write(serial, given, wanted, out),
         b'i' => makers::import(given, wanted, out),
         b'e' => makers::export(serial, given, wanted, out),

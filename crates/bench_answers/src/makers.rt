@@ -2,7 +2,7 @@
 use crate::buffer::is_good;
 use crate::words::say;
 use crate::words::tell;
-use descriptors::Limits;
+use descriptors::limits::Limits;
 
 // The number, why 21 was given, the length that is given back, and whether the buffer is as it should be.
 fn answer(number: u8, opening: u8, written: u16, good: bool) {
@@ -24,7 +24,7 @@ pub fn list(set: &[u8], serial: &[u8], limits: Limits) {
 }
 
 pub fn write(serial: &[u8], stream: &[u8], wanted: &[u8], out: &mut [u8]) {
-    let report = set_writer::write(stream, serial, descriptors::full_speed(), out);
+    let report = set_writer::write(stream, serial, descriptors::limits::full_speed(), out);
     let written = set_writer::length_written(report.number, out);
     answer(report.number, 0, written, is_good(out, wanted));
 }
@@ -46,6 +46,6 @@ pub fn trim(serial: &[u8], set: &[u8], wanted: &[u8], out: &mut [u8]) {
         return;
     }
     bytes::copy(set, out);
-    let number = trimming::trim(out, serial, descriptors::full_speed());
+    let number = trimming::trim(out, serial, descriptors::limits::full_speed());
     answer(number, 0, octets::word(out, 0), check::same(out, wanted));
 }

@@ -9,7 +9,7 @@ use lib.Seq.{set-getD}
 use borrow.Author.Tests.{eq-eqb}
 use Rattle.octets.specs.Sentences.{pick}
 use Rattle.octets.proofs.Sentences.{cases}
-use Rattle.descriptors.specs.declared.Limits.{Limits}
+use Rattle.descriptors.specs.declared.limits.Limits.{Limits}
 use Rattle.descriptors.specs.Limits.{fullSpeed, superSpeed}
 use Rattle.sets.specs.Opening.{Board, lent, lentTwo, opening}
 use Rattle.records.specs.declared.Device.{Device}

@@ -13,10 +13,10 @@ ghost use Rattle.board.specs.Exports.{Happens, AnswersSetup, CutsPacket,
 ghost use Rattle.board.specs.Lent.{OpensBytes};
 
 mod endpoint;
+mod large;
 mod makers;
 mod numbers;
 mod ports;
-mod table;
 mod two;
 
 // Opens a set with its serial block: the image becomes the fresh record, whether they are accepted or not.

@@ -8,7 +8,7 @@ ghost use Rattle.board.specs.Makers.{OpensAs, Writes, Takes, Dumps, Shor
 pub extern "C" fn hk_write(pieces: &[u8], serial: &[u8], buffer: &mut [u8], written: &mut u16) -> u8
     ensures { λ r. ⌜ Writes fullSpeed (now (pieces .entry)) (now (serial .entry)) (now (buffer .entry)) r (now (buffer .exit)) (now (written .exit)) ⌝ }
 {
-    let report = set_writer::write(pieces, serial, descriptors::full_speed(), buffer);
+    let report = set_writer::write(pieces, serial, descriptors::limits::full_speed(), buffer);
     *written = set_writer::length_written(report.number, buffer);
     report.number
 }
@@ -23,7 +23,7 @@ pub extern "C" fn hk_super_write(
 ) -> u8
     ensures { λ r. ⌜ Writes superSpeed (now (pieces .entry)) (now (serial .entry)) (now (buffer .entry)) r (now (buffer .exit)) (now (written .exit)) ⌝ }
 {
-    let report = set_writer::write(pieces, serial, descriptors::super_speed(), buffer);
+    let report = set_writer::write(pieces, serial, descriptors::limits::super_speed(), buffer);
     *written = set_writer::length_written(report.number, buffer);
     report.number
 }
@@ -37,7 +37,7 @@ pub extern "C" fn hk_super_open(set: &[u8], serial: &[u8], image: &mut [u8]) -> 
         return 8;
     }
     records::store(records::fresh(), image);
-    sets::opening(set, serial, descriptors::super_speed())
+    sets::opening::opening(set, serial, descriptors::limits::super_speed())
 }
 
 // A dump, the file that Linux shows for a device, becomes a set without strings at the buffer's start.
@@ -65,7 +65,7 @@ pub extern "C" fn hk_export(set: &[u8], serial: &[u8], buffer: &mut [u8], writte
 pub extern "C" fn hk_trim(set: &mut [u8], serial: &[u8], total: &mut u16) -> u8
     ensures { λ r. ⌜ Shortens fullSpeed (now (set .entry)) (now (serial .entry)) r (now (set .exit)) (now (total .exit)) ⌝ }
 {
-    let number = trimming::trim(set, serial, descriptors::full_speed());
+    let number = trimming::trim(set, serial, descriptors::limits::full_speed());
     *total = set_writer::length_written(number, set);
     number
 }
@@ -75,7 +75,7 @@ pub extern "C" fn hk_trim(set: &mut [u8], serial: &[u8], total: &mut u16) -> u8
 pub extern "C" fn hk_explain(set: &[u8], serial: &[u8], rule: &mut u16, place: &mut u32) -> u8
     ensures { λ r. ⌜ Tells fullSpeed (now (set .entry)) (now (serial .entry)) r (now (rule .exit)) (now (place .exit)) ⌝ }
 {
-    let told = rules::explain(set, serial, descriptors::full_speed());
+    let told = rules::explain(set, serial, descriptors::limits::full_speed());
     *rule = told.rule;
     *place = told.place;
     told.number

@@ -14,15 +14,14 @@ use Rattle.octets.specs.Sentences.{pick, any, only}
 use Rattle.octets.proofs.Sentences.{cases, never, any-map, any-only}
 use Rattle.descriptors.specs.declared.Setting.{Setting}
 use Rattle.descriptors.specs.declared.Endpoint.{Endpoint}
-use Rattle.descriptors.specs.declared.Stand.{Stand}
-use Rattle.descriptors.specs.declared.Step.{Step}
+use Rattle.descriptors.specs.declared.walk.Stand.{Stand}
 use Rattle.descriptors.specs.Cut.{Cutting, whole, descriptor, cut, cutAfter, descriptorsOf, wellCut}
 use Rattle.descriptors.specs.Descriptor.{isInterface, isEndpoint}
 use Rattle.descriptors.specs.Interfaces.{grouped, begunBy, settingOf, endpointOf, endpointsOf}
 use Rattle.descriptors.specs.Configuration.{behind, groupsOf, configurationOf}
-use Rattle.descriptors.specs.Walk.{settingAt, before, standOf, stepsOn, stepOf}
+use Rattle.descriptors.specs.Walk.{Pace, settingAt, before, standOf, stepsOn, stepOf}
 use Rattle.descriptors.specs.Lookup.{lists, listed}
-use Rattle.descriptors.proofs.Walk.{spanned, moved, stuck, well-on, cut-end}
+use Rattle.descriptors.proofs.Walks.{spanned, moved, stuck, well-on, cut-end}
 
 -- ---- the descriptors ahead
 abbrev pub ahead : List ℕ → ℕ → List (List ℕ)
@@ -34,7 +33,7 @@ pub record Place (body : List ℕ) (at : ℕ) : Type 0 where
   pub well : wellCut (cut (drop at body)) ≡ true
 
 -- one step on from a place
-pub record Turn (body : List ℕ) (at : ℕ) (stand : Stand) (step : Step) : Type 0 where
+pub record Turn (body : List ℕ) (at : ℕ) (stand : Stand) (step : Pace) : Type 0 where
   pub on : at < step .end
   pub place : Place body (step .end)
   pub next : ahead body at ≡ spanned body at (step .end) ∷ ahead body (step .end)
@@ -50,7 +49,7 @@ descriptors-end = refl
 
 -- a walk that moved on stepped over the next descriptor, also of a body that is broken further on
 module _ (body : List ℕ) (at : ℕ) (stand : Stand) (h : at < length body) where
-  pub ahead-step : (step : Step) → step ≡ stepOf body at stand → at < step .end → ahead body at ≡ spanned body at (step .end) ∷ ahead body (step .end)
+  pub ahead-step : (step : Pace) → step ≡ stepOf body at stand → at < step .end → ahead body at ≡ spanned body at (step .end) ∷ ahead body (step .end)
   ahead-step step e m = rw e (ap descriptorsOf (moved body at stand h (rw e at m) .cuts) ∙ descriptors-step _ _)
 
 -- a descriptor in a well-cut body is whole
@@ -72,7 +71,7 @@ module _ (body : List ℕ) (at : ℕ) (stand : Stand) (p : Place body at) (h : a
         stands = m .stands;
       }
 
-  pub turn : (step : Step) → step ≡ stepOf body at stand → Turn body at stand step
+  pub turn : (step : Pace) → step ≡ stepOf body at stand → Turn body at stand step
   turn step e = rw e turned
 
 module _ (body : List ℕ) where

@@ -14,17 +14,16 @@ use Rattle.octets.specs.Bit.{bit, setBit}
 use Rattle.octets.specs.Sentences.{_⇒_, every, pairs, isEmpty}
 use Rattle.octets.proofs.Sentences.{cases, both, joined, either, or-left, or-right, if-then, conjunct, every-member, member-every, every-append, every-alike}
 use Rattle.octets.proofs.Bits.{set-same, set-other, bit-zero}
-use Rattle.descriptors.specs.declared.Limits.{Limits}
+use Rattle.descriptors.specs.declared.limits.Limits.{Limits}
 use Rattle.descriptors.specs.declared.Setting.{Setting}
 use Rattle.descriptors.specs.declared.Endpoint.{Endpoint}
-use Rattle.descriptors.specs.declared.Stand.{Stand}
-use Rattle.descriptors.specs.declared.check.Progress.{Progress}
+use Rattle.descriptors.specs.declared.walk.Stand.{Stand}
 use Rattle.descriptors.specs.Descriptor.{bDescriptorType, isInterface, isEndpoint, bInterfaceNumber, bEndpointAddress, bmAttributes, wMaxPacketSize, bInterval, transferType, goodAddress, goodAttributes, goodSize, goodInterval, typeAllowed, goodEndpoint, goodDescriptor}
 use Rattle.descriptors.specs.Interfaces.{Group, Groups, grouped, begunBy, settingOf, endpointOf, endpointsOf, follows, apart}
 use Rattle.descriptors.specs.Configuration.{bitOf}
 use Rattle.descriptors.specs.Walk.{before}
-use Rattle.descriptors.specs.Check.{placed, fresh, unshared, onward, beginning}
-use Rattle.descriptors.proofs.Walk.{holding}
+use Rattle.descriptors.specs.Check.{Progress, placed, fresh, unshared, onward, beginning}
+use Rattle.descriptors.proofs.Walks.{holding}
 use Rattle.descriptors.proofs.CheckOrder.{at, passed, chain, kinds}
 
 -- no address is shared where it may not be, from the state w on

@@ -11,13 +11,12 @@ use borrow.Author.Tests.{eqb-true, eq-eqb}
 use Rattle.octets.specs.Sentences.{every, neighbours, isEmpty}
 use Rattle.octets.proofs.Sentences.{cases, same-test}
 use Rattle.descriptors.specs.declared.Setting.{Setting}
-use Rattle.descriptors.specs.declared.Stand.{Stand}
-use Rattle.descriptors.specs.declared.check.Progress.{Progress}
+use Rattle.descriptors.specs.declared.walk.Stand.{Stand}
 use Rattle.descriptors.specs.Descriptor.{bDescriptorType, isInterface, isEndpoint, bNumEndpoints}
 use Rattle.descriptors.specs.Interfaces.{Groups, grouped, begunBy, settingOf, follows, startsAtZero, endsAt, goodSettings, counted}
 use Rattle.descriptors.specs.Walk.{before, standOf}
-use Rattle.descriptors.specs.Check.{placed, inOrder, onward, ended, beginning}
-use Rattle.descriptors.proofs.Walk.{holding}
+use Rattle.descriptors.specs.Check.{Progress, placed, inOrder, onward, ended, beginning}
+use Rattle.descriptors.proofs.Walks.{holding}
 
 -- the descriptors come in order from the state w on, for n interfaces
 abbrev pub ordered : ℕ → Progress → Stand → List (List ℕ) → Bool

@@ -6,16 +6,15 @@ use mathlib.Core.Bool.{Bool, true, false, _&&_, and-true, and-false, and-assoc}
 use lib.ListN.{length}
 use Rattle.octets.specs.Sentences.{pick, _⇒_, every, only}
 use Rattle.octets.proofs.Sentences.{every-append}
-use Rattle.descriptors.specs.declared.Stand.{Stand}
-use Rattle.descriptors.specs.declared.Step.{Step}
+use Rattle.descriptors.specs.declared.walk.Stand.{Stand}
 use Rattle.descriptors.specs.declared.check.Verdict.{Verdict}
 use Rattle.descriptors.specs.Cut.{cut, descriptorsOf}
 use Rattle.descriptors.specs.Descriptor.{isInterface, iInterface}
 use Rattle.descriptors.specs.Interfaces.{grouped}
 use Rattle.descriptors.specs.Configuration.{iConfiguration, behind, groupsOf, configurationReferences}
-use Rattle.descriptors.specs.Walk.{before, stepOf, collected}
+use Rattle.descriptors.specs.Walk.{Pace, before, stepOf, collected}
 use Rattle.descriptors.specs.Check.{referenceOf, referring, verdict}
-use Rattle.descriptors.proofs.Walk.{spanned, collect-end, collect-on, collected-flat}
+use Rattle.descriptors.proofs.Walks.{spanned, collect-end, collect-on, collected-flat}
 use Rattle.descriptors.proofs.Ahead.{ahead, heads}
 use Rattle.descriptors.proofs.CheckWhole.{check-first}
 
@@ -59,7 +58,7 @@ module _ (f : ℕ → Bool) where
   references-all body = ap (every f) (references-flat body) ∙ ap (λ b. f (iConfiguration body) && b) (every-flat (behind (descriptorsOf (cut body))))
 
   -- behind the first descriptor
-  pub references-behind : (body : List ℕ) (step : Step) → step ≡ stepOf body 0 before → 0 < step .end
+  pub references-behind : (body : List ℕ) (step : Pace) → step ≡ stepOf body 0 before → 0 < step .end
       → every f (configurationReferences body) ≡ (f (iConfiguration body) && every f (collected referring body before (step .end)))
   unfolding descriptorsOf every
   references-behind body step e m = ap (every f) (references-walked body (step .end) (sym (ap (λ cs. behind (descriptorsOf cs)) (check-first body step e m))))
@@ -70,7 +69,7 @@ module _ (f : ℕ → Bool) (body : List ℕ) (stand : Stand) (at : ℕ) (sofar 
   unfolding every
   asked-all h = inv ∙ ap (λ rs. sofar && every f rs) (collect-end referring body stand at h) ∙ and-true sofar
 
-  pub asked-on : (step : Step) → step ≡ stepOf body at stand → at < length body → at < step .end
+  pub asked-on : (step : Pace) → step ≡ stepOf body at stand → at < length body → at < step .end
       → total ≡ ((sofar && every f (referenceOf (spanned body at (step .end)))) && every f (collected referring body (step .stand) (step .end)))
   asked-on step e h m =
       let d = spanned body at (step .end) in

@@ -12,22 +12,20 @@ use borrow.Author.Tests.{eqb-true, leb-true, le-ltb, ltb-true, ltb-false}
 use Rattle.octets.specs.Octets.{byte}
 use Rattle.octets.specs.Sentences.{pick, _⇒_, every, pairs, isEmpty}
 use Rattle.octets.proofs.Sentences.{cases, conjunct}
-use Rattle.descriptors.specs.declared.Limits.{Limits}
-use Rattle.descriptors.specs.declared.Stand.{Stand}
-use Rattle.descriptors.specs.declared.Step.{Step}
-use Rattle.descriptors.specs.declared.check.Progress.{Progress}
+use Rattle.descriptors.specs.declared.limits.Limits.{Limits}
+use Rattle.descriptors.specs.declared.walk.Stand.{Stand}
 use Rattle.descriptors.specs.Cut.{Cutting, whole, broken, descriptor, cut, descriptorsOf, wellCut}
 use Rattle.descriptors.specs.Descriptor.{bDescriptorType, isEndpoint, goodDescriptor}
 use Rattle.descriptors.specs.Interfaces.{grouped, settingOf, endpointsOf, goodSettings, counted, apart, goodInterfaces}
 use Rattle.descriptors.specs.Companion.{goodCompanions}
 use Rattle.descriptors.specs.Configuration.{bNumInterfaces, wTotalLength, configurationAttributes, bMaxPower, goodHead, goodDescriptors, goodConfiguration}
-use Rattle.descriptors.specs.Walk.{before, standOf, stepOf, orElse, walked}
-use Rattle.descriptors.specs.Check.{inOrder, unshared, allowed, onward, accompanied, ended, beginning, Course, starting, passing, checking, accompanying}
+use Rattle.descriptors.specs.Walk.{Pace, before, standOf, stepOf, orElse, walked}
+use Rattle.descriptors.specs.Check.{Progress, inOrder, unshared, allowed, onward, accompanied, ended, beginning, Course, starting, passing, checking, accompanying}
 use Rattle.descriptors.specs.Sequence.{unaccompanied}
 use Rattle.descriptors.proofs.CheckOrder.{ordered, passed, order-same, from-beginning}
 use Rattle.descriptors.proofs.CheckAddresses.{unsharedAll, addresses-same}
 use Rattle.descriptors.proofs.CheckCompanions.{after, after-one, companions-same}
-use Rattle.descriptors.proofs.Walk.{Walking, holding, moved, stuck, cut-end}
+use Rattle.descriptors.proofs.Walks.{Walking, holding, moved, stuck, cut-end}
 
 -- ---- the walk, rule by rule
 apart-by : (wellcut a b c e g o u v : Bool)
@@ -92,7 +90,7 @@ companions-apart limits n cs =
     go false x c a = refl
 
 pub companions-stuck : {body : List ℕ} {total due : Bool} {last : Stand} {at : ℕ} → Walking accompanying body total due last at
-    → {step : Step} → step ≡ stepOf body at last → at < length body → step .end ≤ at → false ≡ total
+    → {step : Pace} → step ≡ stepOf body at last → at < length body → step .end ≤ at → false ≡ total
 companions-stuck {body} {total} {due} {last} {at} walking e h m =
     sym (walking .rest ∙ companions-rules due last (cut (drop at body)) ∙ rw (stuck body at last h (rw e at m)))
 
@@ -112,7 +110,7 @@ module _ (limits : Limits) (n : ℕ) (c : Course) (last stand : Stand) (d : List
 
 -- ---- the loop: a body that is broken further on is no good one
 pub check-stuck : (limits : Limits) (n : ℕ) {body : List ℕ} {total : Bool} {w : Course} {last : Stand} {at : ℕ} → Walking (checking limits n) body total w last at
-    → {step : Step} → step ≡ stepOf body at last → at < length body → step .end ≤ at → false ≡ total
+    → {step : Pace} → step ≡ stepOf body at last → at < length body → step .end ≤ at → false ≡ total
 check-stuck limits n {body} {total} {w} {last} {at} walking e h m =
     sym (walking .rest ∙ rules limits n w last (cut (drop at body)) ∙ rw (stuck body at last h (rw e at m)))
 
@@ -136,7 +134,7 @@ head-short size d p f =
     let t = eqb-true (wTotalLength d) size (conjunct 2 rules p) in
     (omega (arith, f 2, f 3), leb-true 1 (bNumInterfaces d) (conjunct 6 rules p), leb-true (bNumInterfaces d) 16 (conjunct 7 rules p))
 
-module _ (body : List ℕ) (step : Step) (e : step ≡ stepOf body 0 before) where
+module _ (body : List ℕ) (step : Pace) (e : step ≡ stepOf body 0 before) where
   nothing : length body ≤ 0 → step .end ≡ 0
   nothing h = rw (e, le-ltb 0 (length body) h, and-false (leb 2 (byte body 0)))
 
@@ -150,7 +148,7 @@ module _ (body : List ℕ) (step : Step) (e : step ≡ stepOf body 0 before) whe
     pub check-first : cut body ≡ descriptor (take (step .end) body) (cut (drop (step .end) body))
     check-first = rw e (rw (sub-zero (stepOf body 0 before .end)) at (moved body 0 before some-bytes (rw e at m) .cuts))
 
-module _ (limits : Limits) (body : List ℕ) (step : Step) (e : step ≡ stepOf body 0 before) where
+module _ (limits : Limits) (body : List ℕ) (step : Pace) (e : step ≡ stepOf body 0 before) where
   pub check-none : step .end ≡ 0 → false ≡ goodConfiguration limits body
   unfolding goodConfiguration goodDescriptors wellCut descriptorsOf
   check-none p = cases (ltb 0 (length body))

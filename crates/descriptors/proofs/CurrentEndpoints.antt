@@ -16,7 +16,7 @@ use Rattle.octets.specs.Octets.{byte, part}
 use Rattle.octets.specs.Sentences.{pick, only, pairs}
 use Rattle.octets.proofs.Sentences.{cases, both, joined, member-every}
 use Rattle.descriptors.specs.declared.Endpoint.{Endpoint}
-use Rattle.descriptors.specs.declared.Stand.{Stand}
+use Rattle.descriptors.specs.declared.walk.Stand.{Stand}
 use Rattle.descriptors.specs.declared.endpoints.DescriptorFound.the-variants.{At}
 use Rattle.descriptors.specs.Cut.{Cutting, whole, broken, descriptor, cut, descriptorsOf, wellCut}
 use Rattle.descriptors.specs.Descriptor.{isInterface, isEndpoint, bEndpointAddress, bmAttributes}
@@ -25,7 +25,7 @@ use Rattle.descriptors.specs.Walk.{before, standOf, stepOf, orElse, walk
 use Rattle.descriptors.specs.Lookup.{listed, lists, listsOne}
 use Rattle.descriptors.specs.Endpoints.{DescriptorAt, beginsCurrent, currentFrom, currentDescriptors}
 use Rattle.descriptors.specs.Seek.{foundAt, Seek, passing, seeking}
-use Rattle.descriptors.proofs.Walk.{spanned, span-length}
+use Rattle.descriptors.proofs.Walks.{spanned, span-length}
 use Rattle.descriptors.proofs.Ahead.{ahead, Place, steps, turn, ahead-end, Begun, at-first, endpointsUnder, endpoints-begin}
 use Rattle.descriptors.proofs.Surveying.{only-step}
 

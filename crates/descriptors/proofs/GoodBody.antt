@@ -6,7 +6,7 @@ use mathlib.Core.Bool.{true, false≢true}
 use lib.ListN.{length}
 use Rattle.octets.specs.Sentences.{_⇒_, every}
 use Rattle.octets.proofs.Sentences.{both, conjunct}
-use Rattle.descriptors.specs.declared.Limits.{Limits}
+use Rattle.descriptors.specs.declared.limits.Limits.{Limits}
 use Rattle.descriptors.specs.Cut.{cut, descriptorsOf, wellCut}
 use Rattle.descriptors.specs.Descriptor.{goodDescriptor}
 use Rattle.descriptors.specs.Interfaces.{grouped, goodInterfaces}

@@ -1,4 +1,4 @@
-pub mod Walk
+pub mod Walks
 pub mod CheckOrder
 pub mod CheckAddresses
 pub mod CheckCompanions

@@ -13,15 +13,14 @@ use Rattle.octets.specs.Sentences.{pick, _⇒_}
 use Rattle.octets.proofs.Sentences.{cases, never, both, conjunct}
 use Rattle.octets.proofs.Bits.{bit-zero}
 use Rattle.octets.proofs.Words.{set-digit}
-use Rattle.descriptors.specs.declared.Limits.{Limits}
+use Rattle.descriptors.specs.declared.limits.Limits.{Limits}
 use Rattle.descriptors.specs.declared.Setting.{Setting}
-use Rattle.descriptors.specs.declared.Stand.{Stand}
-use Rattle.descriptors.specs.declared.check.Progress.{Progress}
+use Rattle.descriptors.specs.declared.walk.Stand.{Stand}
 use Rattle.descriptors.specs.Descriptor.{bDescriptorType, isInterface, isEndpoint, bInterfaceNumber, bAlternateSetting, bEndpointAddress, typeAllowed, goodEndpoint}
 use Rattle.descriptors.specs.Interfaces.{begunBy}
 use Rattle.descriptors.specs.Configuration.{bitOf}
-use Rattle.descriptors.specs.Walk.{before, standOf}
-use Rattle.descriptors.specs.Check.{placed, fresh, mayBegin, mayList, allowed, atInterface, atEndpoint, ended, beginning}
+use Rattle.descriptors.specs.Walk.{before, beforeFirst, standOf}
+use Rattle.descriptors.specs.Check.{Progress, placed, fresh, mayBegin, mayList, allowed, atInterface, atEndpoint, ended, beginning}
 use Rattle.descriptors.specs.declared.sequence.Order.{Order}
 use Rattle.descriptors.specs.Sequence.{nextOf, settles, Low, begins, BegunBy, free, listable, listedIn, settingOut}
 
@@ -32,8 +31,8 @@ pub record Models (o : Order) (w : Progress) (last : Stand) : Type 0 where
   pub others : (e : ℕ) → e < 32 → bit (o .others) e ≡ (bit (w .seen) e && not (bit (w .interface) e))
   pub within : (e : ℕ) → e < 32 → bit (w .interface) e ≡ true → bit (w .seen) e ≡ true
   pub listed : (e : ℕ) → e < 32 → bit (w .setting) e ≡ true → bit (w .seen) e ≡ true
-  pub inside : last .inside ≡ true → (last .interface < 16) × (last .alternate ≤ 15) × (o .again ≡ last .interface + 256 * (last .alternate + 1))
-  pub outside : last .inside ≡ false → (last .interface ≡ 0) × (w .interface ≡ 0) × (o .again ≡ 65791) × (w .coming ≡ 0)
+  pub inside : last .inside ≡ true → (last .interface < 16) × (last .alternate ≤ 15) × (o .last ≡ last .interface + 256 * last .alternate)
+  pub outside : last .inside ≡ false → (last .interface ≡ 0) × (w .interface ≡ 0) × (o .last ≡ beforeFirst) × (w .coming ≡ 0)
 
 pub models-begin : Models settingOut beginning before
 models-begin = record {
@@ -47,16 +46,16 @@ models-begin = record {
   outside = λ _. (refl, refl, refl, refl);
 }
 
-pub models-low : {o : Order} {w : Progress} {last : Stand} → Models o w last → Low (o .again)
+pub models-low : {o : Order} {w : Progress} {last : Stand} → Models o w last → Low (o .last)
 models-low {o} {w} {last} m = cases (last .inside)
     (λ p. let x = m .inside p in record { small = omega (arith, x .0, x .1, x .2); low = λ _. omega (arith, x .0, x .1, x .2) })
     (λ p. let x = m .outside p in record { small = omega (arith, x .2); low = λ l. absurd (omega (arith, x .2)) })
 
 -- the number of a setting that may come
-pub low-number : (again setting : ℕ) → Low again → settles again setting ≡ true → setting % 256 < 16
-low-number again setting l p = cases (eqb setting again)
-    (λ q. let r = eqb-true setting again q in let m = leb-true setting 4095 (rw q at p) in rw r (l .low (omega arith)))
-    (λ q. let m = ltb-true setting 16 (both (eqb setting (nextOf again)) (ltb setting 16) (rw q at p) .1) in omega arith)
+pub low-number : (last setting : ℕ) → Low last → settles last setting ≡ true → setting % 256 < 16
+low-number last setting l p = cases (eqb setting (last + 256))
+    (λ q. let r = eqb-true setting (last + 256) q in let m = ltb-true setting 4096 (rw q at p) in omega (arith, l .low (omega arith)))
+    (λ q. let m = ltb-true setting 16 (both (eqb setting (nextOf last)) (ltb setting 16) (rw q at p) .1) in omega arith)
 
 -- ---- where an interface descriptor may come
 module _ (last : Stand) (t : Setting) where
@@ -88,31 +87,31 @@ module _ (last : Stand) (t : Setting) (o : Order) (i : t .interface < 256) (j : 
   abbrev s : ℕ
   s = t .interface + 256 * t .alternate
 
-  settles-inside : last .inside ≡ true → last .interface < 16 → o .again ≡ last .interface + 256 * (last .alternate + 1)
-      → settles (o .again) s ≡ (placed last t && ltb (t .interface) 16)
-  settles-inside p l m = cases (eqb s (o .again))
+  settles-inside : last .inside ≡ true → last .interface < 16 → o .last ≡ last .interface + 256 * last .alternate
+      → settles (o .last) s ≡ (placed last t && ltb (t .interface) 16)
+  settles-inside p l m = cases (eqb s (o .last + 256))
       (λ q.
-      let r = eqb-true s (o .again) q in
+      let r = eqb-true s (o .last + 256) q in
       let a : t .alternate ≡ last .alternate + 1 = omega arith in
       let e : t .interface ≡ last .interface = omega arith in
       rw q (same e ∙ again last t e p l a))
-      (λ q. rw q (cases (eqb s (nextOf (o .again)))
+      (λ q. rw q (cases (eqb s (nextOf (o .last)))
       (λ u.
-      let r = eqb-true s (nextOf (o .again)) u in
+      let r = eqb-true s (nextOf (o .last)) u in
       let a : t .alternate ≡ 0 = omega arith in
       let v : t .interface ≡ last .interface + 1 = omega arith in
       let e : t .interface ≡ last .interface → ⊥ = λ z. omega arith in
       rw u (cases (ltb s 16)
       (λ y. let z = ltb-true s 16 y in rw y (sym (eq-eqb (t .interface) (last .interface + 1) v) ∙ at-next last t e (omega arith) a p))
       (λ y. let z = ltb-false s 16 y in rw y (too-high last t e (omega arith)))))
-      (λ u. rw u (neither (eqb-false s (o .again) q) (eqb-false s (nextOf (o .again)) u)))))
+      (λ u. rw u (neither (eqb-false s (o .last + 256) q) (eqb-false s (nextOf (o .last)) u)))))
     where
-      same : t .interface ≡ last .interface → leb s 4095 ≡ leb (t .alternate) 15
+      same : t .interface ≡ last .interface → ltb s 4096 ≡ leb (t .alternate) 15
       same e = cases (leb (t .alternate) 15)
-          (λ y. let z = leb-true (t .alternate) 15 y in rw y (le-leb s 4095 (omega arith)))
-          (λ y. let z = leb-false (t .alternate) 15 y in rw y (lt-leb s 4095 (omega arith)))
+          (λ y. let z = leb-true (t .alternate) 15 y in rw y (lt-ltb s 4096 (omega arith)))
+          (λ y. let z = leb-false (t .alternate) 15 y in rw y (le-ltb s 4096 (omega arith)))
 
-      neither : (s ≡ o .again → ⊥) → (s ≡ nextOf (o .again) → ⊥) → false ≡ (placed last t && ltb (t .interface) 16)
+      neither : (s ≡ o .last + 256 → ⊥) → (s ≡ nextOf (o .last) → ⊥) → false ≡ (placed last t && ltb (t .interface) 16)
       neither u v = cases (eqb (t .interface) (last .interface))
           (λ y. let e = eqb-true (t .interface) (last .interface) y in not-again last t e p (λ a. u (omega arith)))
           (λ y.
@@ -125,10 +124,10 @@ module _ (last : Stand) (t : Setting) (o : Order) (i : t .interface < 256) (j : 
           (λ k. too-high last t e (ltb-false (t .interface) 16 k)))
           (λ z. not-next last t e p (eqb-false (t .alternate) 0 z)))
 
-  settles-outside : last .inside ≡ false → o .again ≡ 65791 → settles (o .again) s ≡ (placed last t && ltb (t .interface) 16)
+  settles-outside : last .inside ≡ false → o .last ≡ beforeFirst → settles (o .last) s ≡ (placed last t && ltb (t .interface) 16)
   settles-outside p m =
-      let q : eqb s (o .again) ≡ false = ne-eqb s (o .again) (λ e. omega arith) in
-      let z : nextOf (o .again) ≡ 0 = rw m in
+      let q : eqb s (o .last + 256) ≡ false = ne-eqb s (o .last + 256) (λ e. omega arith) in
+      let z : nextOf (o .last) ≡ 0 = rw m in
       rw (q, z) (first ∙ at-first last t p)
     where
       first : (eqb s 0 && ltb s 16) ≡ (eqb (t .interface) 0 && eqb (t .alternate) 0 && ltb (t .interface) 16)
@@ -139,7 +138,7 @@ module _ (last : Stand) (t : Setting) (o : Order) (i : t .interface < 256) (j : 
           (λ y. rw (u, y)))
 
 module _ {o : Order} {w : Progress} {last : Stand} (m : Models o w last) (d : List ℕ) where
-  pub models-settles : bInterfaceNumber d < 256 → bAlternateSetting d < 256 → settles (o .again) (word d 2) ≡ (placed last (begunBy d) && ltb (bInterfaceNumber d) 16)
+  pub models-settles : bInterfaceNumber d < 256 → bAlternateSetting d < 256 → settles (o .last) (word d 2) ≡ (placed last (begunBy d) && ltb (bInterfaceNumber d) 16)
   models-settles i j = cases (last .inside)
       (λ p. let x = m .inside p in settles-inside last (begunBy d) o i j p (x .0) (x .2))
       (λ p. let x = m .outside p in settles-outside last (begunBy d) o i j p (x .2))
@@ -189,7 +188,7 @@ module _ {o : Order} {w : Progress} {last : Stand} (m : Models o w last) (d : Li
           both-set false false = refl
 
   -- ---- after an interface descriptor: another setting of the same interface, or the first of the next one
-  module _ (next : Order) (g : BegunBy o d next) (may : settles (o .again) (word d 2) ≡ true) (i : bInterfaceNumber d < 256) (j : bAlternateSetting d < 256) where
+  module _ (next : Order) (g : BegunBy o (word d 2) d next) (may : settles (o .last) (word d 2) ≡ true) (i : bInterfaceNumber d < 256) (j : bAlternateSetting d < 256) where
     abbrev stand : Stand
     stand = record { inside = true; interface = bInterfaceNumber d; alternate = bAlternateSetting d }
 
@@ -201,10 +200,10 @@ module _ {o : Order} {w : Progress} {last : Stand} (m : Models o w last) (d : Li
 
     -- the addresses of this interface's settings
     kept : next .own ≡ atInterface w last stand d .interface
-    kept = g .rest .owns ∙ cases (eqb (word d 2) (o .again))
+    kept = g .rest .owns ∙ cases (eqb (word d 2) (o .last + 256))
         (λ q. rw q (cases (last .inside)
-        (λ p. let x = m .inside p in let r = eqb-true (word d 2) (o .again) q in rw (eq-eqb (bInterfaceNumber d) (last .interface) (omega (arith, x .0, x .1, x .2))) (m .owns))
-        (λ p. let x = m .outside p in let r = eqb-true (word d 2) (o .again) q in absurd (omega (arith, x .2)))))
+        (λ p. let x = m .inside p in let r = eqb-true (word d 2) (o .last + 256) q in rw (eq-eqb (bInterfaceNumber d) (last .interface) (omega (arith, x .0, x .1, x .2))) (m .owns))
+        (λ p. let x = m .outside p in let r = eqb-true (word d 2) (o .last + 256) q in absurd (omega (arith, x .2)))))
         (λ q. rw q (cases (last .inside)
         (λ p. let x = m .inside p in rw (ne-eqb (bInterfaceNumber d) (last .interface) (λ e. other (x .0) (x .2) q e)))
         (λ p. let x = m .outside p in rw (x .1) (sym (pick-same (eqb (bInterfaceNumber d) (last .interface)))))))
@@ -213,14 +212,14 @@ module _ {o : Order} {w : Progress} {last : Stand} (m : Models o w last) (d : Li
         pick-same true = refl
         pick-same false = refl
 
-        other : last .interface < 16 → o .again ≡ last .interface + 256 * (last .alternate + 1) → eqb (word d 2) (o .again) ≡ false → bInterfaceNumber d ≡ last .interface → ⊥
+        other : last .interface < 16 → o .last ≡ last .interface + 256 * last .alternate → eqb (word d 2) (o .last + 256) ≡ false → bInterfaceNumber d ≡ last .interface → ⊥
         other l a q e =
-            let (u, _) = both (eqb (word d 2) (nextOf (o .again))) (ltb (word d 2) 16) (rw q at may) in
-            let v = eqb-true (word d 2) (nextOf (o .again)) u in
+            let (u, _) = both (eqb (word d 2) (nextOf (o .last))) (ltb (word d 2) 16) (rw q at may) in
+            let v = eqb-true (word d 2) (nextOf (o .last)) u in
             omega arith
 
     left : (e : ℕ) → e < 32 → bit (next .others) e ≡ (bit (w .seen) e && not (bit (next .own) e))
-    left e l = g .rest .takes e l ∙ rw (g .rest .owns) (cases (eqb (word d 2) (o .again))
+    left e l = g .rest .takes e l ∙ rw (g .rest .owns) (cases (eqb (word d 2) (o .last + 256))
         (λ q. rw (q, m .others e l, m .owns))
         (λ q. rw (q, m .others e l, m .owns, bit-zero e) (new (bit (w .seen) e) (bit (w .interface) e) (m .within e l))))
       where
@@ -240,16 +239,16 @@ module _ {o : Order} {w : Progress} {last : Stand} (m : Models o w last) (d : Li
           (λ q. m .within e l (rw q at p))
           (λ q. never (rw q at p) (bit-zero e));
       listed = λ e _ p. never p (bit-zero e);
-      inside = λ _. (low .0, low .1, g .again ∙ omega arith);
+      inside = λ _. (low .0, low .1, g .last);
       outside = λ p. never refl p;
     }
 
 -- ---- the end
 module _ {o : Order} {w : Progress} {last : Stand} (m : Models o w last) where
-  pub models-ended : (n : ℕ) → 1 ≤ n → (eqb (nextOf (o .again)) n && eqb (o .coming) 0) ≡ ended n w last
+  pub models-ended : (n : ℕ) → 1 ≤ n → (eqb (nextOf (o .last)) n && eqb (o .coming) 0) ≡ ended n w last
   models-ended n one = cases (last .inside)
-      (λ p. let x = m .inside p in let e : nextOf (o .again) ≡ last .interface + 1 = omega (arith, x .0, x .2) in rw (p, e, m .comes))
-      (λ p. let x = m .outside p in let z : nextOf (o .again) ≡ 0 = rw (x .2) in rw (p, z, ne-eqb 0 n (λ e. omega arith)))
+      (λ p. let x = m .inside p in let e : nextOf (o .last) ≡ last .interface + 1 = omega (arith, x .0, x .2) in rw (p, e, m .comes))
+      (λ p. let x = m .outside p in let z : nextOf (o .last) ≡ 0 = rw (x .2) in rw (p, z, ne-eqb 0 n (λ e. omega arith)))
 
 -- ---- what may come is what the check allows
 length-first : (named long due placed : Bool) → (long && (named && due && placed)) ≡ (named && long && (due && placed))
@@ -264,7 +263,7 @@ number-last true false p q = refl
 number-last false c p q = refl
 
 module _ (limits : Limits) {o : Order} {w : Progress} {last : Stand} (m : Models o w last) (d : List ℕ) where
-  pub begins-allowed : bInterfaceNumber d < 256 → bAlternateSetting d < 256 → isInterface d ≡ true → begins o d ≡ (allowed limits w last (standOf last d) d && ltb (bInterfaceNumber d) 16)
+  pub begins-allowed : bInterfaceNumber d < 256 → bAlternateSetting d < 256 → isInterface d ≡ true → begins o (word d 2) d ≡ (allowed limits w last (standOf last d) d && ltb (bInterfaceNumber d) 16)
   begins-allowed i j k =
       let p = eqb-true (bDescriptorType d) 4 k in
       let a : mayBegin w last (standOf last d) d ≡ allowed limits w last (standOf last d) d = simp (p, and-true) (length-first (typeAllowed 4) (leb 9 (length d)) (eqb (w .coming) 0) (placed last (begunBy d))) in

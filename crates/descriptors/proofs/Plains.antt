@@ -11,7 +11,7 @@ use borrow.Author.Tests.{ne-eqb}
 use Rattle.octets.specs.Octets.{byte}
 use Rattle.descriptors.specs.Descriptor.{isInterface, isEndpoint}
 use Rattle.descriptors.specs.Walk.{Plain, Plains, nothing, onward}
-use Rattle.descriptors.proofs.Walk.{spanned}
+use Rattle.descriptors.proofs.Walks.{spanned}
 
 module _ {body : List ℕ} {from : ℕ} where
   -- what holds at the first of them, and behind each if it holds before it, holds behind the last

@@ -13,11 +13,9 @@ use Rattle.octets.specs.Octets.{byte, word, Bytes}
 use Rattle.octets.specs.Sentences.{pick, _⇒_, every}
 use Rattle.octets.specs.Table.{has}
 use Rattle.octets.proofs.Sentences.{cases, never, both}
-use Rattle.descriptors.specs.declared.Limits.{Limits}
+use Rattle.descriptors.specs.declared.limits.Limits.{Limits}
 use Rattle.descriptors.specs.declared.Setting.{Setting}
-use Rattle.descriptors.specs.declared.Stand.{Stand}
-use Rattle.descriptors.specs.declared.Step.{Step}
-use Rattle.descriptors.specs.declared.check.Progress.{Progress}
+use Rattle.descriptors.specs.declared.walk.Stand.{Stand}
 use Rattle.descriptors.specs.declared.check.Turned.{Turned}
 use Rattle.descriptors.specs.declared.check.Verdict.{Verdict}
 use Rattle.descriptors.specs.declared.sequence.Order.{Order}
@@ -26,10 +24,10 @@ use Rattle.descriptors.specs.Descriptor.{bDescriptorType, isInterface, i
 use Rattle.descriptors.specs.Interfaces.{begunBy}
 use Rattle.descriptors.specs.Cut.{Cutting, whole, broken, descriptor, cut}
 use Rattle.descriptors.specs.Configuration.{bitOf}
-use Rattle.descriptors.specs.Walk.{settingAt, before, standOf, stepsOn, stepOf, Plain, Plains, orElse, walked, collected}
-use Rattle.descriptors.specs.Check.{placed, inOrder, unshared, allowed, accompanied, atEndpoint, onward, ended, beginning, Course, starting, passing, checking, referenceOf, referring, verdict}
+use Rattle.descriptors.specs.Walk.{Pace, settingAt, before, standOf, settingAfter, stepsOn, stepOf, Plain, Plains, orElse, walked, collected}
+use Rattle.descriptors.specs.Check.{Progress, placed, inOrder, unshared, allowed, accompanied, atEndpoint, onward, ended, beginning, Course, starting, passing, checking, referenceOf, referring, verdict}
 use Rattle.descriptors.specs.Sequence.{nextOf, settles, begins, BegunBy, listable, listedIn, proceeds, settingOut, Turns, unaccompanied}
-use Rattle.descriptors.proofs.Walk.{Walking, spanned, walk-stop, walk-on, walk-end}
+use Rattle.descriptors.proofs.Walks.{Walking, spanned, walk-stop, walk-on, walk-end}
 use Rattle.descriptors.proofs.Plains.{plains-through, plain-kind, no-interface, no-endpoint}
 use Rattle.descriptors.proofs.CheckOrder.{kinds}
 use Rattle.descriptors.proofs.CheckWhole.{unasked, pass-on, pass-none, passed-without, check-stuck}
@@ -135,7 +133,7 @@ module _ {limits : Limits} {n : ℕ} {names body : List ℕ} {from : ℕ} {o : O
       abbrev stand : Stand
       stand = standOf last (spanned body at end)
 
-      pub is-step : _≡_ {A = Step} (record { end = end; stand = standOf last (spanned body at end) }) (stepOf body at last)
+      pub is-step : _≡_ {A = Pace} (record { end = end; stand = standOf last (spanned body at end) }) (stepOf body at last)
       is-step = rw (e, le-leb 2 (byte body at) two, lt-ltb at (length body) h, le-leb (byte body at) (length body - at) (omega arith), add-sub-cancel-left)
 
       pub goes-on : at < end
@@ -195,7 +193,7 @@ module _ {limits : Limits} {n : ℕ} {names body : List ℕ} {from : ℕ} {o : O
 
         -- an interface descriptor
         module _ (i : isInterface d ≡ true) where
-          module _ (may : begins o d ≡ true) where
+          module _ (may : begins o (word d 2) d ≡ true) where
             pair : (allowed limits w last stand d ≡ true) × (ltb (byte d 2) 16 ≡ true)
             pair = both (allowed limits w last stand d) (ltb (byte d 2) 16) (sym (begins-allowed limits (r .models) d b2 b3 i) ∙ may)
 
@@ -205,14 +203,14 @@ module _ {limits : Limits} {n : ℕ} {names body : List ℕ} {from : ℕ} {o : O
             pub may-stand : placed last (begunBy d) ≡ true
             may-stand = rw i at (allowed-placed limits w last d i (pair .0))
 
-            settled : settles (o .again) (word d 2) ≡ true
+            settled : settles (o .last) (word d 2) ≡ true
             settled = models-settles (r .models) d b2 b3 ∙ rw (may-stand, pair .1)
 
             one-reference : every (has names) (referenceOf d) ≡ has names (iInterface d)
             unfolding every
             one-reference = rw i (and-true (has names (iInterface d)))
 
-            pub reached-interface : (next : Order) (g : BegunBy o d next) → Reached limits n names body from next (refers && has names (iInterface d)) (onward w last stand d) stand end
+            pub reached-interface : (next : Order) (g : BegunBy o (word d 2) d next) → Reached limits n names body from next (refers && has names (iInterface d)) (onward w last stand d) stand end
             reached-interface next g = record {
               near = omega arith;
               models = rw i (models-interface (r .models) d next g settled b2 b3);
@@ -221,7 +219,7 @@ module _ {limits : Limits} {n : ℕ} {names body : List ℕ} {from : ℕ} {o : O
               asks = λ _. asked-next ∙ rw one-reference;
             }
 
-          pub interface-refused : n ≤ 16 → begins o d ≡ false → total ≡ false
+          pub interface-refused : n ≤ 16 → begins o (word d 2) d ≡ false → total ≡ false
           interface-refused few p = cases (allowed limits w last stand d)
               (λ a.
               let high = ltb-false (byte d 2) 16 (too-high a) in
@@ -232,12 +230,12 @@ module _ {limits : Limits} {n : ℕ} {names body : List ℕ} {from : ℕ} {o : O
               too-high a = sym (rw a) ∙ sym (begins-allowed limits (r .models) d b2 b3 i) ∙ p
 
         -- any descriptor that may come
-        pub reached-turn : {turned : Turned} → Turns limits names o refers d turned → turned .good ≡ true
+        pub reached-turn : {setting : ℕ} {turned : Turned} → setting ≡ settingAfter (o .last) d → Turns limits names o setting refers d turned → turned .good ≡ true
             → Stood limits n names body from (turned .order) (turned .refers) end
-        reached-turn {turned} t g =
+        reached-turn {setting} {turned} told t g =
             let p = sym (t .may) ∙ g in
             kinds d
-            (λ i k. let s = t .starts i g in record { w = onward w last stand d; last = stand; reached = rw (s .1) (reached-interface i (rw (k, i) at p) (turned .order) (s .0)) })
+            (λ i k. let s = t .starts i g in let n : setting ≡ word d 2 = told ∙ rw i in record { w = onward w last stand d; last = stand; reached = rw (s .1) (reached-interface i (rw (k, i, n) at p) (turned .order) (rw n at (s .0))) })
             (λ i k. let s = t .lists k g in record { w = atEndpoint w d; last = last; reached = rw (s .0, s .1) (reached-endpoint i k (rw k at p)) })
             (λ i k. let s = t .passes i k in record { w = w; last = last; reached = rw (s .0, s .1) (reached-other i k (unnamed (named refusedTypes (bDescriptorType d)) (rw (k, i) at p))) })
           where
@@ -246,10 +244,10 @@ module _ {limits : Limits} {n : ℕ} {names body : List ℕ} {from : ℕ} {o : O
             unnamed false e = refl
 
         -- any descriptor that may not come
-        pub reached-refused : n ≤ 16 → proceeds limits o d ≡ false → total ≡ false
-        reached-refused few p =
+        pub reached-refused : n ≤ 16 → {setting : ℕ} → setting ≡ settingAfter (o .last) d → proceeds limits o setting d ≡ false → total ≡ false
+        reached-refused few {setting} told p =
             kinds d
-            (λ i k. interface-refused i few (rw (k, i) at p))
+            (λ i k. let n : setting ≡ word d 2 = told ∙ rw i in interface-refused i few (rw (k, i, n) at p))
             (λ i k. refused (sym (lists-allowed limits (r .models) d (omega arith) k) ∙ (rw k at p)))
             (λ i k. refused (sym (another i k) ∙ (rw (k, i) at p)))
           where
@@ -257,7 +255,7 @@ module _ {limits : Limits} {n : ℕ} {names body : List ℕ} {from : ℕ} {o : O
             another i k = simp (i, k, and-true)
 
 -- of companions a turn says nothing
-pub turns-alone : {limits : Limits} {names : List ℕ} {o : Order} {refers : Bool} {d : List ℕ} {r : Turned} → Turns limits names o refers d r → Turns (unaccompanied limits) names o refers d r
+pub turns-alone : {limits : Limits} {names : List ℕ} {o : Order} {setting : ℕ} {refers : Bool} {d : List ℕ} {r : Turned} → Turns limits names o setting refers d r → Turns (unaccompanied limits) names o setting refers d r
 turns-alone t = record { may = t .may; lists = t .lists; starts = t .starts; passes = t .passes }
 
 -- ---- a descriptor that is stepped over, by its type alone; where it ends past the body, the body is not good
@@ -310,7 +308,7 @@ module _ {limits : Limits} {n : ℕ} {names body : List ℕ} {from : ℕ} {o : O
     ends : (ended n w last && (limits .companions ⇒ true)) ≡ verdictOf limits n body from
     ends = walk-end (r .checks l) m
 
-    ends-so : 1 ≤ n → (eqb (nextOf (o .again)) n && eqb (o .coming) 0) ≡ verdictOf limits n body from
+    ends-so : 1 ≤ n → (eqb (nextOf (o .last)) n && eqb (o .coming) 0) ≡ verdictOf limits n body from
     ends-so one = models-ended (r .models) n one ∙ sym (ap (λ (b : Bool). ended n w last && b) (asks-nothing (limits .companions)) ∙ and-true (ended n w last)) ∙ ends
       where
         asks-nothing : (b : Bool) → (b ⇒ true) ≡ true
@@ -321,14 +319,14 @@ module _ {limits : Limits} {n : ℕ} {names body : List ℕ} {from : ℕ} {o : O
     refers-so = asked-all (has names) body last at refers (referencesIn names body from) (r .asks l) m
 
   -- how the walk ends, if nothing stopped it
-  pub reached-end : 1 ≤ n → length body ≤ at + 1 → (eqb at (length body) && eqb (nextOf (o .again)) n && eqb (o .coming) 0) ≡ verdictOf limits n body from
+  pub reached-end : 1 ≤ n → length body ≤ at + 1 → (eqb at (length body) && eqb (nextOf (o .last)) n && eqb (o .coming) 0) ≡ verdictOf limits n body from
   reached-end one b = cases (eqb at (length body))
       (λ x. rw x (ends-so (eqb-true at (length body) x) one))
       (λ x. rw x (sym (broken-off (eqb-false at (length body) x) b)))
 
   -- the verdict then; of a body that is not good, nothing is said of its references
   pub verdict-end : 1 ≤ n → length body ≤ at + 1
-      → let good = eqb at (length body) && eqb (nextOf (o .again)) n && eqb (o .coming) 0 in
+      → let good = eqb at (length body) && eqb (nextOf (o .last)) n && eqb (o .coming) 0 in
       _≡_ {A = Verdict} (record { good = good; refers = good && refers }) (verdict (verdictOf limits n body from) (referencesIn names body from))
   verdict-end one b = cases (eqb at (length body))
       (λ x. rw (reached-end one b, refers-so (eqb-true at (length body) x)))

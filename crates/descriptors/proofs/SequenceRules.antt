@@ -14,7 +14,7 @@ use Rattle.octets.specs.Bit.{bit}
 use Rattle.octets.specs.Octets.{byte}
 use Rattle.octets.proofs.Sentences.{cases}
 use Rattle.octets.proofs.Bits.{bit-past}
-use Rattle.descriptors.specs.declared.Limits.{Limits}
+use Rattle.descriptors.specs.declared.limits.Limits.{Limits}
 use Rattle.descriptors.specs.Limits.{refusedTypes, named, within, doubled}
 use Rattle.descriptors.specs.Descriptor.{bEndpointAddress, bmAttributes, wMaxPacketSize, bInterval, transferType, goodAddress, goodAttributes, goodSize, goodInterval, ranges, sized, typeAllowed}
 use Rattle.descriptors.specs.declared.sequence.Order.{Order}

@@ -17,8 +17,7 @@ use Rattle.octets.proofs.Bits.{bit-zero}
 use Rattle.octets.proofs.Words.{set-digit}
 use Rattle.descriptors.specs.declared.Setting.{Setting}
 use Rattle.descriptors.specs.declared.Endpoint.{Endpoint}
-use Rattle.descriptors.specs.declared.Stand.{Stand}
-use Rattle.descriptors.specs.declared.Step.{Step}
+use Rattle.descriptors.specs.declared.walk.Stand.{Stand}
 use Rattle.descriptors.specs.declared.lookup.EndpointFound.{EndpointFound}
 use Rattle.descriptors.specs.declared.lookup.EndpointFound.the-variants.{At, Nothing}
 use Rattle.descriptors.specs.declared.survey.Asked.{Asked}
@@ -27,10 +26,10 @@ use Rattle.descriptors.specs.Cut.{Cutting, cut, descriptorsOf}
 use Rattle.descriptors.specs.Descriptor.{bDescriptorType, isInterface, isEndpoint}
 use Rattle.descriptors.specs.Interfaces.{begunBy}
 use Rattle.descriptors.specs.Configuration.{configurationOf, isCurrent, canHalt}
-use Rattle.descriptors.specs.Walk.{before, standOf, stepOf, Plain, Plains, walked}
+use Rattle.descriptors.specs.Walk.{Pace, before, standOf, stepOf, Plain, Plains, walked}
 use Rattle.descriptors.specs.Lookup.{found, beginsOne, lists, listed, listsOne, withBit, bitsFrom, bitsOf}
 use Rattle.descriptors.specs.Survey.{isSetting, currentAt, currentHalting, changing, noting, earlier, foundHere, nothingSeen, onward, atCurrent, atOther, surveying, Surveys}
-use Rattle.descriptors.proofs.Walk.{spanned, Walking, walk-on, gathers}
+use Rattle.descriptors.proofs.Walks.{spanned, Walking, walk-on, gathers}
 use Rattle.descriptors.proofs.Ahead.{Place, steps, turn, Begun, settings-begin, endpointsUnder, endpoints-begin}
 use Rattle.descriptors.proofs.Plains.{plains-through, no-interface, no-endpoint}
 
@@ -191,7 +190,7 @@ module _ (alternates : List ℕ) (asked : Asked) (body : List ℕ) (total s : Su
       let h : r < length body = omega (arith, d .inside) in
       let i = no-interface body r d in
       let span = spanned body r (r + byte body r) in
-      let e : _≡_ {A = Step} (record { end = r + byte body r; stand = standOf stand (spanned body r (r + byte body r)) }) (stepOf body r stand) = rw (steps body r p h, add-sub-cancel-left) in
+      let e : _≡_ {A = Pace} (record { end = r + byte body r; stand = standOf stand (spanned body r (r + byte body r)) }) (stepOf body r stand) = rw (steps body r p h, add-sub-cancel-left) in
       let t = turn body r stand p h _ e in
       (t .place, rw i at (walk-on w e h (t .on) refl (sym (adds-nothing alternates asked s (standOf stand span) span i (no-endpoint body r d)))))
 

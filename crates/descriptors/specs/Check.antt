@@ -6,10 +6,9 @@ use lib.ListN.{length}
 use lib.Dec.{eqb, leb}
 use Rattle.octets.specs.Bit.{bit, setBit}
 use Rattle.octets.specs.Sentences.{pick, _⇒_, every}
-use Rattle.descriptors.specs.declared.Limits.{Limits}
+use Rattle.descriptors.specs.declared.limits.Limits.{Limits}
 use Rattle.descriptors.specs.declared.Setting.{Setting}
-use Rattle.descriptors.specs.declared.Stand.{Stand}
-use Rattle.descriptors.specs.declared.check.Progress.{Progress}
+use Rattle.descriptors.specs.declared.walk.Stand.{Stand}
 use Rattle.descriptors.specs.declared.check.Verdict.{Verdict}
 use Rattle.descriptors.specs.Companion.{isCompanion}
 use Rattle.descriptors.specs.Descriptor.{isInterface, isEndpoint, bNumEndpoints, iInterface, bEndpointAddress, typeAllowed, interfaceLongEnough, goodEndpoint, goodDescriptor}
@@ -17,6 +16,14 @@ use Rattle.descriptors.specs.Interfaces.{follows, numberZero, alternateZ
 use Rattle.descriptors.specs.Configuration.{bitOf, configurationReferences}
 use Rattle.descriptors.specs.Walk.{settingAt, Walk, testing}
 use Rattle.octets.specs.Table.{has}
+
+-- how far the check is: how many endpoints of this setting are still to come; and, a bit for each address, the addresses of this setting, of this
+-- interface's settings, and of all that was seen. Where it stands is the step's to say
+pub record Progress : Type 0 where
+  pub coming : ℕ
+  pub setting : ℕ
+  pub interface : ℕ
+  pub seen : ℕ
 
 -- a setting may come after a descriptor that stands at `last`: the first is number 0, alternate 0; a later one follows the one before it;
 -- alternates end at 15

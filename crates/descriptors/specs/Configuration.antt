@@ -8,7 +8,7 @@ use lib.Dec.{eqb, leb}
 use Rattle.octets.specs.Octets.{byte, word}
 use Rattle.octets.specs.Bit.{clearBit}
 use Rattle.octets.specs.Sentences.{_⇒_, every, any, only, first}
-use Rattle.descriptors.specs.declared.Limits.{Limits}
+use Rattle.descriptors.specs.declared.limits.Limits.{Limits}
 use Rattle.descriptors.specs.declared.Setting.{Setting}
 use Rattle.descriptors.specs.declared.Endpoint.{Endpoint}
 use Rattle.descriptors.specs.Cut.{cut, descriptorsOf, wellCut}

@@ -6,9 +6,9 @@ use lib.ListN.{length}
 use lib.Dec.{eqb, leb}
 use Rattle.octets.specs.Octets.{byte, word}
 use Rattle.octets.specs.Sentences.{_⇒_}
-use Rattle.descriptors.specs.declared.Range.{Range}
-use Rattle.descriptors.specs.declared.Ranges.{Ranges}
-use Rattle.descriptors.specs.declared.Limits.{Limits}
+use Rattle.descriptors.specs.declared.limits.Range.{Range}
+use Rattle.descriptors.specs.declared.limits.Ranges.{Ranges}
+use Rattle.descriptors.specs.declared.limits.Limits.{Limits}
 use Rattle.descriptors.specs.Limits.{rangesOf, refusedTypes, within, doubled, named}
 
 abbrev pub bDescriptorType : List ℕ → ℕ

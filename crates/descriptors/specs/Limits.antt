@@ -3,11 +3,11 @@ use Prim.Native.Nat.{ℕ, _+_, _*_, _^_}
 use mathlib.Core.Bool.{Bool, true, false, _&&_, _||_}
 use lib.Dec.{eqb, leb}
 use Rattle.octets.specs.Bit.{bit}
-use Rattle.descriptors.specs.declared.Range.{Range}
-use Rattle.descriptors.specs.declared.Ranges.{Ranges}
-use Rattle.descriptors.specs.declared.Speed.{Speed}
-use Rattle.descriptors.specs.declared.Speed.the-variants.{Full, High, Super}
-use Rattle.descriptors.specs.declared.Limits.{Limits}
+use Rattle.descriptors.specs.declared.limits.Range.{Range}
+use Rattle.descriptors.specs.declared.limits.Ranges.{Ranges}
+use Rattle.descriptors.specs.declared.limits.Speed.{Speed}
+use Rattle.descriptors.specs.declared.limits.Speed.the-variants.{Full, High, Super}
+use Rattle.descriptors.specs.declared.limits.Limits.{Limits}
 
 abbrev pub range : ℕ → ℕ → Range
 range a b = record { least = a; most = b }

@@ -1,16 +1,16 @@
 -- Working definitions for the contracts of walks over a body; no promise cites them.
-use Prim.Native.Nat.{ℕ, _+_, _-_, _≤_, _<_}
+use Prim.Native.Nat.{ℕ, _+_, _-_, _/_, _%_, _≤_, _<_}
 use mathlib.Core.List.{List, [], _++_}
 use mathlib.Core.Bool.{Bool, true, false, _&&_}
 use mathlib.Core.Path.{_≡_}
 use mathlib.Core.Option.{Option, some, none}
 use lib.ListN.{length, drop}
 use lib.Dec.{leb, ltb}
-use Rattle.octets.specs.Octets.{byte, part}
+use Rattle.octets.specs.Octets.{byte, word, part}
 use Rattle.octets.specs.Sentences.{pick}
 use Rattle.descriptors.specs.declared.Setting.{Setting}
-use Rattle.descriptors.specs.declared.Stand.{Stand}
-use Rattle.descriptors.specs.declared.Step.{Step}
+use Rattle.descriptors.specs.declared.walk.Stand.{Stand}
+use Rattle.descriptors.specs.declared.walk.Step.{Step}
 use Rattle.descriptors.specs.Cut.{Cutting, whole, broken, descriptor, cut}
 use Rattle.descriptors.specs.Descriptor.{isInterface, bInterfaceNumber, bAlternateSetting}
 
@@ -30,9 +30,40 @@ abbrev pub stepsOn : List ℕ → ℕ → Bool
 stepsOn body at = leb 2 (byte body at) && ltb at (length body) && leb (byte body at) (length body - at)
 
 -- the one step over a descriptor: where it ends, and where it stands
-abbrev pub stepOf : List ℕ → ℕ → Stand → Step
+pub record Pace : Type 0 where
+  pub end : ℕ
+  pub stand : Stand
+
+abbrev pub stepOf : List ℕ → ℕ → Stand → Pace
 stepOf body at last =
     pick (stepsOn body at) (record { end = at + byte body at; stand = standOf last (part body at (byte body at)) }) (record { end = at; stand = last })
+
+-- ---- the same with the setting as one number, bInterfaceNumber + 256 × bAlternateSetting: the number before the first interface, the stand that a
+-- number is, and the number that follows one
+abbrev pub beforeFirst : ℕ
+beforeFirst = 65791
+
+abbrev pub standIn : ℕ → Stand
+standIn setting = pick (ltb setting 65536) (record { inside = true; interface = setting % 256; alternate = setting / 256 }) before
+
+abbrev pub settingAfter : ℕ → List ℕ → ℕ
+settingAfter last d = pick (isInterface d) (word d 2) last
+
+pub record SetAfter (last : ℕ) (d : List ℕ) (setting : ℕ) : Type 0 where
+  pub sets : setting ≡ settingAfter last d
+  pub stands : standIn setting ≡ standOf (standIn last) d
+
+-- what a step tells: what the one step says, and its stand as a number, which the next step takes
+abbrev pub paceOf : Step → Pace
+paceOf step = record { end = step .end; stand = step .stand }
+
+abbrev pub staying : ℕ → ℕ → Step
+staying at last = record { end = at; setting = last; stand = standIn last }
+
+pub record Steps (body : List ℕ) (at last : ℕ) (step : Step) : Type 0 where
+  pub steps : paceOf step ≡ stepOf body at (standIn last)
+  pub apart : step .stand ≡ standIn (step .setting)
+  pub sets : step .setting ≡ pick (stepsOn body at) (settingAfter last (part body at (byte body at))) last
 
 -- a descriptor begins at `at`, of a type that no walk looks at; it may end past the body
 pub record Plain (body : List ℕ) (at : ℕ) : Type 0 where

@@ -1,5 +1,7 @@
 // The endpoint descriptors of the current settings, in the body's order: where one of them lies. The body is well cut, as in every accepted set.
-use crate::Stand;
+use crate::types::ENDPOINT;
+use crate::walk;
+use crate::walk::Stand;
 ghost use mathlib.Core.Path.{_≡_};
 ghost use mathlib.Core.Bool.{true};
 ghost use lib.ListN.{getElem?};
@@ -19,7 +21,7 @@ pub enum DescriptorFound {
 fn lists_current(d: &[u8], stand: Stand, alternates: &[u8]) -> bool
     ensures { λ r. ⌜ r ≡ listsOne (isCurrent (now (alternates .entry))) stand (now (d .entry)) ⌝ }
 {
-    (octets::peek(d, 1) == 5)
+    (octets::peek(d, 1) == ENDPOINT)
         & stand.inside
         & (stand.alternate == octets::peek(alternates, stand.interface as usize))
 }
@@ -43,12 +45,13 @@ pub fn find(body: &[u8], alternates: [u8; 16], number: u8) -> DescriptorFound
     ensures { λ r. ⌜ r ≡ foundAt (getElem? (currentDescriptors alternates (now (body .entry))) number) ⌝ }
 {
     let mut left = number;
-    let mut stand = crate::outside();
+    let mut last = walk::BEFORE_FIRST;
     let mut at = octets::peek(body, 0) as usize;
     while at < body.len() {
-        let step = crate::step_over(body, at, stand);
+        let step = walk::step_over(body, at, last);
         let end = step.end;
-        stand = step.stand;
+        let stand = step.stand;
+        last = step.setting;
         let counts = lists_current(&body[at..end], stand, &alternates[..]);
         if counts & (left == 0) {
             return DescriptorFound::At {

@@ -1,24 +1,21 @@
 // The order of settings and endpoints, as the check of a body keeps it: numbers of one width, so that a compiler keeps them in registers.
-use crate::Limits;
-use crate::Ranges;
-use crate::Speed;
-use crate::check::good_address;
-use crate::check::is_doubled;
-use crate::check::is_sized;
-use crate::check::is_within;
+use crate::limits;
+use crate::limits::Limits;
+use crate::limits::Ranges;
+use crate::limits::Speed;
 use crate::lookup::bit_of;
+use crate::walk::BEFORE_FIRST;
 ghost use mathlib.Core.Path.{_≡_};
 ghost use mathlib.Core.Bool.{false};
-ghost use Prim.Native.Nat.{_≤_};
-ghost use Rattle.descriptors.specs.declared.Limits.{Limits};
+ghost use Prim.Native.Nat.{_≤_, _<_};
+ghost use Rattle.descriptors.specs.declared.limits.Limits.{Limits};
 ghost use Rattle.descriptors.specs.Limits.{rangesOf};
 ghost use Rattle.descriptors.specs.Sequence.{nextOf, Places, Begins, goodKind, comes, listedIn, settingOut};
 
-// The two bytes of a setting, its interface's number and its alternate, are one number: `again` is that of this interface's next setting, and before
-// the first interface none that a setting has. `coming` endpoints are still to come. A bit for each address: `others` are those of the interfaces
-// before, `own` those of this interface's settings, `setting` those of this setting.
+// `last` is the setting of the descriptor before, as the step gives it. `coming` endpoints are still to come. A bit for each address: `others` are
+// those of the interfaces before, `own` those of this interface's settings, `setting` those of this setting.
 pub struct Order {
-    pub again: u32,
+    pub last: u32,
     pub coming: u32,
     pub others: u32,
     pub own: u32,
@@ -42,7 +39,7 @@ pub fn set_out() -> Order
     ensures { λ r. ⌜ r ≡ settingOut ⌝ }
 {
     Order {
-        again: 65791,
+        last: BEFORE_FIRST,
         coming: 0,
         others: 0,
         own: 0,
@@ -51,10 +48,10 @@ pub fn set_out() -> Order
 }
 
 // The number of the next interface's first setting.
-pub fn next_of(again: u32) -> u32
-    ensures { λ r. ⌜ r ≡ nextOf again ⌝ }
+pub fn next_of(last: u32) -> u32
+    ensures { λ r. ⌜ r ≡ nextOf last ⌝ }
 {
-    (again % 256 + 1) % 256
+    (last % 256 + 1) % 256
 }
 
 fn refused() -> Placing
@@ -69,10 +66,11 @@ fn refused() -> Placing
 
 // A setting that comes, by its number. What is good is told by constants, so that a compiler makes branches of it.
 fn place(order: Order, setting: u32) -> Placing
+    requires { ⌜ order .last < 131072 ⌝ }
     ensures { λ r. ⌜ Places order setting r ⌝ }
 {
-    if setting == order.again {
-        if setting <= 4095 {
+    if setting == order.last + 256 {
+        if setting < 4096 {
             return Placing {
                 good: true,
                 others: order.others,
@@ -81,7 +79,7 @@ fn place(order: Order, setting: u32) -> Placing
         }
         return refused();
     }
-    if setting == next_of(order.again) {
+    if setting == next_of(order.last) {
         if setting < 16 {
             return Placing {
                 good: true,
@@ -93,9 +91,10 @@ fn place(order: Order, setting: u32) -> Placing
     refused()
 }
 
-// An interface descriptor.
-pub fn begin(d: &[u8], order: Order) -> Begun
-    ensures { λ r. ⌜ Begins order (now (d .entry)) r ⌝ }
+// An interface descriptor, whose setting the step told.
+pub fn begin(d: &[u8], setting: u32, order: Order) -> Begun
+    requires { ⌜ order .last < 131072 ⌝ }
+    ensures { λ r. ⌜ Begins order setting (now (d .entry)) r ⌝ }
 {
     if d.len() < 9 {
         return Begun { good: false, order };
@@ -103,13 +102,12 @@ pub fn begin(d: &[u8], order: Order) -> Begun
     if order.coming != 0 {
         return Begun { good: false, order };
     }
-    let setting = octets::word(d, 2) as u32;
     let placed = place(order, setting);
     if placed.good {
         return Begun {
             good: true,
             order: Order {
-                again: setting + 256,
+                last: setting,
                 coming: octets::peek(d, 4) as u32,
                 others: placed.others,
                 own: placed.own,
@@ -125,16 +123,16 @@ pub fn good_kind_in(ranges: Ranges, attributes: u8, size: u16, interval: u8) -> 
     ensures { λ r. ⌜ ((limits : Limits) → ranges ≡ rangesOf (limits .speed) → r ≡ goodKind limits attributes size interval) ⌝ }
 {
     if attributes == 3 {
-        return is_sized(ranges.bursts, ranges.interrupt, size)
-            & is_within(ranges.polling, interval as u16);
+        return limits::is_sized(ranges.bursts, ranges.interrupt, size)
+            & limits::is_within(ranges.polling, interval as u16);
     }
     if attributes == 2 {
-        return is_doubled(ranges.bulk, size);
+        return limits::is_doubled(ranges.bulk, size);
     }
     if attributes % 4 == 1 {
         return (attributes <= 63)
-            & is_sized(ranges.bursts, ranges.isochronous, size)
-            & is_within(ranges.period, interval as u16);
+            & limits::is_sized(ranges.bursts, ranges.isochronous, size)
+            & limits::is_within(ranges.period, interval as u16);
     }
     false
 }
@@ -145,9 +143,9 @@ pub fn good_kind(limits: Limits, attributes: u8, size: u16, interval: u8) -> boo
 {
     let speed = limits.speed;
     match speed {
-        Speed::Full => good_kind_in(crate::full_ranges(), attributes, size, interval),
-        Speed::High => good_kind_in(crate::high_ranges(), attributes, size, interval),
-        Speed::Super => good_kind_in(crate::super_ranges(), attributes, size, interval),
+        Speed::Full => good_kind_in(limits::full_ranges(), attributes, size, interval),
+        Speed::High => good_kind_in(limits::high_ranges(), attributes, size, interval),
+        Speed::Super => good_kind_in(limits::super_ranges(), attributes, size, interval),
     }
 }
 
@@ -162,7 +160,7 @@ pub fn may_come(d: &[u8], order: Order) -> bool
         return false;
     }
     let address = octets::peek(d, 2);
-    if good_address(address) {
+    if limits::good_address(address) {
         return !octets::test_bit(order.others | order.setting, bit_of(address));
     }
     false
@@ -175,7 +173,7 @@ pub fn list(d: &[u8], order: Order) -> Order
 {
     let e = bit_of(octets::peek(d, 2));
     Order {
-        again: order.again,
+        last: order.last,
         coming: order.coming - 1,
         others: order.others,
         own: octets::set_bit(order.own, e),

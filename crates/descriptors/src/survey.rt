@@ -1,9 +1,11 @@
 // What a record and an event ask of the selected configuration, gathered in one walk. The body is well cut, as in every accepted set, so
 // each descriptor is whole. A descriptor's type is read first: most descriptors are only stepped over.
 use crate::Endpoint;
-use crate::Stand;
 use crate::lookup::EndpointFound;
 use crate::lookup::with_bit;
+use crate::types;
+use crate::walk;
+use crate::walk::Stand;
 ghost use mathlib.Core.Path.{_≡_};
 ghost use Prim.Native.Nat.{_<_};
 ghost use mathlib.Core.Bool.{true};
@@ -165,10 +167,10 @@ fn move_on(seen: Survey, d: &[u8], stand: Stand, alternates: &[u8], asked: Asked
     ensures { λ r. ⌜ r ≡ onward (now (alternates .entry)) asked seen stand (now (d .entry)) ⌝ }
 {
     let t = octets::peek(d, 1);
-    if t == 4 {
+    if t == types::INTERFACE {
         return at_interface(seen, d, stand, alternates, asked);
     }
-    if t == 5 {
+    if t == types::ENDPOINT {
         return at_endpoint(seen, d, stand, alternates, asked);
     }
     seen
@@ -180,14 +182,15 @@ pub fn walk(body: &[u8], alternates: [u8; 16], asked: Asked) -> Survey
     ensures { λ r. ⌜ Surveys (configurationOf (now (body .entry))) alternates asked r ⌝ }
 {
     let mut seen = nothing_seen();
-    let mut stand = crate::outside();
+    let mut last = walk::BEFORE_FIRST;
     let mut at = octets::peek(body, 0) as usize;
     while at < body.len() {
-        let step = crate::step_over(body, at, stand);
+        let step = walk::step_over(body, at, last);
         let end = step.end;
-        stand = step.stand;
+        let stand = step.stand;
+        last = step.setting;
         seen = move_on(seen, &body[at..end], stand, &alternates[..], asked);
-        at = crate::behind(body, end);
+        at = walk::behind(body, end);
     }
     seen
 }

@@ -5,7 +5,7 @@ use mathlib.Core.Bool.{Bool, true, false}
 use mathlib.Core.List.{List, [], _∷_, _++_, append-assoc, append-nil}
 use lib.ListN.{length}
 use Rattle.octets.specs.Sentences.{pick}
-use Rattle.descriptors.specs.declared.Stand.{Stand}
+use Rattle.descriptors.specs.declared.walk.Stand.{Stand}
 use Rattle.descriptors.specs.Cut.{Cutting, whole, broken, descriptor, cut, descriptorsOf}
 use Rattle.descriptors.specs.Walk.{before, standOf, walked, collecting, collected}
 use Rattle.dumps.specs.Dump.{hasName, namesFrom}

@@ -40,7 +40,7 @@ fn size_of(set: &[u8]) -> usize
 pub fn export(set: &[u8], serial: &[u8], out: &mut [u8]) -> Dumped
     ensures { λ r. ⌜ Exports (now (set .entry)) (now (serial .entry)) (now (out .entry)) (now (out .exit)) r ⌝ }
 {
-    let number = sets::opening(set, serial, descriptors::full_speed());
+    let number = sets::opening::opening(set, serial, descriptors::limits::full_speed());
     if number != 0 {
         return Dumped { number, written: 0 };
     }

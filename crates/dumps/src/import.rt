@@ -22,7 +22,7 @@ pub fn import(dump: &[u8], out: &mut [u8]) -> Report
             set_writer::write(
                 &stream[0..used],
                 &dump[0..0],
-                descriptors::full_speed(),
+                descriptors::limits::full_speed(),
                 out,
             )
         }

@@ -1,4 +1,6 @@
 // A dump: a device descriptor and configuration bodies end to end. Splitting it, and its bodies with their string references zeroed, as a stream of pieces.
+use descriptors::walk;
+use descriptors::walk::BEFORE_FIRST;
 ghost use mathlib.Core.Path.{_≡_};
 ghost use mathlib.Core.Bool.{true, _&&_};
 ghost use mathlib.Core.List.{map};
@@ -86,17 +88,17 @@ fn put_configuration(out: &mut [u8], from: usize, body: &[u8]) -> usize
 {
     let behind = buffers::put_bytes(out, from, body);
     blank(out, from, body.len(), 6, true);
-    let mut stand = descriptors::outside();
+    let mut last = BEFORE_FIRST;
     let mut at = 0;
     while at < body.len() {
-        let step = descriptors::advance(body, at, stand);
+        let step = walk::advance(body, at, last);
         let end = step.end;
         if end <= at {
             return behind;
         }
         let wanted = has_name(&body[at..end]);
         blank(out, from, body.len(), at + 8, wanted);
-        stand = step.stand;
+        last = step.setting;
         at = end;
     }
     behind

@@ -1,13 +1,13 @@
 // The lister: reads set.bin and unit.bin where it is run, and writes the set's lines or its refusal. The argument `super` names a SuperSpeed set.
-use descriptors::Limits;
+use descriptors::limits::Limits;
 use libc::STDOUT_FILENO;
 
 // The kind of set that was asked for.
 fn kind() -> Limits {
     if files::is_argument(1, b"super") {
-        return descriptors::super_speed();
+        return descriptors::limits::super_speed();
     }
-    descriptors::full_speed()
+    descriptors::limits::full_speed()
 }
 
 fn main() {

@@ -10,7 +10,7 @@ use borrow.Author.Tests.{eqb-true, leb-true}
 use Rattle.octets.specs.Octets.{byte}
 use Rattle.octets.specs.Sentences.{pick, _⇒_, every, only, neighbours}
 use Rattle.octets.proofs.Sentences.{both, conjunct, if-then}
-use Rattle.descriptors.specs.declared.Limits.{Limits}
+use Rattle.descriptors.specs.declared.limits.Limits.{Limits}
 use Rattle.descriptors.specs.Limits.{named, refusedTypes}
 use Rattle.descriptors.specs.Cut.{broken, descriptor, cut, cutAfter, descriptorsOf}
 use Rattle.descriptors.specs.Descriptor.{bDescriptorType, isInterface, isEndpoint, bEndpointAddress, bmAttributes, bInterval, wMaxPacketSize, transferType, goodAddress, goodAttributes, goodSize, goodInterval, goodEndpoint, goodDescriptor}

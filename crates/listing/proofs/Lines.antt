@@ -8,7 +8,7 @@ use lib.ListN.{length, drop, getD, drop-of-length-le}
 use Rattle.octets.specs.Octets.{byte}
 use Rattle.octets.specs.Sentences.{pick, _⇒_, every, only, pairs, isEmpty}
 use Rattle.octets.proofs.Sentences.{cases, both, conjunct}
-use Rattle.descriptors.specs.declared.Limits.{Limits}
+use Rattle.descriptors.specs.declared.limits.Limits.{Limits}
 use Rattle.descriptors.specs.Cut.{cut, descriptorsOf, wellCut}
 use Rattle.descriptors.specs.Descriptor.{isInterface, isEndpoint}
 use Rattle.descriptors.specs.Interfaces.{grouped, begunBy, settingOf, endpointsOf, goodSettings, counted, apart}
@@ -19,9 +19,9 @@ use Rattle.sets.specs.Contents.{entryOf, entries, bodyOf, bodies, isKind, count
 use Rattle.sets.proofs.Entries.{rest, rest-start, next-entry, no-entry, every-cons}
 use Rattle.listing.specs.Listing.{decimal, fields, line, endpointLine, interfaceLines, configurationLines}
 use Rattle.listing.specs.Written.{interfaceLine, telling, descriptorLines, entryLines, goodListed}
-use Rattle.descriptors.specs.declared.Stand.{Stand}
+use Rattle.descriptors.specs.declared.walk.Stand.{Stand}
 use Rattle.descriptors.proofs.GoodBody.{GoodDescriptors, good-cut, good-body}
-use Rattle.descriptors.proofs.Walk.{collected-flat}
+use Rattle.descriptors.proofs.Walks.{collected-flat}
 use Rattle.descriptors.proofs.Ahead.{at-first}
 use Rattle.buffers.proofs.Written.{one-more}
 

@@ -9,7 +9,7 @@ use lib.ListN.{length}
 use lib.Seq.{length-sets, sets-eq, length-take-le}
 use borrow.Author.Tests.{eq-eqb, ne-eqb}
 use Rattle.octets.specs.Sentences.{every}
-use Rattle.descriptors.specs.declared.Limits.{Limits}
+use Rattle.descriptors.specs.declared.limits.Limits.{Limits}
 use Rattle.descriptors.specs.Configuration.{goodConfiguration}
 use Rattle.sets.specs.Contents.{bodies}
 use Rattle.sets.specs.Opening.{Board, opening}

@@ -4,7 +4,7 @@ use mathlib.Core.List.{List, [], _∷_, _++_, flatMap}
 use lib.ListN.{length}
 use lib.Dec.{eqb, ltb}
 use Rattle.octets.specs.Sentences.{pick}
-use Rattle.descriptors.specs.declared.Limits.{Limits}
+use Rattle.descriptors.specs.declared.limits.Limits.{Limits}
 use Rattle.descriptors.specs.Descriptor.{bInterfaceNumber, bAlternateSetting, bNumEndpoints, bEndpointAddress, bmAttributes, transferType, wMaxPacketSize}
 use Rattle.descriptors.specs.Interfaces.{Group}
 use Rattle.descriptors.specs.Configuration.{bConfigurationValue, bNumInterfaces, groupsOf}

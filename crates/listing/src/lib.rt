@@ -1,7 +1,9 @@
 // The lister's lines, written into a lent buffer. Each function writes at a place and gives the place behind what it wrote.
 use buffers::put;
 use buffers::put_bytes;
-use descriptors::Stand;
+use descriptors::walk;
+use descriptors::walk::BEFORE_FIRST;
+use descriptors::walk::Stand;
 use sets::Entry;
 use sets::contents::body_of;
 use sets::contents::count_of;
@@ -12,7 +14,7 @@ ghost use mathlib.Core.List.{flatMap};
 ghost use Prim.Native.Nat.{_≤_};
 ghost use lib.ListN.{length};
 ghost use Rattle.octets.specs.Sentences.{every};
-ghost use Rattle.descriptors.specs.declared.Limits.{Limits};
+ghost use Rattle.descriptors.specs.declared.limits.Limits.{Limits};
 ghost use Rattle.descriptors.specs.Cut.{cut, wellCut};
 ghost use Rattle.descriptors.specs.Configuration.{goodConfiguration};
 ghost use Rattle.descriptors.specs.Walk.{settingAt};
@@ -117,14 +119,14 @@ fn put_descriptors(out: &mut [u8], at: usize, body: &[u8]) -> usize
     requires { ⌜ Room (now out) at (descriptorLines (now body)) ⌝ }
     ensures { λ r. ⌜ Wrote (now (out .entry)) at (descriptorLines (now (body .entry))) (now (out .exit)) r ⌝ }
 {
-    let mut stand = descriptors::outside();
+    let mut last = BEFORE_FIRST;
     let mut next = at;
     let mut from = octets::peek(body, 0) as usize;
     while from < body.len() {
-        let step = descriptors::step_over(body, from, stand);
+        let step = walk::step_over(body, from, last);
         let end = step.end;
-        stand = step.stand;
-        next = put_descriptor(out, next, &body[from..end], stand);
+        last = step.setting;
+        next = put_descriptor(out, next, &body[from..end], step.stand);
         from = end;
     }
     next
@@ -182,11 +184,11 @@ fn put_accepted(out: &mut [u8], set: &[u8]) -> usize
 }
 
 // The lister's text of a set, of the kind that is named, and a serial block, at the buffer's start; its length comes back.
-pub fn list(set: &[u8], serial: &[u8], limits: descriptors::Limits, out: &mut [u8]) -> usize
+pub fn list(set: &[u8], serial: &[u8], limits: descriptors::limits::Limits, out: &mut [u8]) -> usize
     requires { ⌜ room ≤ length (now out) ⌝ }
     ensures { λ r. ⌜ Listed limits (lent (now (set .entry)) (now (serial .entry))) (now (out .entry)) (now (out .exit)) r ⌝ }
 {
-    let number = sets::opening(set, serial, limits) as u16;
+    let number = sets::opening::opening(set, serial, limits) as u16;
     if number != 0 {
         return put_line(out, 0, b"REFUSED", &[number]);
     }

@@ -2,7 +2,7 @@
 use files::tell;
 
 pub fn explain(set: &[u8], serial: &[u8]) {
-    let told = rules::explain(set, serial, descriptors::full_speed());
+    let told = rules::explain(set, serial, descriptors::limits::full_speed());
     if told.number == 0 {
         return files::say(b"ACCEPTED\n");
     }

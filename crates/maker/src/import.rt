@@ -44,7 +44,11 @@ fn tell_body(dump: &[u8], n: usize, at: usize, number: u8) {
         return;
     }
     let body = buffers::head(buffers::tail(dump, at), size);
-    let verdict = descriptors::check::good_configuration(body, descriptors::full_speed(), &[0; 8]);
+    let verdict = descriptors::check::good_configuration(
+        body,
+        descriptors::limits::full_speed(),
+        &[0; 8],
+    );
     if !verdict.good {
         say_body(n, at, b" breaks a rule by itself at full speed\n");
     }

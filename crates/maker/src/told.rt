@@ -71,7 +71,7 @@ fn tell_large(n: usize, at: usize, end: usize) {
 
 fn is_entry(its_type: u8) -> bool {
     let limits = kind();
-    descriptors::check::is_named(limits.entries, its_type)
+    descriptors::limits::is_named(limits.entries, its_type)
 }
 
 // The last of the types that the kind of set has.

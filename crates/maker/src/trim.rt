@@ -11,7 +11,7 @@ fn less(x: u8, y: u8) -> u8 {
 // The trimmed set is the buffer's first `total` bytes.
 pub fn trim(set: &mut [u8], serial: &[u8]) {
     let strings = octets::peek(set, 2);
-    let number = trimming::trim(set, serial, descriptors::full_speed());
+    let number = trimming::trim(set, serial, descriptors::limits::full_speed());
     if number != 0 {
         return files::tell_refused(number, 0);
     }

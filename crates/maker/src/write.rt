@@ -1,13 +1,13 @@
 // Pieces become a set, or each piece that stands in the way is told. The word `super` names a SuperSpeed set.
 use crate::told;
-use descriptors::Limits;
+use descriptors::limits::Limits;
 
 // The kind of set that was asked for.
 pub fn kind() -> Limits {
     if files::is_argument(2, b"super") {
-        return descriptors::super_speed();
+        return descriptors::limits::super_speed();
     }
-    descriptors::full_speed()
+    descriptors::limits::full_speed()
 }
 
 fn write(stream: &[u8], serial: &[u8]) {

@@ -13,7 +13,7 @@ use Rattle.octets.specs.Octets.{byte, word}
 use Rattle.octets.specs.Sentences.{pick, _⇒_, every, any, pairs, member}
 use Rattle.octets.proofs.Sentences.{cases, never, both, joined, conjunct, if-then, then-if, every-member, member-every, every-alike, every-map}
 use Rattle.octets.proofs.Counting.{pairs-map, differ}
-use Rattle.descriptors.specs.declared.Limits.{Limits}
+use Rattle.descriptors.specs.declared.limits.Limits.{Limits}
 use Rattle.descriptors.specs.declared.Setting.{Setting}
 use Rattle.descriptors.specs.Cut.{descriptor, broken, cut, cutAfter, descriptorsOf, wellCut}
 use Rattle.descriptors.specs.Descriptor.{isInterface, isEndpoint, iInterface, goodDescriptor}

@@ -9,7 +9,7 @@ use lib.Dec.{eqb, leb}
 use borrow.Author.Tests.{leb-true, le-leb}
 use Rattle.octets.specs.Sentences.{pick, every, first}
 use Rattle.octets.proofs.Sentences.{both}
-use Rattle.descriptors.specs.declared.Limits.{Limits}
+use Rattle.descriptors.specs.declared.limits.Limits.{Limits}
 use Rattle.descriptors.specs.Limits.{named}
 use Rattle.sets.specs.Contents.{entries, entriesOf, total, bodiesAt}
 use Rattle.sets.specs.Device.{deviceBody, iSerialNumber}

@@ -12,10 +12,9 @@ use borrow.Author.Tests.{eq-eqb, leb-true, leb-false}
 use Rattle.octets.specs.Octets.{byte}
 use Rattle.octets.specs.Sentences.{pick, _⇒_, every, only, first, pairs, isSome}
 use Rattle.octets.proofs.Sentences.{cases, every-append}
-use Rattle.descriptors.specs.declared.Limits.{Limits}
+use Rattle.descriptors.specs.declared.limits.Limits.{Limits}
 use Rattle.descriptors.specs.declared.Setting.{Setting}
-use Rattle.descriptors.specs.declared.Stand.{Stand}
-use Rattle.descriptors.specs.declared.check.Progress.{Progress}
+use Rattle.descriptors.specs.declared.walk.Stand.{Stand}
 use Rattle.descriptors.specs.Cut.{Cutting, whole, broken, descriptor, cut, cutAfter, descriptorsOf, wellCut}
 use Rattle.descriptors.specs.Descriptor.{bDescriptorType, isInterface, isEndpoint, bEndpointAddress, bmAttributes, wMaxPacketSize, bInterval, transferType, goodDescriptor}
 use Rattle.descriptors.specs.Descriptor.{addressBitsZero, numberNotZero, highBitsZero, notControl, middleBitsZero, bulkSize, interruptSize, isochronousSize, interruptInterval, isochronousInterval, endpointLongEnough, typeAllowed, interfaceLongEnough}
@@ -23,8 +22,8 @@ use Rattle.descriptors.specs.Interfaces.{grouped, numberZero, alternateZero, fo
 use Rattle.descriptors.specs.Companion.{goodCompanions}
 use Rattle.descriptors.specs.Configuration.{bNumInterfaces, goodHead, goodDescriptors, goodConfiguration}
 use Rattle.descriptors.specs.Walk.{settingAt, before, standOf, orElse, walked}
-use Rattle.descriptors.specs.Check.{placed, onceInSetting, inNoSecondInterface, allCame, oneMayCome, allowed, accompanied, reachesLast, ended, Course, starting, passing, checking}
-use Rattle.descriptors.proofs.Walk.{after-short}
+use Rattle.descriptors.specs.Check.{Progress, placed, onceInSetting, inNoSecondInterface, allCame, oneMayCome, allowed, accompanied, reachesLast, ended, Course, starting, passing, checking}
+use Rattle.descriptors.proofs.Walks.{after-short}
 use Rattle.descriptors.proofs.CheckCompanions.{after}
 use Rattle.descriptors.proofs.CheckOrder.{kinds}
 use Rattle.descriptors.proofs.CheckWhole.{rest-same, unasked}

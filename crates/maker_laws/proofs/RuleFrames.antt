@@ -7,7 +7,7 @@ use lib.ListN.{length}
 use lib.Dec.{eqb}
 use Rattle.octets.specs.Sentences.{pick, every}
 use Rattle.octets.proofs.Sentences.{row}
-use Rattle.descriptors.specs.declared.Limits.{Limits}
+use Rattle.descriptors.specs.declared.limits.Limits.{Limits}
 use Rattle.descriptors.specs.Limits.{named}
 use Rattle.sets.specs.declared.Entry.{Entry}
 use Rattle.sets.specs.Contents.{total, bodiesAt, bodyOf, entries, entriesOf, longEnough, shortEnough, totalIsLength, countsEntry, atMost64Entries, byteThreeZero, contentsInside, goodFrame}

@@ -8,7 +8,7 @@ use lib.ListN.{length}
 use borrow.Author.Tests.{eqb-true, ne-eqb}
 use Rattle.octets.specs.Sentences.{pick, _⇒_, every, any, only, neighbours, isSome, isEmpty}
 use Rattle.octets.proofs.Sentences.{both, conjunct, every-append, first-any}
-use Rattle.descriptors.specs.declared.Limits.{Limits}
+use Rattle.descriptors.specs.declared.limits.Limits.{Limits}
 use Rattle.descriptors.specs.Cut.{Cutting, cut, descriptorsOf, wellCut}
 use Rattle.descriptors.specs.Descriptor.{bDescriptorType, isInterface, iInterface, goodDescriptor}
 use Rattle.descriptors.specs.Interfaces.{grouped, goodInterfaces}

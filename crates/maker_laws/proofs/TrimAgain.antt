@@ -12,7 +12,7 @@ use lib.Dec.{eqb, leb}
 use borrow.Author.Tests.{eqb-true, eq-eqb, ne-eqb, leb-true}
 use Rattle.octets.specs.Sentences.{pick, any, only, first, member}
 use Rattle.octets.proofs.Sentences.{cases, never, both, any-map, any-alike, only-alike, only-member, member-only, none-first}
-use Rattle.descriptors.specs.declared.Limits.{Limits}
+use Rattle.descriptors.specs.declared.limits.Limits.{Limits}
 use Rattle.sets.specs.declared.Entry.{Entry}
 use Rattle.sets.specs.Contents.{entries}
 use Rattle.sets.specs.Found.{isAt}

@@ -11,7 +11,7 @@ use borrow.Author.Tests.{eq-eqb, eqb-true}
 use Rattle.octets.specs.Octets.{byte, Bytes}
 use Rattle.octets.specs.Sentences.{every, only, first}
 use Rattle.octets.proofs.Sentences.{cases, both, conjunct}
-use Rattle.descriptors.specs.declared.Limits.{Limits}
+use Rattle.descriptors.specs.declared.limits.Limits.{Limits}
 use Rattle.descriptors.specs.Configuration.{configurationOf}
 use Rattle.sets.specs.declared.Entry.{Entry}
 use Rattle.sets.specs.Contents as sets

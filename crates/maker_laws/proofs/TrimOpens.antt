@@ -8,7 +8,7 @@ use lib.ListN.{length, drop, length-map}
 use lib.Dec.{leb}
 use Rattle.octets.specs.Sentences.{pick, every, any, only, neighbours, member}
 use Rattle.octets.proofs.Sentences.{cases, never, joined, conjunct, any-alike, only-alike, only-member}
-use Rattle.descriptors.specs.declared.Limits.{Limits}
+use Rattle.descriptors.specs.declared.limits.Limits.{Limits}
 use Rattle.descriptors.specs.Limits as rows
 use Rattle.sets.specs.Contents.{entries, count, goodFrame, goodContents}
 use Rattle.sets.specs.Device.{deviceBody, iSerialNumber}

@@ -8,7 +8,7 @@ use lib.ListN.{length, take, drop, replicate}
 use lib.Dec.{leb}
 use Rattle.octets.specs.Octets.{Bytes}
 use Rattle.octets.specs.Sentences.{every, only}
-use Rattle.descriptors.specs.declared.Limits.{Limits}
+use Rattle.descriptors.specs.declared.limits.Limits.{Limits}
 use Rattle.descriptors.specs.Configuration.{configurationOf}
 use Rattle.sets.specs.Contents.{entries, bodies, total}
 use Rattle.sets.specs.Device.{deviceBody, iSerialNumber}

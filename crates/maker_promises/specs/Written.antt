@@ -12,7 +12,7 @@ use borrow.Author.Tests.{eqb-true, leb-true, eq-eqb, ne-eqb, le-ltb}
 use Rattle.octets.specs.Octets.{byte, Bytes}
 use Rattle.octets.specs.Sentences.{pick, first}
 use Rattle.octets.proofs.Sentences.{cases, conjunct}
-use Rattle.descriptors.specs.declared.Limits.{Limits}
+use Rattle.descriptors.specs.declared.limits.Limits.{Limits}
 use Rattle.sets.specs.declared.Entry.{Entry}
 use Rattle.sets.specs.Contents.{entries, bodyOf, total, count, bodiesAt, goodFrame}
 use Rattle.sets.specs.Found.{isAt}

@@ -10,7 +10,7 @@ use borrow.Author.Tests.{eqb-true, ne-eqb}
 use Rattle.octets.specs.Octets.{byte}
 use Rattle.octets.specs.Sentences.{every, _⇒_}
 use Rattle.octets.proofs.Sentences.{conjunct, cases}
-use Rattle.descriptors.specs.declared.Limits.{Limits}
+use Rattle.descriptors.specs.declared.limits.Limits.{Limits}
 use Rattle.descriptors.specs.Limits.{fullSpeed, pairedFull, highSpeed, superSpeed, doubled, named}
 use Rattle.descriptors.specs.Descriptor.{goodDescriptor}
 use Rattle.descriptors.specs.Interfaces.{grouped, goodInterfaces}

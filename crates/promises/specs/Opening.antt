@@ -8,7 +8,7 @@ use mathlib.Core.Bool.{Bool, true, false, not, false≢true}
 use mathlib.Core.Option.{some, Option·some-injective, Option·none-ne-some}
 use lib.ListN.{take, getElem?}
 use Rattle.octets.specs.Sentences.{pick, every}
-use Rattle.descriptors.specs.declared.Limits.{Limits}
+use Rattle.descriptors.specs.declared.limits.Limits.{Limits}
 use Rattle.descriptors.specs.Limits.{fullSpeed}
 use Rattle.sets.specs.Contents.{goodFrame, goodContents}
 use Rattle.sets.specs.Pieces.{piecesIn}

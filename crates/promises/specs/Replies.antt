@@ -14,7 +14,7 @@ use Rattle.octets.proofs.Sentences.{cases, if-then, both, joined, conjunct, or-
 use Rattle.descriptors.specs.declared.Endpoint.{Endpoint}
 use Rattle.descriptors.specs.Configuration.{hasInterface, hasSetting, canHalt}
 use Rattle.descriptors.specs.Limits.{doubled}
-use Rattle.descriptors.specs.declared.Limits.{Limits}
+use Rattle.descriptors.specs.declared.limits.Limits.{Limits}
 use Rattle.descriptors.proofs.HighSpeed.{control-64}
 use Rattle.sets.specs.Device.{bMaxPacketSize0, goodDevice, deviceBodyOf, deviceBody}
 use Rattle.sets.specs.Pieces.{Piece, piecesIn, piecesOf}

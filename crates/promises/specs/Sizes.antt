@@ -5,7 +5,7 @@ use mathlib.Core.List.{List, [], _∷_}
 use mathlib.Core.Bool.{Bool, true, _&&_, _||_}
 use lib.Dec.{eqb, leb}
 use Rattle.octets.specs.Sentences.{member}
-use Rattle.descriptors.specs.declared.Limits.{Limits}
+use Rattle.descriptors.specs.declared.limits.Limits.{Limits}
 use Rattle.descriptors.specs.Limits.{fullSpeed, pairedFull, highSpeed, superSpeed, doubled, named}
 use Rattle.descriptors.specs.Descriptor.{goodSize, goodInterval}
 use Rattle.descriptors.proofs.FullSpeed as full

@@ -6,7 +6,7 @@ use mathlib.Core.Option.{Option, some, none}
 use lib.Dec.{eqb}
 use Rattle.octets.specs.Sentences.{pick}
 use Rattle.octets.proofs.Sentences.{cases}
-use Rattle.descriptors.specs.declared.Limits.{Limits}
+use Rattle.descriptors.specs.declared.limits.Limits.{Limits}
 use Rattle.descriptors.specs.Limits.{fullSpeed, pairedFull, highSpeed}
 use Rattle.octets.specs.Octets.{Bytes}
 use Rattle.sets.specs.Opening.{Board, BytesIf, BytesOf, opening}

@@ -14,17 +14,16 @@ use Rattle.octets.specs.Bit.{bit, setBit}
 use Rattle.octets.specs.Sentences.{pick, _⇒_, every, first}
 use Rattle.octets.proofs.Sentences.{cases, both, joined, same-test}
 use Rattle.octets.proofs.Bits.{set-same, set-other, bit-zero}
-use Rattle.descriptors.specs.declared.Limits.{Limits}
+use Rattle.descriptors.specs.declared.limits.Limits.{Limits}
 use Rattle.descriptors.specs.declared.Setting.{Setting}
 use Rattle.descriptors.specs.declared.Endpoint.{Endpoint}
-use Rattle.descriptors.specs.declared.Stand.{Stand}
-use Rattle.descriptors.specs.declared.check.Progress.{Progress}
+use Rattle.descriptors.specs.declared.walk.Stand.{Stand}
 use Rattle.descriptors.specs.Cut.{Cutting, whole, broken, descriptor, cut}
 use Rattle.descriptors.specs.Descriptor.{bDescriptorType, isInterface, isEndpoint, bNumEndpoints, bEndpointAddress, bmAttributes, wMaxPacketSize, bInterval, transferType, goodAddress, typeAllowed, endpointLongEnough, interfaceLongEnough}
 use Rattle.descriptors.specs.Interfaces.{Group, begunBy, settingOf, endpointOf, follows, alternateWithin, counted, apart}
 use Rattle.descriptors.specs.Configuration.{bNumInterfaces, bitOf}
 use Rattle.descriptors.specs.Walk.{settingAt, before, standOf}
-use Rattle.descriptors.specs.Check.{onceInSetting, inNoSecondInterface, fresh, onward, beginning}
+use Rattle.descriptors.specs.Check.{Progress, onceInSetting, inNoSecondInterface, fresh, onward, beginning}
 use Rattle.descriptors.specs.Check as check
 use Rattle.descriptors.proofs.CheckOrder.{at, passed, kinds}
 use Rattle.descriptors.proofs.CheckAddresses.{own-bit, Follows, follows-is, NotBefore, further, clear, at-interface, at-endpoint, own-clear}

@@ -14,7 +14,7 @@ use Rattle.octets.specs.Sentences.{pick, every, first, isEmpty, isSome}
 use Rattle.octets.specs.Table.{has, with}
 use Rattle.octets.proofs.Sentences.{same-test, first-some}
 use Rattle.octets.proofs.Tables.{allOf, has-none, has-with}
-use Rattle.descriptors.specs.declared.Limits.{Limits}
+use Rattle.descriptors.specs.declared.limits.Limits.{Limits}
 use Rattle.descriptors.specs.Configuration.{bConfigurationValue}
 use Rattle.sets.specs.declared.Entry.{Entry}
 use Rattle.sets.specs.declared.EntryFound.the-variants.{At, Nothing}

@@ -5,15 +5,14 @@ use mathlib.Core.List.{List, [], _∷_}
 use mathlib.Core.Bool.{Bool, true, false}
 use lib.ListN.{length}
 use Rattle.octets.specs.Sentences.{pick, every}
-use Rattle.descriptors.specs.declared.Limits.{Limits}
+use Rattle.descriptors.specs.declared.limits.Limits.{Limits}
 use Rattle.descriptors.specs.declared.Setting.{Setting}
-use Rattle.descriptors.specs.declared.Stand.{Stand}
-use Rattle.descriptors.specs.declared.check.Progress.{Progress}
+use Rattle.descriptors.specs.declared.walk.Stand.{Stand}
 use Rattle.descriptors.specs.Cut.{Cutting, whole, broken, descriptor, cut}
 use Rattle.descriptors.specs.Descriptor.{isInterface, isEndpoint}
 use Rattle.descriptors.specs.Configuration.{bNumInterfaces}
 use Rattle.descriptors.specs.Walk.{settingAt, before, standOf}
-use Rattle.descriptors.specs.Check.{onward, beginning}
+use Rattle.descriptors.specs.Check.{Progress, onward, beginning}
 use Rattle.sets.specs.declared.Entry.{Entry}
 use Rattle.sets.specs.Contents.{bodyOf, isKind}
 use Rattle.rules.specs.Configurations.{distinctFrom}

@@ -11,15 +11,13 @@ use borrow.Author.Tests.{eq-eqb, ne-eqb, leb-true, leb-false, lt-ltb}
 use Rattle.octets.specs.Octets.{byte, part}
 use Rattle.octets.specs.Sentences.{pick}
 use Rattle.octets.proofs.Sentences.{cases}
-use Rattle.descriptors.specs.declared.Limits.{Limits}
-use Rattle.descriptors.specs.declared.Stand.{Stand}
-use Rattle.descriptors.specs.declared.Step.{Step}
-use Rattle.descriptors.specs.declared.check.Progress.{Progress}
+use Rattle.descriptors.specs.declared.limits.Limits.{Limits}
+use Rattle.descriptors.specs.declared.walk.Stand.{Stand}
 use Rattle.descriptors.specs.Cut.{Cutting, whole, broken, descriptor, cut}
 use Rattle.descriptors.specs.Descriptor.{isInterface, iInterface}
-use Rattle.descriptors.specs.Walk.{before, standOf, stepsOn, stepOf}
-use Rattle.descriptors.specs.Check.{onward}
-use Rattle.descriptors.proofs.Walk.{spanned, Moved, moved, cut-end, cut-small, cut-long}
+use Rattle.descriptors.specs.Walk.{Pace, before, standOf, stepsOn, stepOf}
+use Rattle.descriptors.specs.Check.{Progress, onward}
+use Rattle.descriptors.proofs.Walks.{spanned, Moved, moved, cut-end, cut-small, cut-long}
 use Rattle.rules.specs.declared.Fault.{Fault}
 use Rattle.rules.specs.Findings.{Finding, asked, byteAt}
 use Rattle.rules.specs.Configuration.{isWhole, descriptorFindings, endFindings, restFindings, cutFindings, bodyFindings}
@@ -32,14 +30,14 @@ first-byte : (body : List ℕ) (at n : ℕ) → 0 < n → byte (part body at n) 
 first-byte body at n h = let z : at + 0 ≡ at = omega arith in rw (getD-take n (drop at body) 0 0 h, getD-drop, z)
 
 -- what a step that moved on tells of the descriptor d, and of where the next begins
-pub record Onward (body : List ℕ) (at : ℕ) (last : Stand) (step : Step) : Type 0 where
+pub record Onward (body : List ℕ) (at : ℕ) (last : Stand) (step : Pace) : Type 0 where
   pub inside : step .end ≤ length body
   pub cuts : cut (drop at body) ≡ descriptor (spanned body at (step .end)) (cut (drop (step .end) body))
   pub stands : step .stand ≡ standOf last (spanned body at (step .end))
   pub complete : isWhole (spanned body at (step .end)) ≡ true
   pub ends : at + length (spanned body at (step .end)) ≡ step .end
 
-module _ (body : List ℕ) (at : ℕ) (last : Stand) (step : Step) (e : step ≡ stepOf body at last) (h : at < length body) where
+module _ (body : List ℕ) (at : ℕ) (last : Stand) (step : Pace) (e : step ≡ stepOf body at last) (h : at < length body) where
   cut-off : 2 ≤ byte body at → length body - at < byte body at → isWhole (part body at (byte body at)) ≡ false
   cut-off l m =
       let b = first-byte body at (byte body at) (omega arith) in
@@ -109,7 +107,7 @@ module _ (limits : Limits) (start n : ℕ) (body : List ℕ) (at head : ℕ) (w 
   pub rest-end : length body ≤ at → after f (restFindings limits start n at head w last (cut (drop at body))) ≡ after f (endFindings start n head w last)
   rest-end h = ap (λ cs. after f (restFindings limits start n at head w last cs)) (cut-end body at h) ∙ rest-whole
 
-  module _ (step : Step) (e : step ≡ stepOf body at last) (h : at < length body) where
+  module _ (step : Pace) (e : step ≡ stepOf body at last) (h : at < length body) where
     pub rest-stuck : step .end ≤ at
         → after f (restFindings limits start n at head w last (cut (drop at body))) ≡ orBroken f (asked (pick (leb 2 (byte body at)) 404 403) (byteAt start at 0) false)
     rest-stuck m = stuck-cases body at last step e h m
@@ -129,7 +127,7 @@ module _ (limits : Limits) (start : ℕ) (body : List ℕ) where
   pub body-none : length body ≡ 0 → bodyFindings limits start body ≡ (asked 405 (byteAt start 0 0) false ∷ [])
   body-none p = ap (cutFindings limits (length body) start) (cut-end body 0 (omega arith))
 
-  module _ (f : Fault) (step : Step) (e : step ≡ stepOf body 0 before) (h : 0 < length body) where
+  module _ (f : Fault) (step : Pace) (e : step ≡ stepOf body 0 before) (h : 0 < length body) where
     body-small : leb 2 (byte body 0) ≡ false → after f (cutFindings limits (length body) start broken) ≡ orBroken f (asked (pick (leb 2 (byte body 0)) 404 403) (byteAt start 0 0) false)
     unfolding after
     body-small q = rw q
@@ -167,7 +165,7 @@ module _ (set : List ℕ) (start : ℕ) (body : List ℕ) (at : ℕ) (f : Fault)
   pub interfaces-end : length body ≤ at → after f (interfacesFrom set start at (cut (drop at body))) ≡ f
   interfaces-end h = ap (λ cs. after f (interfacesFrom set start at cs)) (cut-end body at h) ∙ interfaces-whole
 
-  module _ (last : Stand) (step : Step) (e : step ≡ stepOf body at last) (h : at < length body) where
+  module _ (last : Stand) (step : Pace) (e : step ≡ stepOf body at last) (h : at < length body) where
     pub interfaces-stuck : step .end ≤ at → after f (interfacesFrom set start at (cut (drop at body))) ≡ f
     interfaces-stuck m = stuck-cases body at last step e h m
         (λ q c. ap (λ cs. after f (interfacesFrom set start at cs)) c ∙ interfaces-broken)

@@ -4,23 +4,27 @@ use mathlib.Core.List.{List, [], _∷_, _++_}
 use mathlib.Core.Bool.{Bool, true, false}
 use lib.ListN.{length}
 use Rattle.octets.specs.Sentences.{pick}
-use Rattle.descriptors.specs.declared.Limits.{Limits}
+use Rattle.descriptors.specs.declared.limits.Limits.{Limits}
 use Rattle.descriptors.specs.declared.Setting.{Setting}
-use Rattle.descriptors.specs.declared.Stand.{Stand}
-use Rattle.descriptors.specs.declared.check.Progress.{Progress}
+use Rattle.descriptors.specs.declared.walk.Stand.{Stand}
 use Rattle.descriptors.specs.Cut.{Cutting, whole, broken, descriptor, cut}
 use Rattle.descriptors.specs.Descriptor.{bDescriptorType, isInterface, isEndpoint, bEndpointAddress, bmAttributes, wMaxPacketSize, bInterval, transferType}
 use Rattle.descriptors.specs.Descriptor.{endpointLongEnough, typeAllowed, interfaceLongEnough}
 use Rattle.descriptors.specs.Interfaces.{numberZero, alternateZero, follows, alternateWithin}
 use Rattle.descriptors.specs.Configuration.{bNumInterfaces}
 use Rattle.descriptors.specs.Walk.{settingAt, before, standOf}
-use Rattle.descriptors.specs.Check.{onceInSetting, inNoSecondInterface, allCame, oneMayCome, onward, reachesLast, beginning}
+use Rattle.descriptors.specs.Check.{Progress, onceInSetting, inNoSecondInterface, allCame, oneMayCome, onward, reachesLast, beginning}
 use Rattle.sets.specs.declared.Entry.{Entry}
 use Rattle.sets.specs.Contents.{bodyOf, isKind, entries}
 use Rattle.sets.specs.Pieces.{pieceWith, hasIndex, hasNoLanguage}
 use Rattle.sets.specs.Opening.{valueNonzero}
+use Rattle.rules.specs.declared.progress.Progress.{Progress as Kept}
 use Rattle.rules.specs.Findings.{Finding, asked, byteAt}
 pub use Rattle.rules.specs.Configurations.{isWhole, headFindings, headNumbers, mayNumber, numberFindings, sizeFindings, intervalFindings, distinctFrom}
+
+-- how far the check is, as the code keeps it
+abbrev pub progressIn : Kept → Progress
+progressIn k = record { coming = k .coming; setting = k .setting; interface = k .interface; seen = k .seen }
 
 -- ---- one descriptor, which begins at `at` of a body that begins at `start`
 -- the setting that an interface descriptor begins, after a descriptor that stands at `last`

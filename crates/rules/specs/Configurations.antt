@@ -7,7 +7,7 @@ use lib.ListN.{length}
 use lib.Dec.{eqb, ltb}
 use Rattle.octets.specs.Octets.{byte}
 use Rattle.octets.specs.Sentences.{pick, every}
-use Rattle.descriptors.specs.declared.Limits.{Limits}
+use Rattle.descriptors.specs.declared.limits.Limits.{Limits}
 use Rattle.descriptors.specs.declared.Setting.{Setting}
 use Rattle.descriptors.specs.declared.Endpoint.{Endpoint}
 use Rattle.descriptors.specs.Cut.{Cutting, whole, broken, descriptor, cut}

@@ -1,10 +1,19 @@
 // Group 4, rule by rule: entry by entry, and in a body descriptor by descriptor.
 use crate::Fault;
 use crate::ask;
-use descriptors::Limits;
+use crate::progress;
+use crate::progress::Progress;
 use descriptors::Setting;
-use descriptors::Stand;
-use descriptors::check::Progress;
+use descriptors::limits;
+use descriptors::limits::Limits;
+use descriptors::limits::Ranges;
+use descriptors::limits::Speed;
+use descriptors::types::CONFIGURATION;
+use descriptors::types::ENDPOINT;
+use descriptors::types::INTERFACE;
+use descriptors::walk;
+use descriptors::walk::BEFORE_FIRST;
+use descriptors::walk::Stand;
 use octets::table::holds;
 use octets::table::join;
 use sets::Entry;
@@ -20,8 +29,9 @@ ghost use Rattle.descriptors.specs.Cut.{cut};
 ghost use Rattle.descriptors.specs.Descriptor.{isInterface};
 ghost use Rattle.descriptors.specs.Walk.{before, settingAt};
 ghost use Rattle.descriptors.specs.Check.{beginning};
+ghost use Rattle.descriptors.specs.Limits.{rangesOf};
 ghost use Rattle.rules.specs.Findings.{asked, byteAt};
-ghost use Rattle.rules.specs.Configuration.{headFindings, headNumbers, placedFindings, interfaceFindings, surplus, numberFindings, sizeFindings, intervalFindings, addressFindings, endpointFindings, typeFindings, descriptorFindings, endFindings, restFindings, bodyFindings, configurationFindings, configurationsFindings};
+ghost use Rattle.rules.specs.Configuration.{progressIn, headFindings, headNumbers, placedFindings, interfaceFindings, surplus, numberFindings, sizeFindings, intervalFindings, addressFindings, endpointFindings, typeFindings, descriptorFindings, endFindings, restFindings, bodyFindings, configurationFindings, configurationsFindings};
 ghost use Rattle.rules.specs.After.{orBroken, after};
 
 // ---- one descriptor, which begins at `at` of a body that begins at `start`
@@ -37,7 +47,7 @@ fn head_fault(found: Fault, d: &[u8], size: usize, start: u16) -> Fault
         0,
         d.len() == octets::peek(d, 0) as usize,
     );
-    let found = ask(found, 405, start, 0, 1, octets::peek(d, 1) == 2);
+    let found = ask(found, 405, start, 0, 1, octets::peek(d, 1) == CONFIGURATION);
     let found = ask(found, 406, start, 0, 0, 9 <= d.len());
     ask(found, 407, start, 0, 2, octets::word(d, 2) as usize == size)
 }
@@ -90,7 +100,7 @@ fn interface_fault(
     last: Stand,
     stand: Stand,
 ) -> Fault
-    ensures { λ r. ⌜ r ≡ after found (interfaceFindings start at head progress last stand (now (d .entry))) ⌝ }
+    ensures { λ r. ⌜ r ≡ after found (interfaceFindings start at head (progressIn progress) last stand (now (d .entry))) ⌝ }
 {
     let begun = Setting {
         interface: stand.interface,
@@ -121,14 +131,25 @@ fn numbers_fault(found: Fault, start: u16, at: u16, address: u8, attributes: u8)
     )
 }
 
+// The ranges of a speed.
+fn ranges_of(speed: Speed) -> Ranges
+    ensures { λ r. ⌜ r ≡ rangesOf speed ⌝ }
+{
+    match speed {
+        Speed::Full => limits::full_ranges(),
+        Speed::High => limits::high_ranges(),
+        Speed::Super => limits::super_ranges(),
+    }
+}
+
 fn size_fault(found: Fault, start: u16, at: u16, transfer: u8, size: u16, limits: Limits) -> Fault
     ensures { λ r. ⌜ r ≡ after found (sizeFindings limits start at transfer size) ⌝ }
 {
     let speed = limits.speed;
-    let ranges = descriptors::ranges_of(speed);
-    let bulk = descriptors::check::is_doubled(ranges.bulk, size);
-    let interrupt = descriptors::check::is_sized(ranges.bursts, ranges.interrupt, size);
-    let isochronous = descriptors::check::is_sized(ranges.bursts, ranges.isochronous, size);
+    let ranges = ranges_of(speed);
+    let bulk = limits::is_doubled(ranges.bulk, size);
+    let interrupt = limits::is_sized(ranges.bursts, ranges.interrupt, size);
+    let isochronous = limits::is_sized(ranges.bursts, ranges.isochronous, size);
     let found = ask(found, 428, start, at, 4, !(transfer == 2) | bulk);
     let found = ask(found, 429, start, at, 4, !(transfer == 3) | interrupt);
     ask(found, 430, start, at, 4, !(transfer == 1) | isochronous)
@@ -145,16 +166,16 @@ fn interval_fault(
     ensures { λ r. ⌜ r ≡ after found (intervalFindings limits start at transfer interval) ⌝ }
 {
     let speed = limits.speed;
-    let ranges = descriptors::ranges_of(speed);
-    let polling = descriptors::check::is_within(ranges.polling, interval as u16);
-    let period = descriptors::check::is_within(ranges.period, interval as u16);
+    let ranges = ranges_of(speed);
+    let polling = limits::is_within(ranges.polling, interval as u16);
+    let period = limits::is_within(ranges.period, interval as u16);
     let found = ask(found, 431, start, at, 6, !(transfer == 3) | polling);
     ask(found, 432, start, at, 6, !(transfer == 1) | period)
 }
 
 // An endpoint's address among those that were seen.
 fn address_fault(found: Fault, start: u16, at: u16, progress: Progress, address: u8) -> Fault
-    ensures { λ r. ⌜ r ≡ after found (addressFindings start at progress address) ⌝ }
+    ensures { λ r. ⌜ r ≡ after found (addressFindings start at (progressIn progress) address) ⌝ }
 {
     let e = descriptors::lookup::bit_of(address);
     let seen = octets::test_bit(progress.seen, e);
@@ -173,7 +194,7 @@ fn surplus_fault(
     head: u16,
     progress: Progress,
 ) -> Fault
-    ensures { λ r. ⌜ r ≡ orBroken found (surplus inside start at head progress) ⌝ }
+    ensures { λ r. ⌜ r ≡ orBroken found (surplus inside start at head (progressIn progress)) ⌝ }
 {
     if inside {
         return ask(found, 421, start, head, 4, 1 <= progress.coming);
@@ -191,7 +212,7 @@ fn endpoint_fault(
     last: Stand,
     limits: Limits,
 ) -> Fault
-    ensures { λ r. ⌜ r ≡ after found (endpointFindings limits start at head progress last (now (d .entry))) ⌝ }
+    ensures { λ r. ⌜ r ≡ after found (endpointFindings limits start at head (progressIn progress) last (now (d .entry))) ⌝ }
 {
     let address = octets::peek(d, 2);
     let attributes = octets::peek(d, 3);
@@ -217,13 +238,13 @@ fn type_fault(
     stand: Stand,
     limits: Limits,
 ) -> Fault
-    ensures { λ r. ⌜ r ≡ after found (typeFindings limits start at head progress last stand (now (d .entry))) ⌝ }
+    ensures { λ r. ⌜ r ≡ after found (typeFindings limits start at head (progressIn progress) last stand (now (d .entry))) ⌝ }
 {
     let t = octets::peek(d, 1);
-    if t == 4 {
+    if t == INTERFACE {
         return interface_fault(found, d, start, at, head, progress, last, stand);
     }
-    if t == 5 {
+    if t == ENDPOINT {
         return endpoint_fault(found, d, start, at, head, progress, last, limits);
     }
     found
@@ -241,9 +262,9 @@ fn descriptor_fault(
     stand: Stand,
     limits: Limits,
 ) -> Fault
-    ensures { λ r. ⌜ r ≡ after found (descriptorFindings limits start at head progress last stand (now (d .entry))) ⌝ }
+    ensures { λ r. ⌜ r ≡ after found (descriptorFindings limits start at head (progressIn progress) last stand (now (d .entry))) ⌝ }
 {
-    let refused = descriptors::check::is_refused(octets::peek(d, 1));
+    let refused = limits::is_refused(octets::peek(d, 1));
     let found = ask(
         found,
         404,
@@ -275,7 +296,7 @@ fn end_fault(
     progress: Progress,
     last: Stand,
 ) -> Fault
-    ensures { λ r. ⌜ r ≡ after found (endFindings start interfaces head progress last) ⌝ }
+    ensures { λ r. ⌜ r ≡ after found (endFindings start interfaces head (progressIn progress) last) ⌝ }
 {
     let all = last.inside & (last.interface as u16 + 1 == interfaces as u16);
     let found = ask(found, 421, start, head, 4, progress.coming == 0);
@@ -286,7 +307,7 @@ fn end_fault(
 fn head_of(d: &[u8], at: u16, head: u16) -> u16
     ensures { λ r. ⌜ r ≡ pick (isInterface (now (d .entry))) at head ⌝ }
 {
-    if octets::peek(d, 1) == 4 {
+    if octets::peek(d, 1) == INTERFACE {
         return at;
     }
     head
@@ -305,18 +326,19 @@ fn rest_fault(
     ensures { λ r. ⌜ r ≡ after found (restFindings limits start interfaces from 0 beginning before (cut (drop from (now (body .entry))))) ⌝ }
 {
     let mut found = found;
-    let mut progress = descriptors::check::start();
-    let mut last = descriptors::outside();
+    let mut progress = progress::start();
+    let mut last = BEFORE_FIRST;
     let mut head: u16 = 0;
     let mut at = from;
     while at < body.len() {
         let place = at as u16;
-        let step = descriptors::advance(body, at, last);
+        let step = walk::advance(body, at, last);
         let end = step.end;
         if end <= at {
             return stuck_fault(found, octets::peek(body, at), start, place);
         }
         let d = &body[at..end];
+        let before = walk::stand_in(last);
         found = descriptor_fault(
             found,
             d,
@@ -324,16 +346,23 @@ fn rest_fault(
             place,
             head,
             progress,
-            last,
+            before,
             step.stand,
             limits,
         );
-        progress = descriptors::check::move_on(d, progress, last, step.stand);
+        progress = progress::move_on(d, progress, before, step.stand);
         head = head_of(d, place, head);
-        last = step.stand;
+        last = step.setting;
         at = end;
     }
-    end_fault(found, start, interfaces, head, progress, last)
+    end_fault(
+        found,
+        start,
+        interfaces,
+        head,
+        progress,
+        walk::stand_in(last),
+    )
 }
 
 fn body_fault(found: Fault, body: &[u8], start: u16, limits: Limits) -> Fault
@@ -343,7 +372,7 @@ fn body_fault(found: Fault, body: &[u8], start: u16, limits: Limits) -> Fault
     if body.len() == 0 {
         return ask(found, 405, start, 0, 0, false);
     }
-    let step = descriptors::advance(body, 0, descriptors::outside());
+    let step = walk::advance(body, 0, BEFORE_FIRST);
     let end = step.end;
     if end == 0 {
         return stuck_fault(found, octets::peek(body, 0), start, 0);
@@ -389,7 +418,7 @@ pub fn configurations_fault(set: &[u8], limits: Limits, found: Fault) -> Fault
         let e = entry_at(set, i);
         let at = 4 + 8 * (i as u16);
         i += 1;
-        if e.kind == 2 {
+        if e.kind == CONFIGURATION {
             let body = body_of(set, e);
             let value = octets::peek(body, 5);
             let again = holds(&seen, value);

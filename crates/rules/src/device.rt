@@ -1,7 +1,7 @@
 // Groups 3 and 6, rule by rule.
 use crate::Fault;
 use crate::ask;
-use descriptors::Limits;
+use descriptors::limits::Limits;
 use sets::Entry;
 use sets::EntryFound;
 use sets::contents::body_of;
@@ -15,7 +15,7 @@ ghost use Rattle.rules.specs.After.{after};
 fn head_fault(found: Fault, d: &[u8], start: u16, limits: Limits) -> Fault
     ensures { λ r. ⌜ r ≡ after found (deviceHead limits start (now (d .entry))) ⌝ }
 {
-    let size = descriptors::check::is_doubled(limits.control, octets::peek(d, 7) as u16);
+    let size = descriptors::limits::is_doubled(limits.control, octets::peek(d, 7) as u16);
     let found = ask(found, 305, start, 0, 0, octets::peek(d, 0) == 18);
     let found = ask(found, 306, start, 0, 1, octets::peek(d, 1) == 1);
     ask(found, 307, start, 0, 7, size)

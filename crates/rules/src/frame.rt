@@ -1,7 +1,7 @@
 // Groups 1 and 2, rule by rule.
 use crate::Fault;
 use crate::ask;
-use descriptors::Limits;
+use descriptors::limits::Limits;
 use sets::Entry;
 use sets::contents::entry_at;
 ghost use mathlib.Core.Path.{_≡_};
@@ -36,7 +36,7 @@ fn entry_fault(
 ) -> Fault
     ensures { λ r. ⌜ r ≡ after found (entryFindings limits at first last start e) ⌝ }
 {
-    let named = descriptors::check::is_named(limits.entries, e.kind);
+    let named = descriptors::limits::is_named(limits.entries, e.kind);
     let ascends = first | sets::contents::precedes(last, e);
     let found = ask(found, 201, 0, at, 0, named);
     let found = ask(found, 202, 0, at, 0, ascends);

@@ -2,9 +2,12 @@
 pub mod configuration;
 pub mod device;
 pub mod frame;
+pub mod languages;
+pub mod progress;
 pub mod string;
 
-use descriptors::Limits;
+use descriptors::limits::Limits;
+use sets::opening::SERIAL_BROKEN;
 ghost use mathlib.Core.Path.{_≡_};
 ghost use Rattle.rules.specs.Findings.{asked, byteAt};
 ghost use Rattle.rules.specs.After.{orBroken};
@@ -53,7 +56,7 @@ fn place_inside(bytes: &[u8], place: u32) -> u32
 pub fn explain(set: &[u8], serial: &[u8], limits: Limits) -> Explained
     ensures { λ r. ⌜ r ≡ explained limits (lent (now (set .entry)) (now (serial .entry))) ⌝ }
 {
-    let number = sets::opening(set, serial, limits);
+    let number = sets::opening::opening(set, serial, limits);
     let found = Fault { rule: 0, place: 0 };
     let found = frame::frame_fault(set, found);
     let found = frame::contents_fault(set, limits, found);
@@ -63,7 +66,7 @@ pub fn explain(set: &[u8], serial: &[u8], limits: Limits) -> Explained
     let found = device::serial_fault(sets::device::serial_index(set), serial, found);
     let rule = found.rule;
     let mut place = place_inside(set, found.place);
-    if number == 6 {
+    if number == SERIAL_BROKEN {
         place = place_inside(serial, found.place);
     }
     Explained {

@@ -1,6 +1,12 @@
 // Group 5, rule by rule: the strings entry by entry, then the references.
 use crate::Fault;
 use crate::ask;
+use crate::languages::in_every_language;
+use descriptors::types::CONFIGURATION;
+use descriptors::types::INTERFACE;
+use descriptors::types::STRING;
+use descriptors::walk;
+use descriptors::walk::BEFORE_FIRST;
 use octets::table::holds;
 use sets::Entry;
 use sets::EntryFound;
@@ -71,7 +77,7 @@ fn body_fault(found: Fault, body: &[u8], start: u16) -> Fault
         0,
         octets::peek(body, 0) as usize == size,
     );
-    let found = ask(found, 502, start, 0, 1, octets::peek(body, 1) == 3);
+    let found = ask(found, 502, start, 0, 1, octets::peek(body, 1) == STRING);
     ask(found, 503, start, 0, 0, (size % 2 == 0) & (size <= 254))
 }
 
@@ -104,7 +110,7 @@ fn entries_fault(found: Fault, set: &[u8], zero: &[u8], serial: u8) -> Fault
         let e = entry_at(set, i);
         let at = 4 + 8 * (i as u16);
         i += 1;
-        if e.kind == 3 {
+        if e.kind == STRING {
             found = entry_fault(found, e, at, body_of(set, e), zero, serial);
         }
     }
@@ -143,7 +149,7 @@ fn interface_fault(
 ) -> Fault
     ensures { λ r. ⌜ r ≡ after found (pick (isInterface (now (d .entry))) (judged there serial (now (table .entry)) start at 8 (iInterface (now (d .entry)))) []) ⌝ }
 {
-    if octets::peek(d, 1) == 4 {
+    if octets::peek(d, 1) == INTERFACE {
         return reference_fault(
             found,
             start,
@@ -173,17 +179,17 @@ fn configuration_fault(
     let body = body_of(set, e);
     let reference = octets::peek(body, 6);
     let mut found = reference_fault(found, e.offset, 0, 6, reference, there, serial, table);
-    let mut last = descriptors::outside();
+    let mut last = BEFORE_FIRST;
     let mut at = 0;
     while at < body.len() {
         let place = at as u16;
-        let step = descriptors::advance(body, at, last);
+        let step = walk::advance(body, at, last);
         let end = step.end;
         if end <= at {
             return found;
         }
         found = interface_fault(found, &body[at..end], e.offset, place, there, serial, table);
-        last = step.stand;
+        last = step.setting;
         at = end;
     }
     found
@@ -199,7 +205,7 @@ fn references_fault(found: Fault, set: &[u8], there: bool, serial: u8, table: &[
     while i < count {
         let e = entry_at(set, i);
         i += 1;
-        if e.kind == 2 {
+        if e.kind == CONFIGURATION {
             found = configuration_fault(found, set, e, there, serial, table);
         }
     }
@@ -212,15 +218,15 @@ fn judged_fault(found: Fault, set: &[u8], zero: &[u8], there: bool) -> Fault
     ensures { λ r. ⌜ r ≡ after found (stringsFindings (now (set .entry))) ⌝ }
 {
     let serial = serial_index(set);
-    let table = sets::string::in_every_language(set, zero);
+    let table = in_every_language(set, zero);
     let device = device_body(set);
     let start = 4 + 8 * (octets::peek(set, 2) as u16);
-    let strings = 1 <= count_of(set, 3);
+    let strings = 1 <= count_of(set, STRING);
     let found = ask(
         found,
         510,
         0,
-        12 + 8 * (count_of(set, 2) as u16),
+        12 + 8 * (count_of(set, CONFIGURATION) as u16),
         0,
         !strings | there,
     );
@@ -262,7 +268,7 @@ fn judged_fault(found: Fault, set: &[u8], zero: &[u8], there: bool) -> Fault
 pub fn strings_fault(set: &[u8], found: Fault) -> Fault
     ensures { λ r. ⌜ r ≡ after found (stringsFindings (now (set .entry))) ⌝ }
 {
-    match find_entry(set, 3, 0, 0) {
+    match find_entry(set, STRING, 0, 0) {
         EntryFound::At(e) => judged_fault(found, set, body_of(set, e), true),
         EntryFound::Nothing => judged_fault(found, set, &set[0..0], false),
     }

@@ -11,7 +11,7 @@ use borrow.Author.Tests.{eqb-true, leb-true}
 use Rattle.octets.specs.Octets.{byte, Bytes}
 use Rattle.octets.specs.Sentences.{every, neighbours}
 use Rattle.octets.proofs.Sentences.{both, conjunct}
-use Rattle.descriptors.specs.declared.Limits.{Limits}
+use Rattle.descriptors.specs.declared.limits.Limits.{Limits}
 use Rattle.descriptors.specs.Limits.{named}
 use Rattle.sets.specs.declared.Entry.{Entry}
 use Rattle.sets.specs.Contents.{entryOf, entriesFrom, entries, bodyOf, before, total, count, bodiesAt, endToEnd, goodFrame, goodContents}

@@ -5,7 +5,7 @@ use mathlib.Core.Bool.{Bool, true}
 use mathlib.Core.List.{List, [], _∷_, map}
 use Rattle.octets.specs.Sentences.{any, only, first}
 use Rattle.octets.proofs.Sentences.{cases, never}
-use Rattle.descriptors.specs.declared.Limits.{Limits}
+use Rattle.descriptors.specs.declared.limits.Limits.{Limits}
 use Rattle.sets.specs.Contents.{bodies}
 use Rattle.sets.specs.Pieces.{piecesIn, piecesOf, bodyIs, headBody}
 use Rattle.sets.specs.Device.{deviceBody}

@@ -10,7 +10,7 @@ use borrow.Author.Tests.{eq-eqb, le-leb}
 use Rattle.octets.specs.Octets.{byte}
 use Rattle.octets.specs.Sentences.{every, only, neighbours}
 use Rattle.octets.proofs.Sentences.{cases, both, joined, only-member}
-use Rattle.descriptors.specs.declared.Limits.{Limits}
+use Rattle.descriptors.specs.declared.limits.Limits.{Limits}
 use Rattle.descriptors.specs.Limits.{named}
 use Rattle.sets.specs.declared.Entry.{Entry}
 use Rattle.sets.specs.Contents as sets

@@ -12,7 +12,7 @@ use borrow.Author.Tests.{ne-eqb, eq-eqb, lt-ltb, le-ltb}
 use Rattle.octets.specs.Octets.{word}
 use Rattle.octets.specs.Sentences.{pick}
 use Rattle.octets.proofs.Sentences.{or-left, or-right}
-use Rattle.descriptors.specs.declared.Limits.{Limits}
+use Rattle.descriptors.specs.declared.limits.Limits.{Limits}
 use Rattle.sets.specs.Opening.{lent, opening}
 use Rattle.set_writer.specs.declared.pieces.Counted.the-variants.{Broken, Pieces}
 use Rattle.set_writer.specs.Writer.{ends, pieces, sorted, total, laid, setOf, tooLarge, Filled}

@@ -7,7 +7,7 @@ use lib.ListN.{length}
 use lib.Dec.{eqb}
 use Rattle.octets.specs.Octets.{word}
 use Rattle.octets.specs.Sentences.{pick}
-use Rattle.descriptors.specs.declared.Limits.{Limits}
+use Rattle.descriptors.specs.declared.limits.Limits.{Limits}
 use Rattle.sets.specs.Opening.{lent, opening}
 use Rattle.set_writer.specs.Writer.{ends, setOf, tooLarge, handing, writing, Filled}
 use Rattle.set_writer.specs.declared.Report.{Report}

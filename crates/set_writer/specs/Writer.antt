@@ -7,7 +7,7 @@ use lib.ListN.{length, drop}
 use lib.Dec.{eqb, ltb}
 use Rattle.octets.specs.Octets.{byte, word, part}
 use Rattle.octets.specs.Sentences.{pick}
-use Rattle.descriptors.specs.declared.Limits.{Limits}
+use Rattle.descriptors.specs.declared.limits.Limits.{Limits}
 use Rattle.sets.specs.declared.Entry.{Entry}
 use Rattle.sets.specs.Contents.{before}
 use Rattle.sets.specs.Pieces.{Piece}

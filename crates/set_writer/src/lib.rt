@@ -1,6 +1,6 @@
 // The set writer: pieces end to end, in any order, become a set in a lent buffer.
 use crate::pieces::Counted;
-use descriptors::Limits;
+use descriptors::limits::Limits;
 ghost use mathlib.Core.Path.{_≡_};
 ghost use mathlib.Core.Bool.{true};
 ghost use Prim.Native.Nat.{_≤_};
@@ -28,7 +28,7 @@ pub fn answer(number: u8, opening: u8) -> Report
 fn hand_over(set: &[u8], serial: &[u8], limits: Limits, out: &mut [u8]) -> Report
     ensures { λ r. ⌜ Handed limits (now (set .entry)) (now (serial .entry)) (now (out .entry)) (now (out .exit)) r ⌝ }
 {
-    let opening = sets::opening(set, serial, limits);
+    let opening = sets::opening::opening(set, serial, limits);
     if opening != 0 {
         return answer(21, opening);
     }

@@ -13,7 +13,7 @@ use lib.ListN.{length, take, drop, getElem?, length-drop, drop-of-length-le}
 use lib.Seq.{getD-take, drop-drop, take-all, take-nil}
 use Rattle.octets.specs.Octets.{byte, part}
 use Rattle.octets.specs.Sentences.{every, any, only, first, neighbours}
-use Rattle.descriptors.specs.declared.Limits.{Limits}
+use Rattle.descriptors.specs.declared.limits.Limits.{Limits}
 use Rattle.descriptors.specs.Limits.{named}
 use Rattle.sets.specs.declared.Entry.{Entry}
 use Rattle.sets.specs.Contents.{count, entryOf, entriesFrom, entries, isKind, before, endToEnd}

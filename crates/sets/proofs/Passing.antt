@@ -11,7 +11,7 @@ use borrow.Author.Tests.{eqb-true, leb-true, leb-false, ltb-true, ltb-false, eq-
 use Rattle.octets.specs.Octets.{byte, word}
 use Rattle.octets.specs.Sentences.{pick, _⇒_, every, any, only, neighbours, member}
 use Rattle.octets.proofs.Sentences.{cases, never, conjunct, both, either, or-right}
-use Rattle.descriptors.specs.declared.Limits.{Limits}
+use Rattle.descriptors.specs.declared.limits.Limits.{Limits}
 use Rattle.descriptors.specs.Limits.{named}
 use Rattle.octets.specs.Table.{has, with}
 use Rattle.octets.proofs.Tables.{with-long, allOf, has-none, has-all}

@@ -6,7 +6,7 @@ use mathlib.Core.Bool.{Bool, true, _&&_, _||_, not}
 use lib.ListN.{length}
 use lib.Dec.{eqb}
 use Rattle.octets.specs.Sentences.{pick, every, neighbours, isEmpty}
-use Rattle.descriptors.specs.declared.Limits.{Limits}
+use Rattle.descriptors.specs.declared.limits.Limits.{Limits}
 use Rattle.descriptors.specs.declared.check.Verdict.{Verdict}
 use Rattle.descriptors.specs.Configuration.{goodConfiguration}
 use Rattle.octets.specs.Table.{has}

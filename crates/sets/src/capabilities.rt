@@ -3,7 +3,8 @@ use crate::EntryFound;
 use crate::contents::body_of;
 use crate::contents::count_of;
 use crate::contents::entry_of;
-use descriptors::Limits;
+use descriptors::limits::Limits;
+use descriptors::types::BOS;
 ghost use mathlib.Core.Path.{_≡_};
 ghost use Rattle.sets.specs.Pieces.{piecesIn, piecesOf, sole};
 ghost use Rattle.sets.specs.Device.{goodStore};
@@ -18,10 +19,10 @@ fn good_store(body: &[u8]) -> bool
 fn good_store_entries(set: &[u8]) -> bool
     ensures { λ r. ⌜ r ≡ sole goodStore (piecesOf 15 (piecesIn (now (set .entry)))) ⌝ }
 {
-    if count_of(set, 15) != 1 {
+    if count_of(set, BOS) != 1 {
         return false;
     }
-    match entry_of(set, 15, 0) {
+    match entry_of(set, BOS, 0) {
         EntryFound::At(e) => (e.index == 0) & (e.language == 0) & good_store(body_of(set, e)),
         EntryFound::Nothing => false,
     }
@@ -31,7 +32,7 @@ fn good_store_entries(set: &[u8]) -> bool
 pub fn good_capabilities(set: &[u8], limits: Limits) -> bool
     ensures { λ r. ⌜ r ≡ oneStore limits (piecesIn (now (set .entry))) ⌝ }
 {
-    if descriptors::check::is_named(limits.entries, 15) {
+    if descriptors::limits::is_named(limits.entries, 15) {
         return good_store_entries(set);
     }
     true

@@ -6,8 +6,9 @@ use crate::contents::entry_at;
 use crate::contents::entry_of;
 use descriptors::ConfigurationIndex;
 use descriptors::ConfigurationValue;
-use descriptors::Limits;
 use descriptors::check::Verdict;
+use descriptors::limits::Limits;
+use descriptors::types::CONFIGURATION;
 use octets::table::holds;
 use octets::table::join;
 ghost use mathlib.Core.Path.{_≡_};
@@ -56,7 +57,7 @@ pub fn good_configurations(set: &[u8], limits: Limits, names: &[u32; 8]) -> Verd
     while i < count {
         let e = entry_at(set, i);
         i += 1;
-        if e.kind == 2 {
+        if e.kind == CONFIGURATION {
             let body = body_of(set, e);
             let value = octets::peek(body, 5);
             let again = holds(&seen, value);
@@ -76,7 +77,7 @@ pub fn good_configurations(set: &[u8], limits: Limits, names: &[u32; 8]) -> Verd
 pub fn by_index(set: &[u8], index: ConfigurationIndex) -> EntryFound
     ensures { λ r. ⌜ r ≡ found (entryByIndex index (entries (now (set .entry)))) ⌝ }
 {
-    entry_of(set, 2, index.0)
+    entry_of(set, CONFIGURATION, index.0)
 }
 
 // The entry of the configuration with a bConfigurationValue.
@@ -88,7 +89,7 @@ pub fn by_value(set: &[u8], value: ConfigurationValue) -> EntryFound
     while i < count {
         let e = entry_at(set, i);
         i += 1;
-        if e.kind == 2 {
+        if e.kind == CONFIGURATION {
             if octets::peek(body_of(set, e), 5) == value.0 {
                 return EntryFound::At(e);
             }
@@ -106,7 +107,7 @@ pub fn wakes(set: &[u8]) -> bool
     while i < count {
         let e = entry_at(set, i);
         i += 1;
-        if e.kind == 2 {
+        if e.kind == CONFIGURATION {
             if octets::peek(body_of(set, e), 7) / 32 % 2 == 1 {
                 return true;
             }

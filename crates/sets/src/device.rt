@@ -4,7 +4,10 @@ use crate::capabilities::good_capabilities;
 use crate::contents::body_of;
 use crate::contents::count_whole;
 use crate::contents::entry_of;
-use descriptors::Limits;
+use descriptors::limits::Limits;
+use descriptors::types::CONFIGURATION;
+use descriptors::types::DEVICE;
+use descriptors::types::STRING;
 use octets::table::holds;
 ghost use mathlib.Core.Path.{_≡_};
 ghost use Prim.Native.Nat.{_≤_};
@@ -22,8 +25,8 @@ fn good_device(body: &[u8], configurations: u8, limits: Limits) -> bool
     let listed = octets::peek(body, 17);
     (body.len() == 18)
         & (octets::peek(body, 0) == 18)
-        & (octets::peek(body, 1) == 1)
-        & descriptors::check::is_doubled(limits.control, octets::peek(body, 7) as u16)
+        & (octets::peek(body, 1) == DEVICE)
+        & descriptors::limits::is_doubled(limits.control, octets::peek(body, 7) as u16)
         & (!(octets::peek(body, 4) == 0) | (octets::peek(body, 5) == 0))
         & (1 <= listed)
         & (listed <= 8)
@@ -34,7 +37,7 @@ fn good_device(body: &[u8], configurations: u8, limits: Limits) -> bool
 pub fn device_body(set: &[u8]) -> &[u8]
     ensures { λ r. ⌜ now r ≡ deviceBody (now (set .entry)) ⌝ }
 {
-    match entry_of(set, 1, 0) {
+    match entry_of(set, DEVICE, 0) {
         EntryFound::At(e) => body_of(set, e),
         EntryFound::Nothing => &set[0..0],
     }
@@ -44,12 +47,12 @@ fn good_device_entries(set: &[u8], limits: Limits) -> bool
     requires { ⌜ bodiesAt (now set) ≤ length (now set) ⌝ }
     ensures { λ r. ⌜ r ≡ oneDevice limits (piecesIn (now (set .entry))) ⌝ }
 {
-    if count_whole(set, 1) != 1 {
+    if count_whole(set, DEVICE) != 1 {
         return false;
     }
-    match entry_of(set, 1, 0) {
+    match entry_of(set, DEVICE, 0) {
         EntryFound::At(e) => {
-            let configurations = count_whole(set, 2);
+            let configurations = count_whole(set, CONFIGURATION);
             (e.index == 0)
                 & (e.language == 0)
                 & good_device(body_of(set, e), configurations, limits)
@@ -95,5 +98,5 @@ pub fn good_serial(index: u8, block: &[u8]) -> bool
         & (size <= 254)
         & (size % 2 == 0)
         & (octets::peek(block, 0) as usize == size)
-        & (octets::peek(block, 1) == 3)
+        & (octets::peek(block, 1) == STRING)
 }

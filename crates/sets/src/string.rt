@@ -8,6 +8,7 @@ use crate::contents::entry_whole;
 use crate::contents::find_entry;
 use crate::device::device_refers;
 use crate::device::serial_index;
+use descriptors::types::STRING;
 use octets::table::holds;
 use octets::table::join;
 ghost use mathlib.Core.Path.{_≡_};
@@ -62,7 +63,7 @@ pub fn lists(body: &[u8], language: u16) -> bool
 pub fn string_zero(set: &[u8]) -> &[u8]
     ensures { λ r. ⌜ words (drop 2 (now r)) ≡ languages (now (set .entry)) ⌝ }
 {
-    match find_entry(set, 3, 0, 0) {
+    match find_entry(set, STRING, 0, 0) {
         EntryFound::At(e) => body_of(set, e),
         EntryFound::Nothing => &set[0..0],
     }
@@ -87,43 +88,13 @@ pub fn first_language(set: &[u8]) -> u16
 }
 
 // Whether an entry is a string in a language and its index in a table; the table is asked last, since few entries come so far.
-fn is_listed(e: Entry, language: u16, table: &[u32; 8]) -> bool
+pub fn is_listed(e: Entry, language: u16, table: &[u32; 8]) -> bool
     ensures { λ r. ⌜ r ≡ (eqb (e .kind) 3 && eqb (e .language) language && has (now (table .entry)) (e .index)) ⌝ }
 {
-    if (e.kind == 3) & (e.language == language) {
+    if (e.kind == STRING) & (e.language == language) {
         return holds(table, e.index);
     }
     false
-}
-
-// Those in a table that have a string in a language.
-fn in_language(set: &[u8], language: u16, table: &[u32; 8]) -> [u32; 8]
-    ensures { λ r. ⌜ ((j : ℕ) → j < 256 → has r j ≡ (has (now (table .entry)) j && any (isString j language) (piecesOf 3 (piecesIn (now (set .entry)))))) ⌝ }
-{
-    let count = octets::peek(set, 2);
-    let mut next = [0u32; 8];
-    let mut i: u8 = 0;
-    while i < count {
-        let e = entry_at(set, i);
-        i += 1;
-        if is_listed(e, language, table) {
-            join(&mut next, e.index);
-        }
-    }
-    next
-}
-
-// The indices that have a string in every listed language, of any set: opening, which knows that the entries ascend, has them from one pass. `languages` is string 0.
-pub fn in_every_language(set: &[u8], languages: &[u8]) -> [u32; 8]
-    ensures { λ r. ⌜ ((j : ℕ) → j < 256 → has r j ≡ inEvery (words (drop 2 (now (languages .entry)))) (piecesOf 3 (piecesIn (now (set .entry)))) j) ⌝ }
-{
-    let mut table = [4294967295u32; 8];
-    let mut at = 2;
-    while at + 1 < languages.len() {
-        table = in_language(set, octets::word(languages, at), &table);
-        at += 2;
-    }
-    table
 }
 
 // A string's body.
@@ -134,7 +105,7 @@ fn good_string(body: &[u8]) -> bool
     if octets::peek(body, 0) as usize != size {
         return false;
     }
-    if octets::peek(body, 1) != 3 {
+    if octets::peek(body, 1) != STRING {
         return false;
     }
     (size % 2 == 0) & (size <= 254)
@@ -174,7 +145,7 @@ fn lists_beside(body: &[u8], known: u16, language: u16) -> bool
 fn is_later(e: Entry, language: u16, more: bool) -> bool
     ensures { λ r. ⌜ r ≡ (eqb (e .kind) 3 && ltb language (e .language) && more) ⌝ }
 {
-    (e.kind == 3) & (language < e.language) & more
+    (e.kind == STRING) & (language < e.language) & more
 }
 
 // What a reference may be: what was seen in the last language that is listed, nothing where more are listed than the entries came to; and the serial number's
@@ -211,7 +182,7 @@ fn read_listed(set: &[u8], languages: &[u8], serial: u8, names: &mut [u32; 8]) -
             continue;
         }
         i += 1;
-        if e.kind == 3 {
+        if e.kind == STRING {
             let listed = lists_beside(languages, language, e.language);
             if !good_string_entry(body_of(set, e), e, listed, serial) {
                 return false;
@@ -235,7 +206,7 @@ fn read_entries(set: &[u8], languages: &[u8], names: &mut [u32; 8]) -> bool
     }
     *names = [0u32; 8];
     join(names, 0);
-    count_of(set, 3) == 0
+    count_of(set, STRING) == 0
 }
 
 // The strings of a set: whether they are good, and then what a reference may be, in the table that is lent. It has 0 in any case: a walk may rely on that.

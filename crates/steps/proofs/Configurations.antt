@@ -11,7 +11,7 @@ use borrow.Author.Tests.{eqb-true, ne-eqb, leb-true, ltb-true, ltb-false}
 use Rattle.octets.specs.Bit.{bit}
 use Rattle.octets.specs.Sentences.{pick, every, any, first}
 use Rattle.octets.proofs.Sentences.{both, every-map, every-member, any-map, any-member, none-any, first-some}
-use Rattle.descriptors.specs.declared.Limits.{Limits}
+use Rattle.descriptors.specs.declared.limits.Limits.{Limits}
 use Rattle.descriptors.specs.Cut.{cut, cutAfter, descriptorsOf, wellCut}
 use Rattle.descriptors.specs.Interfaces.{grouped, endpointsOf}
 use Rattle.descriptors.specs.Configuration.{Configuration, bConfigurationValue, hasInterface, goodDescriptors, goodConfiguration, groupsOf, configurationOf}

@@ -13,7 +13,7 @@ use Rattle.octets.specs.Octets.{byte, part}
 use Rattle.octets.specs.Sentences.{pick, _⇒_, any, first, isSome}
 use Rattle.octets.proofs.Sentences.{cases, if-then, conjunct, every-map, every-member, only-member, first-some}
 use Rattle.octets.proofs.Counting.{at-member}
-use Rattle.descriptors.specs.declared.Limits.{Limits}
+use Rattle.descriptors.specs.declared.limits.Limits.{Limits}
 use Rattle.descriptors.specs.Cut.{cut, descriptorsOf, wellCut}
 use Rattle.descriptors.specs.Limits.{named, refusedTypes}
 use Rattle.descriptors.specs.Descriptor.{bDescriptorType, isInterface, isEndpoint, goodEndpoint, goodDescriptor}

@@ -6,7 +6,7 @@ use mathlib.Core.List.{List, [], map}
 use lib.ListN.{length, getElem?}
 use lib.Dec.{eqb}
 use Rattle.octets.specs.Sentences.{pick, first}
-use Rattle.descriptors.specs.declared.Limits.{Limits}
+use Rattle.descriptors.specs.declared.limits.Limits.{Limits}
 use Rattle.descriptors.specs.Cut.{cut, wellCut}
 use Rattle.descriptors.specs.Configuration.{Configuration, configurationOf, hasInterface, hasSetting}
 use Rattle.descriptors.specs.declared.endpoints.DescriptorFound.{DescriptorFound}

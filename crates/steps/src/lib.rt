@@ -28,7 +28,7 @@ pub mod facts;
 pub fn opening(set: &[u8], serial: &[u8]) -> u8
     ensures { λ r. ⌜ r ≡ openingOf (lent (now (set .entry)) (now (serial .entry))) ⌝ }
 {
-    sets::opening(set, serial, descriptors::full_speed())
+    sets::opening::opening(set, serial, descriptors::limits::full_speed())
 }
 
 // The set in use, of two: byte 7 of the record says which. It is no copy.

@@ -10,14 +10,13 @@ use Rattle.octets.specs.Octets.{byte}
 use Rattle.octets.specs.Sentences.{pick, _⇒_, every, any, only, member}
 use Rattle.octets.proofs.Sentences.{cases, any-append, any-map, any-only, any-alike, only-alike}
 use Rattle.octets.specs.Table.{has, with}
-use Rattle.descriptors.specs.declared.Stand.{Stand}
-use Rattle.descriptors.specs.declared.Step.{Step}
+use Rattle.descriptors.specs.declared.walk.Stand.{Stand}
 use Rattle.descriptors.specs.Cut.{cut, wellCut}
 use Rattle.descriptors.specs.Descriptor.{isInterface, iInterface}
 use Rattle.descriptors.specs.Configuration.{configurationReferences}
-use Rattle.descriptors.specs.Walk.{before, stepOf, collected}
+use Rattle.descriptors.specs.Walk.{Pace, before, stepOf, collected}
 use Rattle.descriptors.specs.Check.{referenceOf, referring}
-use Rattle.descriptors.proofs.Walk.{spanned, collect-end, collect-on}
+use Rattle.descriptors.proofs.Walks.{spanned, collect-end, collect-on}
 use Rattle.descriptors.proofs.Ahead.{Begun}
 use Rattle.descriptors.proofs.CheckReferences.{references-walked}
 use Rattle.octets.proofs.Tables.{has-with, has-none, with-long, allOf}
@@ -61,7 +60,7 @@ next-in table d j rest h p = go (isInterface d)
     go false = refl
 
 module _ (table body : List ℕ) (last : Stand) (at j : ℕ) where
-  pub walked-in : {step : Step} → step ≡ stepOf body at last → at < length body → at < step .end → {after : List ℕ}
+  pub walked-in : {step : Pace} → step ≡ stepOf body at last → at < length body → at < step .end → {after : List ℕ}
       → (let d = spanned body at (step .end) in after ≡ pick (isInterface d) (with table (iInterface d)) table → iInterface d < 256 → length table ≡ 8
       → (has table j || member j (collected referring body last at)) ≡ (has after j || member j (collected referring body (step .stand) (step .end))))
   walked-in {step} e h m {after} q l p =

@@ -7,7 +7,7 @@ use lib.ListN.{length, replicate}
 use lib.Dec.{eqb}
 use Rattle.octets.specs.Octets.{word}
 use Rattle.octets.specs.Sentences.{pick}
-use Rattle.descriptors.specs.declared.Limits.{Limits}
+use Rattle.descriptors.specs.declared.limits.Limits.{Limits}
 use Rattle.set_writer.specs.Reported.{lengthWritten}
 use Rattle.set_writer.proofs.Writing.{laid-word}
 use Rattle.trimming.specs.Trim.{keptPieces, trimmed, padded, Trims}

@@ -6,7 +6,7 @@ use mathlib.Core.List.{List, map, _++_}
 use lib.ListN.{length, replicate}
 use lib.Dec.{eqb, leb}
 use Rattle.octets.specs.Sentences.{pick, any, only, member}
-use Rattle.descriptors.specs.declared.Limits.{Limits}
+use Rattle.descriptors.specs.declared.limits.Limits.{Limits}
 use Rattle.sets.specs.declared.Entry.{Entry}
 use Rattle.sets.specs.Contents.{entries, isKind}
 use Rattle.sets.specs.Device.{deviceBody, iSerialNumber}

@@ -1,4 +1,6 @@
 // Which strings a set's own references name, and whether string 0 has to stay.
+use descriptors::walk;
+use descriptors::walk::BEFORE_FIRST;
 use octets::table::holds;
 use octets::table::join;
 use sets::Entry;
@@ -32,14 +34,14 @@ fn with_configuration(body: &[u8], names: [u32; 8]) -> [u32; 8]
     requires { ⌜ wellCut (cut (now body)) ≡ true ⌝ }
     ensures { λ r. ⌜ ((j : ℕ) → j < 256 → has r j ≡ (has names j || member j (configurationReferences (now (body .entry))))) ⌝ }
 {
-    let mut stand = descriptors::outside();
+    let mut last = BEFORE_FIRST;
     let mut table = names;
     join(&mut table, octets::peek(body, 6));
     let mut at = octets::peek(body, 0) as usize;
     while at < body.len() {
-        let step = descriptors::step_over(body, at, stand);
+        let step = walk::step_over(body, at, last);
         let end = step.end;
-        stand = step.stand;
+        last = step.setting;
         table = with_interface(&body[at..end], table);
         at = end;
     }

@@ -1,6 +1,6 @@
 // Trimming: the strings of a set that nothing names are dropped, in the set's own buffer.
 use crate::keeping::keeps;
-use descriptors::Limits;
+use descriptors::limits::Limits;
 use sets::Entry;
 use sets::contents::entry_at;
 ghost use mathlib.Core.Path.{_≡_};
@@ -150,7 +150,7 @@ fn rebuild(set: &mut [u8], names: &[u32; 8], zero: bool)
 pub fn trim(set: &mut [u8], serial: &[u8], limits: Limits) -> u8
     ensures { λ r. ⌜ Trims limits (now (set .entry)) (now (serial .entry)) (now (set .exit)) r ⌝ }
 {
-    let number = sets::opening(set, serial, limits);
+    let number = sets::opening::opening(set, serial, limits);
     if number != 0 {
         return number;
     }

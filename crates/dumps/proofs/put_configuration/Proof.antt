@@ -1,11 +1,11 @@
 -- `dumps::put_configuration` meets its contract: written, and the places that the walk has still to collect have still to be blanked. No axiom.
 use Prim.Native.Nat.{ℕ, _+_, _-_, _≤_}
 use native.Mathlib.Omega.{arith}
-use mathlib.Core.Path.{_≡_, refl}
+use mathlib.Core.Path.{_≡_, refl, ap}
 use mathlib.Core.List.{List}
 use lib.ListN.{length}
-use Rattle.descriptors.specs.Walk.{before, collected}
-use Rattle.descriptors.proofs.Walk.{moved, collect-end, collect-stuck}
+use Rattle.descriptors.specs.Walk.{Pace, before, standIn, collected}
+use Rattle.descriptors.proofs.Walks.{moved, collect-end, collect-stuck}
 use Rattle.dumps.proofs.Naming.{nameAt, names-same}
 use Rattle.dumps.proofs.Blanking.{Blanking, one, none-past, names-on, finished}
 use borrow.Author.Needs.{needs}
@@ -13,12 +13,12 @@ use Rattle.dumps.proofs.put_configuration.Statement.{statement}
 use Rattle.dumps.proofs.put_configuration.Tie as tie
 
 abbrev Inv-loop : tie.InvT-loop
-Inv-loop out₀ from body behind stand₀ at₀ out stand at =
+Inv-loop out₀ from body behind last₀ at₀ out last at =
     (length out ≡ length out₀) ×
-    ((start goal : List ℕ) → Blanking start from (length body) goal out₀ (collected nameAt body before 0) → Blanking start from (length body) goal out (collected nameAt body stand at))
+    ((start goal : List ℕ) → Blanking start from (length body) goal out₀ (collected nameAt body before 0) → Blanking start from (length body) goal out (collected nameAt body (standIn last) at))
 
 abbrev μ-loop : tie.MeasureT-loop
-μ-loop out₀ from body behind stand₀ at₀ out stand at = length body - at
+μ-loop out₀ from body behind last₀ at₀ out last at = length body - at
 
 put-bytes-requires : tie.Need-put-bytes-requires Inv-loop μ-loop
 put-bytes-requires c κs = search needs
@@ -26,11 +26,8 @@ put-bytes-requires c κs = search needs
 blank-requires : tie.Need-blank-requires Inv-loop μ-loop
 blank-requires c κs = search needs
 
-outside-requires : tie.Need-outside-requires Inv-loop μ-loop
-outside-requires c κs = search needs
-
 loop-holds : tie.Need-loop-holds Inv-loop μ-loop
-loop-holds c = (refl, λ start goal b. rw (c .outside .ensures) b)
+loop-holds c = (refl, λ start goal b. b)
 
 advance-requires : tie.Need-advance-requires Inv-loop μ-loop
 advance-requires c κs = search needs
@@ -41,16 +38,17 @@ same-length c = search needs
 returns : tie.Need-returns Inv-loop μ-loop
 returns c =
     let l = c .before .before .before .loop in
-    let body = c .before .before .before .before .before .before .before .before .before .before .before .before .before .before .before .args .body .now in
-    finished _ _ (names-same body) (c .before .before .before .before .before .before .before .before .before .before .before .put-bytes .ensures) (c .before .before .before .before .before .before .before .blank .ensures) (l .inv .1)
-    (collect-stuck nameAt none-past body (l .stand) (l .at) (c .before .advance .ensures) (c .before .before .loop-test .taken) (c .if1 .taken))
+    let body = c .before .before .before .before .before .before .before .before .before .before .before .before .before .before .args .body .now in
+    finished _ _ (names-same body) (c .before .before .before .before .before .before .before .before .before .before .put-bytes .ensures) (c .before .before .before .before .before .before .blank .ensures) (l .inv .1)
+    (collect-stuck nameAt none-past body (standIn (l .last)) (l .at) (c .before .advance .ensures .steps) (c .before .before .loop-test .taken) (c .if1 .taken))
 
 -- the descriptor at hand ends inside the body
-inside : (c : tie.Else1 Inv-loop μ-loop) → c .before .advance .result .end ≤ length (c .before .before .before .before .before .before .before .before .before .before .before .before .before .before .before .args .body .now)
+inside : (c : tie.Else1 Inv-loop μ-loop) → c .before .advance .result .end ≤ length (c .before .before .before .before .before .before .before .before .before .before .before .before .before .before .args .body .now)
 inside c =
     let l = c .before .before .before .loop in
-    let e = c .before .advance .ensures in
-    rw e (moved (c .before .before .before .before .before .before .before .before .before .before .before .before .before .before .before .args .body .now) (l .at) (l .stand) (c .before .before .loop-test .taken) (rw e at (c .if1 .left)) .inside)
+    let e = c .before .advance .ensures .steps in
+    let n = ap (λ (p : Pace). p .end) e in
+    rw n (moved (c .before .before .before .before .before .before .before .before .before .before .before .before .before .before .args .body .now) (l .at) (standIn (l .last)) (c .before .before .loop-test .taken) (rw n at (c .if1 .left)) .inside)
 
 sub-has-name : tie.Need-sub-has-name Inv-loop μ-loop
 sub-has-name c = search needs
@@ -71,18 +69,18 @@ blank-requires-2 : tie.Need-blank-requires-2 Inv-loop μ-loop
 blank-requires-2 c κs = search needs
 
 loop-less : tie.Need-loop-less Inv-loop μ-loop
-loop-less c = let w = c .before .before .before .before .before .before .before in omega (arith, inside w, w .if1 .left, w .before .before .loop-test .taken)
+loop-less c = let w = c .before .before .before .before .before .before in omega (arith, inside w, w .if1 .left, w .before .before .loop-test .taken)
 
 loop-again : tie.Need-loop-again Inv-loop μ-loop
 loop-again c =
-    let w = c .before .before .before .before .before .before .before in
-    let body = w .before .before .before .before .before .before .before .before .before .before .before .before .before .before .before .args .body .now in
+    let w = c .before .before .before .before .before .before in
+    let body = w .before .before .before .before .before .before .before .before .before .before .before .before .before .before .args .body .now in
     let l = w .before .before .before .loop in
     let s = w .before .advance in
-    let named = c .before .before .before .before .before .has-name in
-    let e = names-on body (l .stand) (l .at) (s .ensures) (w .before .before .loop-test .taken) (w .if1 .left) (named .result) (named .ensures) in (
+    let named = c .before .before .before .before .has-name in
+    let e = names-on body (standIn (l .last)) (l .at) (s .ensures .steps) (w .before .before .loop-test .taken) (w .if1 .left) (named .result) (named .ensures) in (
       omega (arith, l .inv .0),
-      λ start goal b. one (l .at + 8) (named .result) (c .before .before .before .blank2 .ensures) (rw e at (l .inv .1 start goal b)),
+      λ start goal b. rw (← s .ensures .apart) (one (l .at + 8) (named .result) (c .before .before .blank2 .ensures) (rw e at (l .inv .1 start goal b))),
     )
 
 same-length-2 : tie.Need-same-length-2 Inv-loop μ-loop
@@ -91,8 +89,8 @@ same-length-2 c = search needs
 returns-2 : tie.Need-returns-2 Inv-loop μ-loop
 returns-2 c =
     let l = c .before .loop in
-    let body = c .before .before .before .before .before .before .before .before .before .before .before .before .before .args .body .now in
-    finished _ _ (names-same body) (c .before .before .before .before .before .before .before .before .before .put-bytes .ensures) (c .before .before .before .before .before .blank .ensures) (l .inv .1) (collect-end nameAt body (l .stand) (l .at) (c .loop-test .left))
+    let body = c .before .before .before .before .before .before .before .before .before .before .before .before .args .body .now in
+    finished _ _ (names-same body) (c .before .before .before .before .before .before .before .before .put-bytes .ensures) (c .before .before .before .before .blank .ensures) (l .inv .1) (collect-end nameAt body (standIn (l .last)) (l .at) (c .loop-test .left))
 
 pub put-configuration-spec : {M : Type 1} → statement M
 put-configuration-spec =
@@ -102,7 +100,6 @@ put-configuration-spec =
     μ-loop
     put-bytes-requires
     blank-requires
-    outside-requires
     loop-holds
     advance-requires
     same-length

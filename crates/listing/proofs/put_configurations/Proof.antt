@@ -8,7 +8,7 @@ use Rattle.octets.specs.Sentences.{every}
 use Rattle.sets.specs.Contents.{bodies}
 use Rattle.sets.proofs.Entries.{rest}
 use Rattle.listing.specs.Listing.{configurationLines}
-use Rattle.descriptors.specs.declared.Limits.{Limits}
+use Rattle.descriptors.specs.declared.limits.Limits.{Limits}
 use Rattle.listing.specs.Written.{entryLines, goodListed}
 use Rattle.buffers.proofs.Written.{Going, begun, room-for, next, done, same}
 use Rattle.listing.proofs.Lines.{entry-lines, entries-good, next-entry-lines, next-good, no-entry-lines}

@@ -1,12 +1,12 @@
 -- `listing::put_descriptors` meets its contract: the lines of the descriptors ahead are left. No axiom.
 use native.Mathlib.Omega.{arith}
 use Prim.Native.Nat.{ℕ, _-_}
-use mathlib.Core.Path.{_≡_}
+use mathlib.Core.Path.{_≡_, ap, _∙_}
 use mathlib.Core.List.{List, _++_}
 use lib.ListN.{length}
 use borrow.Author.Needs.{needs}
-use Rattle.descriptors.specs.Walk.{collected}
-use Rattle.descriptors.proofs.Walk.{spanned, collect-end, collect-on}
+use Rattle.descriptors.specs.Walk.{standIn, paceOf, collected}
+use Rattle.descriptors.proofs.Walks.{spanned, collect-end, collect-on}
 use Rattle.descriptors.proofs.Ahead.{Place, Turn, at-first, steps, turn}
 use Rattle.listing.specs.Written.{telling, descriptorLines}
 use Rattle.buffers.proofs.Written.{Going, begun, room-for, next, done, same}
@@ -14,13 +14,10 @@ use Rattle.listing.proofs.put_descriptors.Statement.{statement}
 use Rattle.listing.proofs.put_descriptors.Tie as tie
 
 abbrev Inv-loop : tie.InvT-loop
-Inv-loop out₀ at body stand₀ next₀ from₀ out stand next from = Place body from × Going out₀ at (descriptorLines body) out next (collected telling body stand from)
+Inv-loop out₀ at body last₀ next₀ from₀ out last next from = Place body from × Going out₀ at (descriptorLines body) out next (collected telling body (standIn last) from)
 
 abbrev μ-loop : tie.MeasureT-loop
-μ-loop out₀ at body stand₀ next₀ from₀ out stand next from = length body - from
-
-outside-requires : tie.Need-outside-requires Inv-loop μ-loop
-outside-requires c κs = search needs
+μ-loop out₀ at body last₀ next₀ from₀ out last next from = length body - from
 
 peek-requires : tie.Need-peek-requires Inv-loop μ-loop
 peek-requires c κs = search needs
@@ -30,53 +27,53 @@ cast-from c = search needs
 
 loop-holds : tie.Need-loop-holds Inv-loop μ-loop
 loop-holds c =
-    let s = c .before .before .before .before in
-    let b = at-first (s .args .body .now) _ (s .pre .0) (c .peek .ensures) in
-    (b .place, rw (c .peek .ensures, c .before .outside .ensures) (begun (s .args .out .now) _ _ (s .pre .1)))
+    let b = at-first (c .before .before .before .args .body .now) _ (c .before .before .before .pre .0) (c .peek .ensures) in
+    (b .place, rw (c .peek .ensures) (begun (c .before .before .before .args .out .now) _ _ (c .before .before .before .pre .1)))
 
 step-over-requires : tie.Need-step-over-requires Inv-loop μ-loop
 step-over-requires c κs = steps _ _ (c .before .loop .inv .0) (c .loop-test .taken)
 
 -- one descriptor on
-turned : (c : tie.After-step-over Inv-loop μ-loop) → Turn (c .before .before .before .before .before .before .before .args .body .now) (c .before .before .loop .from) (c .before .before .loop .stand) (c .step-over .result)
-turned c = turn _ _ _ (c .before .before .loop .inv .0) (c .before .loop-test .taken) _ (c .step-over .ensures)
+turned : (c : tie.After-step-over Inv-loop μ-loop) → Turn (c .before .before .before .before .before .before .args .body .now) (c .before .before .loop .from) (standIn (c .before .before .loop .last)) (paceOf (c .step-over .result))
+turned c = turn _ _ _ (c .before .before .loop .inv .0) (c .before .loop-test .taken) _ (c .step-over .ensures .steps)
 
 -- its line, and the lines behind it
 abbrev here : tie.After-step-over Inv-loop μ-loop → List ℕ
-here c = telling (c .before .before .loop .from) (c .step-over .result .stand) (spanned (c .before .before .before .before .before .before .before .args .body .now) (c .before .before .loop .from) (c .step-over .result .end))
+here c = telling (c .before .before .loop .from) (c .step-over .result .stand) (spanned (c .before .before .before .before .before .before .args .body .now) (c .before .before .loop .from) (c .step-over .result .end))
 
 abbrev behind : tie.After-step-over Inv-loop μ-loop → List ℕ
-behind c = collected telling (c .before .before .before .before .before .before .before .args .body .now) (c .step-over .result .stand) (c .step-over .result .end)
+behind c = collected telling (c .before .before .before .before .before .before .args .body .now) (standIn (c .step-over .result .setting)) (c .step-over .result .end)
 
-lines : (c : tie.After-step-over Inv-loop μ-loop) → collected telling (c .before .before .before .before .before .before .before .args .body .now) (c .before .before .loop .stand) (c .before .before .loop .from) ≡ here c ++ behind c
-lines c = collect-on telling _ _ _ (c .step-over .ensures) (c .before .loop-test .taken) (turned c .on)
+lines : (c : tie.After-step-over Inv-loop μ-loop) → collected telling (c .before .before .before .before .before .before .args .body .now) (standIn (c .before .before .loop .last)) (c .before .before .loop .from) ≡ here c ++ behind c
+lines c =
+    collect-on telling _ _ _ (c .step-over .ensures .steps) (c .before .loop-test .taken) (turned c .on)
+    ∙ ap (λ s. here c ++ collected telling (c .before .before .before .before .before .before .args .body .now) s (c .step-over .result .end)) (c .step-over .ensures .apart)
 
 sub-put-descriptor : tie.Need-sub-put-descriptor Inv-loop μ-loop
-sub-put-descriptor c = let t = turned (c .before .before) in omega arith
+sub-put-descriptor c = let t = turned (c .before) in omega (arith, t .on)
 
 part-put-descriptor-start : tie.Need-part-put-descriptor-start Inv-loop μ-loop
-part-put-descriptor-start c = let t = turned (c .before .before) in omega arith
+part-put-descriptor-start c = let t = turned (c .before) in omega (arith, t .on)
 
 part-put-descriptor-end : tie.Need-part-put-descriptor-end Inv-loop μ-loop
-part-put-descriptor-end c = let t = turned (c .before .before) in omega (arith, t .place .inside)
+part-put-descriptor-end c = turned (c .before) .place .inside
 
 put-descriptor-requires : tie.Need-put-descriptor-requires Inv-loop μ-loop
-put-descriptor-requires c κs = let w = c .before .before .before in room-for (w .before .before .loop .inv .1) (here w) (behind w) (lines w)
+put-descriptor-requires c κs = let w = c .before .before in room-for (w .before .before .loop .inv .1) (here w) (behind w) (lines w)
 
 loop-less : tie.Need-loop-less Inv-loop μ-loop
-loop-less c = let t = turned (c .before .before .before .before .before .before) in omega (arith, t .place .inside)
+loop-less c = let t = turned (c .before .before .before .before .before) in omega (arith, t .on, t .place .inside)
 
 loop-again : tie.Need-loop-again Inv-loop μ-loop
 loop-again c =
-    let w = c .before .before .before .before .before .before in
-    let t = turned w in
-    (t .place, next (w .before .before .loop .inv .1) (here w) (behind w) (lines w) (c .before .before .put-descriptor .ensures))
+    let w = c .before .before .before .before .before in
+    (turned w .place, next (w .before .before .loop .inv .1) (here w) (behind w) (lines w) (c .before .before .put-descriptor .ensures))
 
 same-length : tie.Need-same-length Inv-loop μ-loop
 same-length c = same (c .before .loop .inv .1)
 
 returns : tie.Need-returns Inv-loop μ-loop
-returns c = done (c .before .loop .inv .1) (collect-end telling (c .before .before .before .before .before .before .args .body .now) _ _ (c .loop-test .left))
+returns c = done (c .before .loop .inv .1) (collect-end telling (c .before .before .before .before .before .args .body .now) _ _ (c .loop-test .left))
 
 pub put-descriptors-spec : {M : Type 1} → statement M
 put-descriptors-spec =
@@ -84,7 +81,6 @@ put-descriptors-spec =
     (tie.spec
     Inv-loop
     μ-loop
-    outside-requires
     peek-requires
     cast-from
     loop-holds

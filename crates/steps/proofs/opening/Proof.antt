@@ -1,7 +1,7 @@
 -- `steps::opening` meets its contract: at full speed. No axiom.
 use mathlib.Core.Path.{ap, _∙_}
 use borrow.Author.Needs.{needs}
-use Rattle.descriptors.specs.declared.Limits.{Limits}
+use Rattle.descriptors.specs.declared.limits.Limits.{Limits}
 use Rattle.sets.specs.Opening.{lent, opening}
 use Rattle.steps.proofs.opening.Statement.{statement}
 use Rattle.steps.proofs.opening.Tie as tie

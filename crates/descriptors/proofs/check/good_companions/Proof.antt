@@ -11,15 +11,15 @@ use borrow.Author.Needs.{needs}
 use Rattle.octets.specs.Sentences.{_⇒_}
 use Rattle.octets.proofs.Sentences.{never}
 use Rattle.descriptors.specs.Cut.{cut}
-use Rattle.descriptors.specs.Walk.{before, walked}
+use Rattle.descriptors.specs.Walk.{before, standIn, walked}
 use Rattle.descriptors.specs.Check.{accompanying}
-use Rattle.descriptors.proofs.Walk.{Walking, walk-inside, walk-stop, walk-on, walk-end}
+use Rattle.descriptors.proofs.Walks.{Walking, walk-inside, walk-stop, walk-on, walk-at, walk-end}
 use Rattle.descriptors.proofs.CheckWhole.{companions-stuck}
 use Rattle.descriptors.proofs.check.good_companions.Statement.{statement}
 use Rattle.descriptors.proofs.check.good_companions.Tie as tie
 
 abbrev Inv-loop : tie.InvT-loop
-Inv-loop body from due₀ last₀ at₀ due last at = Walking accompanying body (walked accompanying false before (cut (drop from body))) due last at
+Inv-loop body from due₀ last₀ at₀ due last at = Walking accompanying body (walked accompanying false before (cut (drop from body))) due (standIn last) at
 
 abbrev μ-loop : tie.MeasureT-loop
 μ-loop body from due₀ last₀ at₀ due last at = length body - at
@@ -30,23 +30,20 @@ asked true l e = e
 asked false l e = never refl l
 
 -- the descriptor at hand ends inside the body
-inside : (c : tie.Else2 Inv-loop μ-loop) → c .before .advance .result .end ≤ length (c .before .before .before .before .before .before .before .before .args .body .now)
-inside c = walk-inside (c .before .before .before .loop .inv) (c .before .advance .ensures) (c .before .before .loop-test .taken) (c .if2 .left)
+inside : (c : tie.Else2 Inv-loop μ-loop) → c .before .advance .result .end ≤ length (c .before .before .before .before .before .before .before .args .body .now)
+inside c = walk-inside (c .before .before .before .loop .inv) (c .before .advance .ensures .steps) (c .before .before .loop-test .taken) (c .if2 .left)
 
 returns : tie.Need-returns Inv-loop μ-loop
 returns c = rw (not-true (c .before .before .before .args .limits .companions) (c .if1 .taken))
 
-outside-requires : tie.Need-outside-requires Inv-loop μ-loop
-outside-requires c κs = search needs
-
 loop-holds : tie.Need-loop-holds Inv-loop μ-loop
-loop-holds c = record { rest = rw (c .outside .ensures) }
+loop-holds c = record { rest = refl }
 
 advance-requires : tie.Need-advance-requires Inv-loop μ-loop
 advance-requires c κs = search needs
 
 returns-2 : tie.Need-returns-2 Inv-loop μ-loop
-returns-2 c = asked (c .before .before .before .before .before .before .before .before .args .limits .companions) (c .before .before .before .before .before .if1 .left) (companions-stuck (c .before .before .before .loop .inv) (c .before .advance .ensures) (c .before .before .loop-test .taken) (c .if2 .taken))
+returns-2 c = asked (c .before .before .before .before .before .before .before .args .limits .companions) (c .before .before .before .before .if1 .left) (companions-stuck (c .before .before .before .loop .inv) (c .before .advance .ensures .steps) (c .before .before .loop-test .taken) (c .if2 .taken))
 
 sub-is-accompanied : tie.Need-sub-is-accompanied Inv-loop μ-loop
 sub-is-accompanied c = search needs
@@ -64,8 +61,7 @@ returns-3 : tie.Need-returns-3 Inv-loop μ-loop
 returns-3 c =
     let w = c .before .before .before in
     let no = sym (c .before .is-accompanied .ensures) ∙ not-true _ (c .if3 .taken) in
-    asked (w .before .before .before .before .before .before .before .before .args .limits .companions) (w .before .before .before .before .before .if1 .left)
-    (walk-stop (w .before .before .before .loop .inv) (w .before .advance .ensures) (w .before .before .loop-test .taken) (w .if2 .left) false (rw no))
+    asked (w .before .before .before .before .before .before .before .args .limits .companions) (w .before .before .before .before .if1 .left) (walk-stop (w .before .before .before .loop .inv) (w .before .advance .ensures .steps) (w .before .before .loop-test .taken) (w .if2 .left) false (rw no))
 
 sub-peek : tie.Need-sub-peek Inv-loop μ-loop
 sub-peek c = search needs
@@ -81,17 +77,17 @@ peek-requires c κs = search needs
 
 loop-less : tie.Need-loop-less Inv-loop μ-loop
 loop-less c =
-    let w = c .before .before .before .before .before .before in
+    let w = c .before .before .before .before .before in
     omega (arith, inside w, w .if2 .left, w .before .before .loop-test .taken)
 
 loop-again : tie.Need-loop-again Inv-loop μ-loop
 loop-again c =
-    let w = c .before .before .before .before .before .before in
-    let so = sym (c .before .before .before .before .is-accompanied .ensures) ∙ not-false _ (c .before .before .before .if3 .left) in
-    walk-on (w .before .before .before .loop .inv) (w .before .advance .ensures) (w .before .before .loop-test .taken) (w .if2 .left) (rw so) (ap (λ (x : ℕ). eqb x 5) (c .before .peek .ensures))
+    let w = c .before .before .before .before .before in
+    let so = sym (c .before .before .before .is-accompanied .ensures) ∙ not-false _ (c .before .before .if3 .left) in
+    walk-at (walk-on (w .before .before .before .loop .inv) (w .before .advance .ensures .steps) (w .before .before .loop-test .taken) (w .if2 .left) (rw so) (ap (λ (x : ℕ). eqb x 5) (c .peek .ensures))) (w .before .advance .ensures .apart)
 
 returns-4 : tie.Need-returns-4 Inv-loop μ-loop
-returns-4 c = asked (c .before .before .before .before .before .before .args .limits .companions) (c .before .before .before .if1 .left) (walk-end (c .before .loop .inv) (c .loop-test .left))
+returns-4 c = asked (c .before .before .before .before .before .args .limits .companions) (c .before .before .if1 .left) (walk-end (c .before .loop .inv) (c .loop-test .left))
 
 pub good-companions-spec : {M : Type 1} → statement M
 good-companions-spec =
@@ -100,7 +96,6 @@ good-companions-spec =
     Inv-loop
     μ-loop
     returns
-    outside-requires
     loop-holds
     advance-requires
     returns-2

@@ -9,7 +9,7 @@ use borrow.Author.Tests.{not-true, not-false}
 use Rattle.octets.specs.Sentences.{_⇒_, every}
 use Rattle.octets.specs.Table.{has}
 use Rattle.descriptors.specs.Cut.{cut}
-use Rattle.descriptors.specs.Walk.{before, stepOf, walked, collected}
+use Rattle.descriptors.specs.Walk.{before, paceOf, stepOf, walked, collected}
 use Rattle.descriptors.specs.Check.{starting, checking, accompanying, referring}
 use Rattle.descriptors.specs.Sequence.{unaccompanied}
 use Rattle.descriptors.specs.Configuration.{bNumInterfaces, iConfiguration, goodConfiguration}
@@ -21,33 +21,30 @@ use Rattle.descriptors.proofs.check.good_configuration.Statement.{state
 use Rattle.descriptors.proofs.check.good_configuration.Tie as tie
 
 -- the first step, and that it moved on
-stepped : (c : tie.After-advance) → c .advance .result ≡ stepOf (c .before .before .before .args .body .now) 0 before
-stepped c = rw (c .before .outside .ensures) at (c .advance .ensures)
+stepped : (c : tie.After-advance) → paceOf (c .advance .result) ≡ stepOf (c .before .before .args .body .now) 0 before
+stepped c = c .advance .ensures .steps
 
 went : (c : tie.Else1) → 0 < c .before .advance .result .end
 went c = omega (arith, c .if1 .left)
 
 -- what is asked of the body, once it is known what the first descriptor says
 checked : (c : tie.After-good-head) {b : Bool} → c .good-head .result ≡ b
-    → let a = c .before .before .before .before .before .before .args in
+    → let a = c .before .before .before .before .before .args in
     let end = c .before .before .before .advance .result .end in
     goodConfiguration (a .limits) (a .body .now)
     ≡ (b && walked (checking (a .limits) (bNumInterfaces (take end (a .body .now)))) starting before (cut (drop end (a .body .now))))
 checked c p =
-    let a = c .before .before .before .before .before .before .args in
+    let a = c .before .before .before .before .before .args in
     check-head (a .limits) (a .body .now) _ (stepped (c .before .before .before)) (went (c .before .before)) ∙ rw (sym (c .good-head .ensures) ∙ p)
 
 head-small : (c : tie.After-good-head) → c .good-head .result ≡ true
-    → let body = c .before .before .before .before .before .before .args .body .now in
+    → let body = c .before .before .before .before .before .args .body .now in
     let d = take (c .before .before .before .advance .result .end) body in
     (length body ≤ 65535) × (1 ≤ bNumInterfaces d) × (bNumInterfaces d ≤ 16)
 head-small c p =
-    let body = c .before .before .before .before .before .before .args .body .now in
+    let body = c .before .before .before .before .before .args .body .now in
     let end = c .before .before .before .advance .result .end in
-    head-short (length body) (take end body) (sym (c .good-head .ensures) ∙ p) (part-bytes body (λ k. omega (arith, c .before .before .before .before .before .shared-slice-known .given k)) 0 end)
-
-outside-requires : tie.Need-outside-requires
-outside-requires c κs = search needs
+    head-short (length body) (take end body) (sym (c .good-head .ensures) ∙ p) (part-bytes body (λ k. omega (arith, c .before .before .before .before .shared-slice-known .given k)) 0 end)
 
 advance-requires : tie.Need-advance-requires
 advance-requires c κs = search needs
@@ -56,10 +53,10 @@ refuse-requires : tie.Need-refuse-requires
 refuse-requires c κs = search needs
 
 returns : tie.Need-returns
-returns c = c .refuse .ensures ∙ refused _ (check-none (c .before .before .before .before .before .args .limits) (c .before .before .before .before .before .args .body .now) _ (stepped (c .before .before)) (c .before .if1 .taken))
+returns c = c .refuse .ensures ∙ refused _ (check-none (c .before .before .before .before .args .limits) (c .before .before .before .before .args .body .now) _ (stepped (c .before .before)) (c .before .if1 .taken))
 
 slice-aggregate-head : tie.Need-slice-aggregate-head
-slice-aggregate-head c = sym (length-take-le _ _ (head-inside (c .before .before .before .before .before .args .body .now) _ (stepped (c .before .before)) (went (c .before))))
+slice-aggregate-head c = sym (length-take-le _ _ (head-inside (c .before .before .before .before .args .body .now) _ (stepped (c .before .before)) (went (c .before))))
 
 good-head-requires : tie.Need-good-head-requires
 good-head-requires c κs = search needs
@@ -76,7 +73,7 @@ peek-requires c κs = search needs
 good-rest-requires : tie.Need-good-rest-requires
 good-rest-requires c κs =
     let w = c .before .before in
-    let body = w .before .before .before .before .before .before .args .body .now in
+    let body = w .before .before .before .before .before .args .body .now in
     let inside = head-inside body _ (stepped (w .before .before .before)) (went (w .before .before)) in
     let small = head-small w (not-false _ (c .before .if2 .left)) in
     record {
@@ -99,7 +96,7 @@ holds-requires c κs = search needs
 returns-3 : tie.Need-returns-3
 returns-3 c =
     let w = c .before .before .before .before .before .before .before .before in
-    let a = w .before .before .before .before .before .before .args in
+    let a = w .before .before .before .before .before .args in
     let body = a .body .now in
     let end = w .before .before .before .advance .result .end in
     let cs = cut (drop end body) in
@@ -119,7 +116,6 @@ pub good-configuration-spec : {M : Type 1} → statement M
 good-configuration-spec =
     tie.close
     (tie.spec
-    outside-requires
     advance-requires
     refuse-requires
     returns

@@ -1,18 +1,21 @@
 -- `descriptors::check::good_rest` meets its contract: what the whole walk says, the walk from each place says. No axiom.
 use Prim.Native.Nat.{ℕ, _+_, _-_, _<_}
 use mathlib.Core.List.{List}
+use mathlib.Core.Bool.{true}
 use native.Mathlib.Omega.{arith}
-use mathlib.Core.Path.{refl, sym, _∙_}
+use mathlib.Core.Path.{_≡_, refl, sym, _∙_}
 use mathlib.Core.Logic.{⊎-elim}
 use lib.ListN.{length}
 use borrow.Author.Tests.{not-true, not-false}
 use borrow.Author.Needs.{needs}
 use Rattle.octets.specs.Octets.{byte}
-use Rattle.descriptors.specs.Walk.{before, Plain}
+use Rattle.descriptors.specs.Walk.{before, stepsOn, Plain}
 use Rattle.descriptors.specs.Check.{beginning}
 use Rattle.descriptors.specs.Sequence.{unaccompanied}
+use Rattle.descriptors.proofs.Walks.{whole-steps, step-ends, step-sets}
 use Rattle.descriptors.proofs.Plains.{plains-on}
 use Rattle.descriptors.proofs.SequenceRules.{part-bytes}
+use Rattle.descriptors.proofs.Models.{models-low}
 use Rattle.descriptors.proofs.Reaching.{Stood, reached-begin, reached-small, reached-long, reached-behind, reached-turn, reached-refused, turns-alone, verdict-stopped, verdict-end}
 use Rattle.descriptors.proofs.check.good_rest.Statement.{statement}
 use Rattle.descriptors.proofs.check.good_rest.Tie as tie
@@ -73,29 +76,39 @@ loop-again c =
       reached = reached-behind refl (λ k. omega (arith, c .before .before .before .before .shared-slice-known2 .given k)) (l .inv .reached) (plain (c .before)) (c .behind .ensures);
     }
 
+-- the step goes over a whole descriptor, to its end
+on : (c : tie.Else3 Inv-loop μ-loop) → stepsOn (c .before .before .before .before .before .before .before .before .before .args .body .now) (c .before .before .before .before .before .before .loop .at) ≡ true
+on c = whole-steps (c .before .before .before .before .before .before .before .before .before .args .body .now) (c .before .before .before .before .before .before .loop .at) 0 (before-end (c .before .before .before .before .before .before .before .before .before .args .body .now) (c .before .before .before .before .before .loop-test .taken)) (c .before .before .if1 .left) (c .if3 .left)
+
+ends : (c : tie.After-step-over Inv-loop μ-loop) → c .step-over .result .end ≡ c .before .before .before .before .before .before .before .loop .at + byte (c .before .before .before .before .before .before .before .before .before .before .args .body .now) (c .before .before .before .before .before .before .before .loop .at)
+ends c = step-ends _ _ _ (on (c .before)) (c .step-over .ensures)
+
+step-over-requires : tie.Need-step-over-requires Inv-loop μ-loop
+step-over-requires c κs = on c
+
 sub-turn : tie.Need-sub-turn Inv-loop μ-loop
-sub-turn c = omega (arith, c .before .before .if1 .left)
+sub-turn c = omega (arith, ends c, c .before .before .before .if1 .left)
 
 part-turn-start : tie.Need-part-turn-start Inv-loop μ-loop
-part-turn-start c = omega (arith, c .before .before .if1 .left)
+part-turn-start c = omega (arith, ends c, c .before .before .before .if1 .left)
 
 part-turn-end : tie.Need-part-turn-end Inv-loop μ-loop
-part-turn-end c = omega (arith, c .if3 .left)
+part-turn-end c = omega (arith, ends c, c .before .if3 .left)
 
 turn-requires : tie.Need-turn-requires Inv-loop μ-loop
-turn-requires c κs = search needs
+turn-requires c κs = models-low (c .before .before .before .before .before .before .before .before .loop .inv .reached .models) .small
 
 loop-less-2 : tie.Need-loop-less-2 Inv-loop μ-loop
-loop-less-2 c = let m = more (c .before .before .before .before .before .before .before) in omega (arith, c .before .before .before .before .before .before .before .if1 .left)
+loop-less-2 c = let m = more (c .before .before .before .before .before .before .before .before) in omega (arith, ends (c .before .before .before .before .before), c .before .before .before .before .before .before .before .before .if1 .left)
 
 loop-again-2 : tie.Need-loop-again-2 Inv-loop μ-loop
 loop-again-2 c =
-    let a = c .before .before .before .before .before .before .before .before .before .before .before .before .before .before .args in
-    let pre = c .before .before .before .before .before .before .before .before .before .before .before .before .before .before .pre in
-    let l = c .before .before .before .before .before .before .before .before .before .before .before .loop in
-    let h = before-end (a .body .now) (c .before .before .before .before .before .before .before .before .before .before .loop-test .taken) in
-    let bytes = part-bytes (a .body .now) (λ k. omega (arith, c .before .before .before .before .before .before .before .before .before .shared-slice-known2 .given k)) (l .at) (l .at + byte (a .body .now) (l .at) - l .at) in
-    reached-turn refl (l .inv .reached) h (c .before .before .before .before .before .before .before .if1 .left) _ refl (c .before .before .before .before .before .if3 .left) (bytes 2) (bytes 3) (turns-alone (c .before .before .before .turn .ensures)) (not-false _ (c .before .if4 .left))
+    let a = c .before .before .before .before .before .before .before .before .before .before .before .before .before .before .before .args in
+    let l = c .before .before .before .before .before .before .before .before .before .before .before .before .loop in
+    let s = c .before .before .before .before .before .step-over in
+    let h = before-end (a .body .now) (c .before .before .before .before .before .before .before .before .before .before .before .loop-test .taken) in
+    let bytes = part-bytes (a .body .now) (λ k. omega (arith, c .before .before .before .before .before .before .before .before .before .before .shared-slice-known2 .given k)) (l .at) (s .result .end - l .at) in
+    reached-turn refl (l .inv .reached) h (c .before .before .before .before .before .before .before .before .if1 .left) (s .result .end) (ends (c .before .before .before .before .before)) (omega (arith, ends (c .before .before .before .before .before), c .before .before .before .before .before .before .if3 .left)) (bytes 2) (bytes 3) (step-sets _ _ _ (on (c .before .before .before .before .before .before)) (s .ensures)) (turns-alone (c .before .before .before .turn .ensures)) (not-false _ (c .before .if4 .left))
 
 next-of-requires : tie.Need-next-of-requires Inv-loop μ-loop
 next-of-requires c κs = search needs
@@ -114,9 +127,12 @@ returns c =
     (⊎-elim
     (λ p. verdict-stopped body _ _ _ _ _ (pre .some-bytes) (p .6) (reached-long refl r (before-end body (p .0 .taken)) (p .5 .taken)))
     (λ p.
-    let bytes = part-bytes body (λ k. omega (arith, p .1 .given k)) (l .at) (l .at + byte body (l .at) - l .at) in
-    verdict-stopped body _ _ _ _ _ (pre .some-bytes) (p .10)
-    (reached-refused refl r (before-end body (p .0 .taken)) (p .3 .left) _ refl (p .5 .left) (bytes 2) (bytes 3) (pre .few) (sym (p .7 .ensures .may) ∙ not-true _ (p .9 .taken))))))
+    let h = before-end body (p .0 .taken) in
+    let whole = whole-steps body (l .at) 0 h (p .3 .left) (p .5 .left) in
+    let e = step-ends _ _ _ whole (p .6 .ensures) in
+    let bytes = part-bytes body (λ k. omega (arith, p .1 .given k)) (l .at) (p .6 .result .end - l .at) in
+    verdict-stopped body _ _ _ _ _ (pre .some-bytes) (p .11)
+    (reached-refused refl r h (p .3 .left) (p .6 .result .end) e (omega (arith, e, p .5 .left)) (bytes 2) (bytes 3) (pre .few) (step-sets _ _ _ whole (p .6 .ensures)) (sym (p .8 .ensures .may) ∙ not-true _ (p .10 .taken))))))
     (c .before .before .loop-test .came))
 
 pub good-rest-spec : {M : Type 1} → statement M
@@ -136,6 +152,7 @@ good-rest-spec =
     behind-requires
     loop-less
     loop-again
+    step-over-requires
     sub-turn
     part-turn-start
     part-turn-end

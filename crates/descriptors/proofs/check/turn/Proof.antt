@@ -47,7 +47,7 @@ returns-2 c =
     }
 
 begin-requires : tie.Need-begin-requires
-begin-requires c κs = search needs
+begin-requires c κs = c .before .before .before .before .pre
 
 peek-requires-2 : tie.Need-peek-requires-2
 peek-requires-2 c κs = search needs

@@ -13,40 +13,30 @@ returns c = record { may = rw (lt-leb 9 _ (c .if1 .taken)); on = λ e. never e r
 returns-2 : tie.Need-returns-2
 returns-2 c = record { may = simp (ne-eqb (c .before .before .before .before .args .order .coming) 0 (c .if2 .taken), and-false); on = λ e. never e refl }
 
-word-requires : tie.Need-word-requires
-word-requires c κs = search needs
-
-cast-setting : tie.Need-cast-setting
-cast-setting c = search needs
-
 place-requires : tie.Need-place-requires
-place-requires c κs = search needs
-
-add-t8 : tie.Need-add-t8
-add-t8 c = search needs
+place-requires c κs = c .before .before .before .before .pre
 
 peek-requires : tie.Need-peek-requires
 peek-requires c κs = search needs
 
-cast-t10 : tie.Need-cast-t10
-cast-t10 c = search needs
+cast-t8 : tie.Need-cast-t8
+cast-t8 c = search needs
 
 returns-3 : tie.Need-returns-3
 returns-3 c =
-    let l = le-leb 9 _ (c .before .before .before .before .before .before .if1 .left) in
-    let z = eq-eqb (c .before .before .before .before .before .before .before .before .args .order .coming) 0 (c .before .before .before .before .if2 .left) in
-    let p = rw (c .before .before .before .word .ensures) at (c .before .before .place .ensures) in
+    let l = le-leb 9 _ (c .before .before .before .before .before .if1 .left) in
+    let z = eq-eqb (c .before .before .before .before .before .before .before .args .order .coming) 0 (c .before .before .before .if2 .left) in
+    let p = c .before .before .place .ensures in
     record {
       may = rw (l, z) (sym (c .before .if3 .taken) ∙ p .may);
-      on = λ _. record { again = rw (c .before .before .before .word .ensures); comes = c .peek .ensures; rest = p .on (c .before .if3 .taken); clear = refl };
+      on = λ _. record { last = refl; comes = c .peek .ensures; rest = p .on (c .before .if3 .taken); clear = refl };
     }
 
 returns-4 : tie.Need-returns-4
 returns-4 c =
-    let l = le-leb 9 _ (c .before .before .before .before .before .if1 .left) in
-    let z = eq-eqb (c .before .before .before .before .before .before .before .args .order .coming) 0 (c .before .before .before .if2 .left) in
-    let p = rw (c .before .before .word .ensures) at (c .before .place .ensures) in
-    record { may = rw (l, z) (sym (c .if3 .left) ∙ p .may); on = λ e. never e refl }
+    let l = le-leb 9 _ (c .before .before .before .before .if1 .left) in
+    let z = eq-eqb (c .before .before .before .before .before .before .args .order .coming) 0 (c .before .before .if2 .left) in
+    record { may = rw (l, z) (sym (c .if3 .left) ∙ c .before .place .ensures .may); on = λ e. never e refl }
 
 pub begin-spec : {M : Type 1} → statement M
 begin-spec =
@@ -54,11 +44,8 @@ begin-spec =
     (tie.spec
     returns
     returns-2
-    word-requires
-    cast-setting
     place-requires
-    add-t8
     peek-requires
-    cast-t10
+    cast-t8
     returns-3
     returns-4)

@@ -1,9 +1,10 @@
 -- `descriptors::sequence::place` meets its contract: by its number. No axiom.
+use Prim.Native.Nat.{_+_}
 use mathlib.Core.Path.{_≡_, sym, _∙_}
 use mathlib.Core.Bool.{false, _&&_, and-false}
 use lib.Dec.{eqb, ltb}
 use mathlib.Core.Logic.{⊎-elim}
-use borrow.Author.Tests.{eq-eqb, ne-eqb, le-leb, lt-leb, lt-ltb, le-ltb}
+use borrow.Author.Tests.{eq-eqb, ne-eqb, lt-ltb, le-ltb}
 use Rattle.octets.proofs.Sentences.{never}
 use Rattle.descriptors.specs.Sequence.{nextOf}
 use Rattle.descriptors.proofs.SequenceRules.{or-digit}
@@ -11,11 +12,14 @@ use borrow.Author.Needs.{needs}
 use Rattle.descriptors.proofs.sequence.place.Statement.{statement}
 use Rattle.descriptors.proofs.sequence.place.Tie as tie
 
+add-if1 : tie.Need-add-if1
+add-if1 c = search needs
+
 returns : tie.Need-returns
 returns c =
     let a = c .before .before .before .args in
-    let q = eq-eqb (a .setting) (a .order .again) (c .before .if1 .taken) in
-    record { may = rw (q, le-leb (a .setting) 4095 (c .if2 .taken)); on = λ _. record { owns = rw q; takes = λ e l. rw q } }
+    let q = eq-eqb (a .setting) (a .order .last + 256) (c .before .if1 .taken) in
+    record { may = rw (q, lt-ltb (a .setting) 4096 (c .if2 .taken)); on = λ _. record { owns = rw q; takes = λ e l. rw q } }
 
 refused-requires : tie.Need-refused-requires
 refused-requires c κs = search needs
@@ -23,8 +27,8 @@ refused-requires c κs = search needs
 returns-2 : tie.Need-returns-2
 returns-2 c =
     let a = c .before .before .before .before .args in
-    let q = eq-eqb (a .setting) (a .order .again) (c .before .before .if1 .taken) in
-    record { may = c .refused .ensures ∙ rw (q, lt-leb (a .setting) 4095 (c .before .if2 .left)); on = λ g. never g (c .refused .ensures) }
+    let q = eq-eqb (a .setting) (a .order .last + 256) (c .before .before .if1 .taken) in
+    record { may = c .refused .ensures ∙ rw (q, le-ltb (a .setting) 4096 (c .before .if2 .left)); on = λ g. never g (c .refused .ensures) }
 
 next-of-requires : tie.Need-next-of-requires
 next-of-requires c κs = search needs
@@ -32,8 +36,8 @@ next-of-requires c κs = search needs
 returns-3 : tie.Need-returns-3
 returns-3 c =
     let a = c .before .before .before .before .before .before .args in
-    let q = ne-eqb (a .setting) (a .order .again) (c .before .before .before .before .if1 .left) in
-    let u = eq-eqb (a .setting) (nextOf (a .order .again)) (c .before .before .if3 .taken ∙ c .before .before .before .next-of .ensures) in
+    let q = ne-eqb (a .setting) (a .order .last + 256) (c .before .before .before .before .if1 .left) in
+    let u = eq-eqb (a .setting) (nextOf (a .order .last)) (c .before .before .if3 .taken ∙ c .before .before .before .next-of .ensures) in
     record { may = rw (q, u, lt-ltb (a .setting) 16 (c .before .if4 .taken)); on = λ _. record { owns = rw q; takes = λ e l. rw q (or-digit (a .order .others) (a .order .own) e) } }
 
 refused-requires-2 : tie.Need-refused-requires-2
@@ -42,10 +46,10 @@ refused-requires-2 c κs = search needs
 returns-4 : tie.Need-returns-4
 returns-4 c =
     let a = c .before .before .before .before .before .args in
-    let q = ne-eqb (a .setting) (a .order .again) (c .before .before .before .if1 .left) in
-    let not-so : (eqb (a .setting) (nextOf (a .order .again)) && ltb (a .setting) 16) ≡ false = ⊎-elim
+    let q = ne-eqb (a .setting) (a .order .last + 256) (c .before .before .before .if1 .left) in
+    let not-so : (eqb (a .setting) (nextOf (a .order .last)) && ltb (a .setting) 16) ≡ false = ⊎-elim
     (λ p. simp (le-ltb (a .setting) 16 (p .1 .left), and-false))
-    (λ p. rw (ne-eqb (a .setting) (nextOf (a .order .again)) (λ e. p .left (e ∙ sym (c .before .before .next-of .ensures)))))
+    (λ p. rw (ne-eqb (a .setting) (nextOf (a .order .last)) (λ e. p .left (e ∙ sym (c .before .before .next-of .ensures)))))
     (c .before .if3 .came) in
     record { may = c .refused2 .ensures ∙ rw q (sym not-so); on = λ g. never g (c .refused2 .ensures) }
 
@@ -53,6 +57,7 @@ pub place-spec : {M : Type 1} → statement M
 place-spec =
     tie.close
     (tie.spec
+    add-if1
     returns
     refused-requires
     returns-2

@@ -7,7 +7,7 @@ use lib.Seq.{length-take-le}
 use Rattle.descriptors.specs.Cut.{cut}
 use Rattle.descriptors.specs.Configuration.{bNumInterfaces}
 use Rattle.descriptors.specs.Check.{beginning}
-use Rattle.descriptors.specs.Walk.{before, stepOf}
+use Rattle.descriptors.specs.Walk.{before, paceOf, stepOf}
 use Rattle.descriptors.proofs.CheckWhole.{head-inside, check-first}
 use Rattle.rules.specs.Configuration.{headFindings, headNumbers, restFindings}
 use Rattle.rules.specs.After.{after}
@@ -18,8 +18,8 @@ use Rattle.rules.proofs.configuration.body_fault.Statement.{statement}
 use Rattle.rules.proofs.configuration.body_fault.Tie as tie
 
 -- the first step, of a body that has bytes
-stepped : (c : tie.After-advance) → c .advance .result ≡ stepOf (c .before .before .before .before .args .body .now) 0 before
-stepped c = rw (c .before .outside .ensures) at (c .advance .ensures)
+stepped : (c : tie.After-advance) → paceOf (c .advance .result) ≡ stepOf (c .before .before .before .args .body .now) 0 before
+stepped c = c .advance .ensures .steps
 
 some : (c : tie.Else1) → 0 < length (c .before .before .args .body .now)
 some c = omega (arith, c .if1 .left)
@@ -29,9 +29,6 @@ ask-requires c κs = search needs
 
 returns : tie.Need-returns
 returns c = rw (body-none (c .before .before .before .args .limits) (c .before .before .before .args .start) (c .before .before .before .args .body .now) (c .before .if1 .taken)) (ends _ _ (c .ask .ensures))
-
-outside-requires : tie.Need-outside-requires
-outside-requires c κs = search needs
 
 advance-requires : tie.Need-advance-requires
 advance-requires c κs = search needs
@@ -44,12 +41,12 @@ stuck-fault-requires c κs = search needs
 
 returns-2 : tie.Need-returns-2
 returns-2 c =
-    let a = c .before .before .before .before .before .before .before .args in
+    let a = c .before .before .before .before .before .before .args in
     (rw (c .before .peek .ensures) at (c .stuck-fault .ensures))
-    ∙ sym (body-stuck (a .limits) (a .start) (a .body .now) (a .found) _ (stepped (c .before .before .before)) (some (c .before .before .before .before .before)) (omega (arith, c .before .before .if2 .taken)))
+    ∙ sym (body-stuck (a .limits) (a .start) (a .body .now) (a .found) _ (stepped (c .before .before .before)) (some (c .before .before .before .before)) (omega (arith, c .before .before .if2 .taken)))
 
 slice-aggregate-head : tie.Need-slice-aggregate-head
-slice-aggregate-head c = sym (length-take-le _ _ (head-inside (c .before .before .before .before .before .before .args .body .now) _ (stepped (c .before .before)) (omega (arith, c .before .if2 .left))))
+slice-aggregate-head c = sym (length-take-le _ _ (head-inside (c .before .before .before .before .before .args .body .now) _ (stepped (c .before .before)) (omega (arith, c .before .if2 .left))))
 
 head-fault-requires : tie.Need-head-fault-requires
 head-fault-requires c κs = search needs
@@ -61,11 +58,11 @@ peek-requires-2 : tie.Need-peek-requires-2
 peek-requires-2 c κs = search needs
 
 rest-fault-requires : tie.Need-rest-fault-requires
-rest-fault-requires c κs = c .before .before .before .before .before .before .before .before .before .pre
+rest-fault-requires c κs = c .before .before .before .before .before .before .before .before .pre
 
 returns-3 : tie.Need-returns-3
 returns-3 c =
-    let a = c .before .before .before .before .before .before .before .before .before .before .args in
+    let a = c .before .before .before .before .before .before .before .before .before .args in
     let body = a .body .now in
     let e = c .before .before .before .before .before .before .advance .result .end in
     let m : 0 < e = omega (arith, c .before .before .before .before .before .if2 .left) in
@@ -81,7 +78,6 @@ body-fault-spec =
     (tie.spec
     ask-requires
     returns
-    outside-requires
     advance-requires
     peek-requires
     stuck-fault-requires

@@ -4,9 +4,9 @@ use native.Mathlib.Omega.{arith}
 use mathlib.Core.Path.{_≡_, refl, sym, ap, _∙_}
 use lib.ListN.{length, drop}
 use Rattle.descriptors.specs.Cut.{cut}
-use Rattle.descriptors.specs.Walk.{before}
+use Rattle.descriptors.specs.Walk.{before, standIn, paceOf}
 use Rattle.descriptors.specs.Check.{beginning}
-use Rattle.rules.specs.Configuration.{restFindings}
+use Rattle.rules.specs.Configuration.{progressIn, restFindings}
 use Rattle.rules.specs.After.{after}
 use Rattle.rules.proofs.Steps.{goes-on, rest-stuck, rest-on, rest-end}
 use borrow.Author.Needs.{needs}
@@ -15,26 +15,23 @@ use Rattle.rules.proofs.configuration.rest_fault.Tie as tie
 
 abbrev Inv-loop : tie.InvT-loop
 Inv-loop body from start interfaces limits found₀ progress₀ last₀ head₀ at₀ found progress last head at =
-    after found₀ (restFindings limits start interfaces from 0 beginning before (cut (drop from body))) ≡ after found (restFindings limits start interfaces at head progress last (cut (drop at body)))
+    after found₀ (restFindings limits start interfaces from 0 beginning before (cut (drop from body))) ≡ after found (restFindings limits start interfaces at head (progressIn progress) (standIn last) (cut (drop at body)))
 
 abbrev μ-loop : tie.MeasureT-loop
 μ-loop body from start interfaces limits found₀ progress₀ last₀ head₀ at₀ found progress last head at = length body - at
 
 -- the descriptor at hand ends inside the body
-inside : (c : tie.Else1 Inv-loop μ-loop) → c .before .advance .result .end ≤ length (c .before .before .before .before .before .before .before .args .body .now)
-inside c = goes-on (c .before .before .before .before .before .before .before .args .body .now) (c .before .before .before .loop .at) (c .before .before .before .loop .last) (c .before .advance .result) (c .before .advance .ensures) (c .before .before .loop-test .taken) (c .if1 .left) .inside
+inside : (c : tie.Else1 Inv-loop μ-loop) → c .before .advance .result .end ≤ length (c .before .before .before .before .before .before .args .body .now)
+inside c = goes-on (c .before .before .before .before .before .before .args .body .now) (c .before .before .before .loop .at) (standIn (c .before .before .before .loop .last)) (paceOf (c .before .advance .result)) (c .before .advance .ensures .steps) (c .before .before .loop-test .taken) (c .if1 .left) .inside
 
 start-requires : tie.Need-start-requires Inv-loop μ-loop
 start-requires c κs = search needs
 
-outside-requires : tie.Need-outside-requires Inv-loop μ-loop
-outside-requires c κs = search needs
-
 loop-holds : tie.Need-loop-holds Inv-loop μ-loop
-loop-holds c = rw (c .before .start .ensures, c .outside .ensures)
+loop-holds c = rw (c .start .ensures)
 
 cast-place : tie.Need-cast-place Inv-loop μ-loop
-cast-place c = omega (arith, c .loop-test .taken, c .before .before .before .before .before .pre)
+cast-place c = omega (arith, c .loop-test .taken, c .before .before .before .before .pre)
 
 advance-requires : tie.Need-advance-requires Inv-loop μ-loop
 advance-requires c κs = search needs
@@ -48,9 +45,9 @@ stuck-fault-requires c κs = search needs
 returns : tie.Need-returns Inv-loop μ-loop
 returns c =
     let l = c .before .before .before .before .before .loop in
-    let a = c .before .before .before .before .before .before .before .before .before .args in
+    let a = c .before .before .before .before .before .before .before .before .args in
     (rw (c .before .peek .ensures) at (c .stuck-fault .ensures))
-    ∙ sym (l .inv ∙ rest-stuck (a .limits) (a .start) (a .interfaces) (a .body .now) (l .at) (l .head) (l .progress) (l .last) (l .found) _ (c .before .before .before .advance .ensures) (c .before .before .before .before .loop-test .taken) (c .before .before .if1 .taken))
+    ∙ sym (l .inv ∙ rest-stuck (a .limits) (a .start) (a .interfaces) (a .body .now) (l .at) (l .head) (progressIn (l .progress)) (standIn (l .last)) (l .found) _ (c .before .before .before .advance .ensures .steps) (c .before .before .before .before .loop-test .taken) (c .before .before .if1 .taken))
 
 sub-d : tie.Need-sub-d Inv-loop μ-loop
 sub-d c = search needs
@@ -60,6 +57,9 @@ part-d-start c = search needs
 
 part-d-end : tie.Need-part-d-end Inv-loop μ-loop
 part-d-end c = inside c
+
+stand-in-requires : tie.Need-stand-in-requires Inv-loop μ-loop
+stand-in-requires c κs = search needs
 
 descriptor-fault-requires : tie.Need-descriptor-fault-requires Inv-loop μ-loop
 descriptor-fault-requires c κs = search needs
@@ -77,20 +77,26 @@ loop-again : tie.Need-loop-again Inv-loop μ-loop
 loop-again c =
     let w = c .before .before .before .before .before in
     let l = w .before .before .before .loop in
-    let a = w .before .before .before .before .before .before .before .args in
-    l .inv
-    ∙ rest-on (a .limits) (a .start) (a .interfaces) (a .body .now) (l .at) (l .head) (l .progress) (l .last) (l .found) _ (w .before .advance .ensures) (w .before .before .loop-test .taken) (w .if1 .left)
-    (c .before .before .before .descriptor-fault .ensures) (c .before .before .move-on .ensures) (c .before .head-of .ensures)
+    let a = w .before .before .before .before .before .before .args in
+    let s = w .before .advance in
+    let last = c .before .before .before .stand-in .ensures in
+    rw (← s .ensures .apart)
+    (l .inv
+    ∙ rest-on (a .limits) (a .start) (a .interfaces) (a .body .now) (l .at) (l .head) (progressIn (l .progress)) (standIn (l .last)) (l .found) _ (s .ensures .steps) (w .before .before .loop-test .taken) (w .if1 .left)
+    (rw last at (c .before .before .descriptor-fault .ensures)) (rw last at (c .before .move-on .ensures)) (c .head-of .ensures))
+
+stand-in-requires-2 : tie.Need-stand-in-requires-2 Inv-loop μ-loop
+stand-in-requires-2 c κs = search needs
 
 end-fault-requires : tie.Need-end-fault-requires Inv-loop μ-loop
 end-fault-requires c κs = search needs
 
 returns-2 : tie.Need-returns-2 Inv-loop μ-loop
 returns-2 c =
-    let l = c .before .before .loop in
+    let l = c .before .before .before .loop in
     let a = c .before .before .before .before .before .before .args in
-    c .end-fault .ensures
-    ∙ sym (l .inv ∙ rest-end (a .limits) (a .start) (a .interfaces) (a .body .now) (l .at) (l .head) (l .progress) (l .last) (l .found) (c .before .loop-test .left))
+    (rw (c .before .stand-in2 .ensures) at (c .end-fault .ensures))
+    ∙ sym (l .inv ∙ rest-end (a .limits) (a .start) (a .interfaces) (a .body .now) (l .at) (l .head) (progressIn (l .progress)) (standIn (l .last)) (l .found) (c .before .before .loop-test .left))
 
 pub rest-fault-spec : {M : Type 1} → statement M
 rest-fault-spec =
@@ -99,7 +105,6 @@ rest-fault-spec =
     Inv-loop
     μ-loop
     start-requires
-    outside-requires
     loop-holds
     cast-place
     advance-requires
@@ -109,10 +114,12 @@ rest-fault-spec =
     sub-d
     part-d-start
     part-d-end
+    stand-in-requires
     descriptor-fault-requires
     move-on-requires
     head-of-requires
     loop-less
     loop-again
+    stand-in-requires-2
     end-fault-requires
     returns-2)

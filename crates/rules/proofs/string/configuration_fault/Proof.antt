@@ -4,13 +4,14 @@ use native.Mathlib.Omega.{arith}
 use mathlib.Core.Path.{_≡_, refl, sym, ap, _∙_}
 use lib.ListN.{length, drop}
 use Rattle.descriptors.specs.Cut.{cut}
+use Rattle.descriptors.specs.Walk.{standIn, paceOf}
 use Rattle.octets.specs.Octets.{part}
 use Rattle.descriptors.specs.Descriptor.{iInterface}
 use Rattle.descriptors.specs.Configuration.{iConfiguration}
 use Rattle.sets.specs.Contents.{bodyOf}
 use Rattle.sets.proofs.Bodies.{bytes-part}
 use Rattle.rules.specs.declared.Fault.{Fault}
-use Rattle.descriptors.proofs.Walk.{spanned}
+use Rattle.descriptors.proofs.Walks.{spanned}
 use Rattle.rules.specs.Strings.{interfacesFrom, referenceFindings, bodyReferences}
 use Rattle.rules.specs.After.{after}
 use Rattle.rules.proofs.Entries.{judged-same, short}
@@ -28,29 +29,29 @@ abbrev μ-loop : tie.MeasureT-loop
 μ-loop set e there serial table body reference found₀ last₀ at₀ found last at = length body - at
 
 -- the descriptor at hand ends inside the body
-inside : (c : tie.Else1 Inv-loop μ-loop) → c .before .advance .result .end ≤ length (c .before .before .before .before .before .before .before .body-of .result .now)
-inside c = goes-on (c .before .before .before .before .before .before .before .body-of .result .now) (c .before .before .before .loop .at) (c .before .before .before .loop .last) (c .before .advance .result) (c .before .advance .ensures) (c .before .before .loop-test .taken) (c .if1 .left) .inside
+inside : (c : tie.Else1 Inv-loop μ-loop) → c .before .advance .result .end ≤ length (c .before .before .before .before .before .before .body-of .result .now)
+inside c = goes-on (c .before .before .before .before .before .before .body-of .result .now) (c .before .before .before .loop .at) (standIn (c .before .before .before .loop .last)) (paceOf (c .before .advance .result)) (c .before .advance .ensures .steps) (c .before .before .loop-test .taken) (c .if1 .left) .inside
 
 -- a descriptor's string index is a byte of the set
-octet : (c : tie.At-loop Inv-loop μ-loop) (at size : ℕ) → iInterface (part (c .before .before .before .before .body-of .result .now) at size) < 256
+octet : (c : tie.At-loop Inv-loop μ-loop) (at size : ℕ) → iInterface (part (c .before .before .before .body-of .result .now) at size) < 256
 octet c at size =
-    let a = c .before .before .before .before .before .before .args in
-    rw (c .before .before .before .before .body-of .ensures)
-    (bytes-part (bodyOf (a .set .now) (a .e)) at size (bytes-part (a .set .now) (a .e .offset) (a .e .length) (λ k. c .before .before .before .before .before .shared-slice-known .given k .fits)) 8)
+    let a = c .before .before .before .before .before .args in
+    rw (c .before .before .before .body-of .ensures)
+    (bytes-part (bodyOf (a .set .now) (a .e)) at size (bytes-part (a .set .now) (a .e .offset) (a .e .length) (λ k. c .before .before .before .before .shared-slice-known .given k .fits)) 8)
 
 -- the configuration's own reference, and then those of its interfaces
-refs : (c : tie.After-outside Inv-loop μ-loop) {h : Fault}
-    → let a = c .before .before .before .before .before .args in
-    after (c .before .reference-fault .result) (interfacesFrom (a .set .now) (a .e .offset) 0 (cut (c .before .before .before .body-of .result .now))) ≡ h
+refs : (c : tie.After-reference-fault Inv-loop μ-loop) {h : Fault}
+    → let a = c .before .before .before .before .args in
+    after (c .reference-fault .result) (interfacesFrom (a .set .now) (a .e .offset) 0 (cut (c .before .before .body-of .result .now))) ≡ h
     → h ≡ after (a .found) (bodyReferences (a .set .now) (a .e .offset) (bodyOf (a .set .now) (a .e)))
 refs c p =
-    let a = c .before .before .before .before .before .args in
+    let a = c .before .before .before .before .args in
     let set = a .set .now in
     let body = bodyOf set (a .e) in
-    let small : iConfiguration body < 256 = rw (← c .before .before .before .body-of .ensures, ← c .before .before .peek .ensures) (search needs) in
+    let small : iConfiguration body < 256 = rw (← c .before .before .body-of .ensures, ← c .before .peek .ensures) (search needs) in
     joins _ (referenceFindings set (a .e .offset) 0 6 (iConfiguration body)) _
-    (rw (c .before .before .peek .ensures, c .before .before .before .body-of .ensures, judged-same (c .before .before .before .before .before .pre .0) (a .e .offset) 0 6 (iConfiguration body) small) at (c .before .reference-fault .ensures))
-    (sym (rw (c .before .before .before .body-of .ensures) at p))
+    (rw (c .before .peek .ensures, c .before .before .body-of .ensures, judged-same (c .before .before .before .before .pre .0) (a .e .offset) 0 6 (iConfiguration body) small) at (c .reference-fault .ensures))
+    (sym (rw (c .before .before .body-of .ensures) at p))
 
 body-of-requires : tie.Need-body-of-requires Inv-loop μ-loop
 body-of-requires c κs = search needs
@@ -61,14 +62,11 @@ peek-requires c κs = search needs
 reference-fault-requires : tie.Need-reference-fault-requires Inv-loop μ-loop
 reference-fault-requires c κs = search needs
 
-outside-requires : tie.Need-outside-requires Inv-loop μ-loop
-outside-requires c κs = search needs
-
 loop-holds : tie.Need-loop-holds Inv-loop μ-loop
 loop-holds c = refl
 
 cast-place : tie.Need-cast-place Inv-loop μ-loop
-cast-place c = let s = rw (← c .before .before .before .before .before .body-of .ensures) at (short (c .before .before .before .before .before .before .before .args .set .now) (c .before .before .before .before .before .before .before .args .e)) in omega (arith, c .loop-test .taken, s, c .before .before .before .before .before .before .before .pre .1)
+cast-place c = let s = rw (← c .before .before .before .before .body-of .ensures) at (short (c .before .before .before .before .before .before .args .set .now) (c .before .before .before .before .before .before .args .e)) in omega (arith, c .loop-test .taken, s, c .before .before .before .before .before .before .pre .1)
 
 advance-requires : tie.Need-advance-requires Inv-loop μ-loop
 advance-requires c κs = search needs
@@ -76,9 +74,9 @@ advance-requires c κs = search needs
 returns : tie.Need-returns Inv-loop μ-loop
 returns c =
     let l = c .before .before .before .loop in
-    let a = c .before .before .before .before .before .before .before .before .before .args in
+    let a = c .before .before .before .before .before .before .before .before .args in
     refs (c .before .before .before .before)
-    (l .inv ∙ interfaces-stuck (a .set .now) (a .e .offset) (c .before .before .before .before .before .before .before .body-of .result .now) (l .at) (l .found) (l .last) _ (c .before .advance .ensures) (c .before .before .loop-test .taken) (c .if1 .taken))
+    (l .inv ∙ interfaces-stuck (a .set .now) (a .e .offset) (c .before .before .before .before .before .before .body-of .result .now) (l .at) (l .found) (standIn (l .last)) _ (c .before .advance .ensures .steps) (c .before .before .loop-test .taken) (c .if1 .taken))
 
 sub-interface-fault : tie.Need-sub-interface-fault Inv-loop μ-loop
 sub-interface-fault c = search needs
@@ -93,24 +91,24 @@ interface-fault-requires : tie.Need-interface-fault-requires Inv-loop μ-loop
 interface-fault-requires c κs = search needs
 
 loop-less : tie.Need-loop-less Inv-loop μ-loop
-loop-less c = let w = c .before .before .before in let i = inside w in omega (arith, i, w .if1 .left, w .before .before .loop-test .taken)
+loop-less c = let w = c .before .before in let i = inside w in omega (arith, i, w .if1 .left, w .before .before .loop-test .taken)
 
 loop-again : tie.Need-loop-again Inv-loop μ-loop
 loop-again c =
-    let w = c .before .before .before in
+    let w = c .before .before in
     let l = w .before .before .before .loop in
-    let a = w .before .before .before .before .before .before .before .before .before .args in
-    let body = w .before .before .before .before .before .before .before .body-of .result .now in
+    let a = w .before .before .before .before .before .before .before .before .args in
+    let body = w .before .before .before .before .before .before .body-of .result .now in
     let d = spanned body (l .at) (w .before .advance .result .end) in
     l .inv
-    ∙ interfaces-on (a .set .now) (a .e .offset) body (l .at) (l .found) (l .last) _ (w .before .advance .ensures) (w .before .before .loop-test .taken) (w .if1 .left)
-    (rw (judged-same (w .before .before .before .before .before .before .before .before .before .pre .0) (a .e .offset) (l .at) 8 (iInterface d) (octet (w .before .before .before) (l .at) (w .before .advance .result .end - l .at))) at (c .before .interface-fault .ensures))
+    ∙ interfaces-on (a .set .now) (a .e .offset) body (l .at) (l .found) (standIn (l .last)) _ (w .before .advance .ensures .steps) (w .before .before .loop-test .taken) (w .if1 .left)
+    (rw (judged-same (w .before .before .before .before .before .before .before .before .pre .0) (a .e .offset) (l .at) 8 (iInterface d) (octet (w .before .before .before) (l .at) (w .before .advance .result .end - l .at))) at (c .interface-fault .ensures))
 
 returns-2 : tie.Need-returns-2 Inv-loop μ-loop
 returns-2 c =
     let l = c .before .loop in
-    let a = c .before .before .before .before .before .before .before .args in
-    refs (c .before .before) (l .inv ∙ interfaces-end (a .set .now) (a .e .offset) (c .before .before .before .before .before .body-of .result .now) (l .at) (l .found) (c .loop-test .left))
+    let a = c .before .before .before .before .before .before .args in
+    refs (c .before .before) (l .inv ∙ interfaces-end (a .set .now) (a .e .offset) (c .before .before .before .before .body-of .result .now) (l .at) (l .found) (c .loop-test .left))
 
 pub configuration-fault-spec : {M : Type 1} → statement M
 configuration-fault-spec =
@@ -121,7 +119,6 @@ configuration-fault-spec =
     body-of-requires
     peek-requires
     reference-fault-requires
-    outside-requires
     loop-holds
     cast-place
     advance-requires

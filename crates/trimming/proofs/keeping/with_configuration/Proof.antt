@@ -2,15 +2,15 @@
 use Prim.Native.Nat.{ℕ, _-_, _<_}
 use native.Mathlib.Omega.{arith}
 use mathlib.Core.Bool.{_||_}
-use mathlib.Core.Path.{_≡_, refl, sym, _∙_}
+use mathlib.Core.Path.{_≡_, refl, sym, ap, _∙_}
 use lib.ListN.{length}
 use Rattle.octets.specs.Octets.{byte}
 use Rattle.octets.specs.Sentences.{member}
 use Rattle.octets.specs.Table.{has, with}
 use Rattle.octets.proofs.Tables.{with-long}
-use Rattle.descriptors.specs.Walk.{before, collected}
+use Rattle.descriptors.specs.Walk.{before, standIn, paceOf, collected}
 use Rattle.descriptors.specs.Check.{referring}
-use Rattle.descriptors.proofs.Walk.{spanned}
+use Rattle.descriptors.proofs.Walks.{spanned}
 use Rattle.descriptors.proofs.Ahead.{Place, Turn, at-first, steps, turn}
 use Rattle.sets.proofs.Bodies.{bytes-part}
 use Rattle.trimming.proofs.Naming.{first-in, walked-in, long-pick, none-in}
@@ -19,14 +19,11 @@ use Rattle.trimming.proofs.keeping.with_configuration.Statement.{statem
 use Rattle.trimming.proofs.keeping.with_configuration.Tie as tie
 
 abbrev Inv-loop : tie.InvT-loop
-Inv-loop body stand₀ table₀ at₀ stand table at =
-    Place body at × (length table ≡ 8) × ((j : ℕ) → j < 256 → (has table₀ j || member j (collected referring body stand₀ at₀)) ≡ (has table j || member j (collected referring body stand at)))
+Inv-loop body last₀ table₀ at₀ last table at =
+    Place body at × (length table ≡ 8) × ((j : ℕ) → j < 256 → (has table₀ j || member j (collected referring body before at₀)) ≡ (has table j || member j (collected referring body (standIn last) at)))
 
 abbrev μ-loop : tie.MeasureT-loop
-μ-loop body stand₀ table₀ at₀ stand table at = length body - at
-
-outside-requires : tie.Need-outside-requires Inv-loop μ-loop
-outside-requires c κs = search needs
+μ-loop body last₀ table₀ at₀ last table at = length body - at
 
 peek-requires : tie.Need-peek-requires Inv-loop μ-loop
 peek-requires c κs = search needs
@@ -42,53 +39,54 @@ cast-at c = search needs
 
 loop-holds : tie.Need-loop-holds Inv-loop μ-loop
 loop-holds c =
-    let e = c .before .before .before .before .before .before in
+    let e = c .before .before .before .before .before in
     (at-first (e .args .body .now) _ (e .pre) (c .peek2 .ensures) .place, rw (c .before .join .ensures) (with-long (e .args .names) _ (search needs)), λ j h. refl)
 
 step-over-requires : tie.Need-step-over-requires Inv-loop μ-loop
 step-over-requires c κs = steps _ _ (c .before .loop .inv .0) (c .loop-test .taken)
 
 -- one descriptor on
-turned : (c : tie.After-step-over Inv-loop μ-loop) → Turn (c .before .before .before .before .before .before .before .before .before .args .body .now) (c .before .before .loop .at) (c .before .before .loop .stand) (c .step-over .result)
-turned c = turn _ _ _ (c .before .before .loop .inv .0) (c .before .loop-test .taken) _ (c .step-over .ensures)
+turned : (c : tie.After-step-over Inv-loop μ-loop) → Turn (c .before .before .before .before .before .before .before .before .args .body .now) (c .before .before .loop .at) (standIn (c .before .before .loop .last)) (paceOf (c .step-over .result))
+turned c = turn _ _ _ (c .before .before .loop .inv .0) (c .before .loop-test .taken) _ (c .step-over .ensures .steps)
 
 sub-with-interface : tie.Need-sub-with-interface Inv-loop μ-loop
-sub-with-interface c = let t = turned (c .before) in omega arith
+sub-with-interface c = let t = turned c in omega (arith, t .on)
 
 part-with-interface-start : tie.Need-part-with-interface-start Inv-loop μ-loop
-part-with-interface-start c = let t = turned (c .before) in omega arith
+part-with-interface-start c = let t = turned c in omega (arith, t .on)
 
 part-with-interface-end : tie.Need-part-with-interface-end Inv-loop μ-loop
-part-with-interface-end c = let t = turned (c .before) in omega (arith, t .place .inside)
+part-with-interface-end c = turned c .place .inside
 
 with-interface-requires : tie.Need-with-interface-requires Inv-loop μ-loop
 with-interface-requires c κs = search needs
 
 loop-less : tie.Need-loop-less Inv-loop μ-loop
-loop-less c = let t = turned (c .before .before .before) in omega (arith, t .place .inside)
+loop-less c = let t = turned (c .before .before) in omega (arith, t .on, t .place .inside)
 
 loop-again : tie.Need-loop-again Inv-loop μ-loop
 loop-again c =
-    let w = c .before .before .before in
+    let w = c .before .before in
     let t = turned w in
     let l = w .before .before .loop in
-    let body = w .before .before .before .before .before .before .before .before .before .args .body .now in
+    let body = w .before .before .before .before .before .before .before .before .args .body .now in
     let s = w .step-over in
-    let small = bytes-part body (l .at) (s .result .end - l .at) (λ k. w .before .before .before .before .before .before .before .before .shared-slice-known .given k .fits) 8 in (
+    let small = bytes-part body (l .at) (s .result .end - l .at) (λ k. w .before .before .before .before .before .before .before .shared-slice-known .given k .fits) 8 in (
       t .place,
       long-pick (spanned body (l .at) (s .result .end)) (l .table) (c .with-interface .ensures) (l .inv .1),
-      λ j h. l .inv .2 j h ∙ walked-in (l .table) body (l .stand) (l .at) j (s .ensures) (w .before .loop-test .taken) (t .on) (c .with-interface .ensures) small (l .inv .1),
+      λ j h. l .inv .2 j h ∙ walked-in (l .table) body (standIn (l .last)) (l .at) j (s .ensures .steps) (w .before .loop-test .taken) (t .on) (c .with-interface .ensures) small (l .inv .1)
+          ∙ ap (λ stand. has (c .with-interface .result) j || member j (collected referring body stand (s .result .end))) (s .ensures .apart),
     )
 
 returns : tie.Need-returns Inv-loop μ-loop
 returns c =
-    let e = c .before .before .before .before .before .before .before .before in
+    let e = c .before .before .before .before .before .before .before in
     let body = e .args .body .now in
     let l = c .before .loop in
     let b = at-first body _ (e .pre) (c .before .before .peek2 .ensures) in
     let p = c .before .before .before .before .peek in
-    λ j h. sym (none-in (l .table) body (l .stand) (l .at) j (c .loop-test .left)) ∙ sym (l .inv .2 j h)
-    ∙ rw (c .before .before .before .join .ensures, p .ensures, c .before .before .before .before .before .before .outside .ensures) (sym (first-in body (e .args .names) _ j b (rw (← p .ensures) (search needs)) (search needs)))
+    λ j h. sym (none-in (l .table) body (standIn (l .last)) (l .at) j (c .loop-test .left)) ∙ sym (l .inv .2 j h)
+    ∙ rw (c .before .before .before .join .ensures, p .ensures) (sym (first-in body (e .args .names) _ j b (rw (← p .ensures) (search needs)) (search needs)))
 
 pub with-configuration-spec : {M : Type 1} → statement M
 with-configuration-spec =
@@ -96,7 +94,6 @@ with-configuration-spec =
     (tie.spec
     Inv-loop
     μ-loop
-    outside-requires
     peek-requires
     join-requires
     peek-requires-2

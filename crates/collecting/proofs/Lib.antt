@@ -1,4 +1,0 @@
-pub mod Rules
-pub mod Finding
-pub mod Reaching
-pub mod Whole

@@ -1,0 +1,56 @@
+-- `descriptors::walk::step_over` meets its contract: the descriptor is whole, so it ends inside the body. No axiom.
+use native.Mathlib.Nat.{add-sub-cancel-left}
+use native.Mathlib.Omega.{arith}
+use mathlib.Core.Path.{_∙_}
+use borrow.Author.Needs.{needs}
+use Rattle.descriptors.proofs.Walks.{steps-whole}
+use Rattle.descriptors.proofs.walk.step_over.Statement.{statement}
+use Rattle.descriptors.proofs.walk.step_over.Tie as tie
+
+peek-requires : tie.Need-peek-requires
+peek-requires c κs = search needs
+
+cast-end : tie.Need-cast-end
+cast-end c = search needs
+
+add-end : tie.Need-add-end
+add-end c = let w = steps-whole (c .before .before .args .body .now) (c .before .before .args .at) (c .before .before .pre) in omega (arith, w .ends, c .peek .ensures)
+
+sub-setting-after : tie.Need-sub-setting-after
+sub-setting-after c = search needs
+
+part-setting-after-start : tie.Need-part-setting-after-start
+part-setting-after-start c = search needs
+
+part-setting-after-end : tie.Need-part-setting-after-end
+part-setting-after-end c = let w = steps-whole (c .before .before .args .body .now) (c .before .before .args .at) (c .before .before .pre) in omega (arith, w .ends, c .peek .ensures)
+
+setting-after-requires : tie.Need-setting-after-requires
+setting-after-requires c κs = search needs
+
+stand-in-requires : tie.Need-stand-in-requires
+stand-in-requires c κs = search needs
+
+returns : tie.Need-returns
+returns c =
+    let a = c .before .setting-after .ensures in
+    let e = c .before .before .before .peek .ensures in
+    record {
+      steps = rw (c .before .before .before .before .before .pre, c .stand-in .ensures ∙ a .stands, e, add-sub-cancel-left);
+      apart = c .stand-in .ensures;
+      sets = rw (c .before .before .before .before .before .pre, a .sets, e, add-sub-cancel-left);
+    }
+
+pub step-over-spec : {M : Type 1} → statement M
+step-over-spec =
+    tie.close
+    (tie.spec
+    peek-requires
+    cast-end
+    add-end
+    sub-setting-after
+    part-setting-after-start
+    part-setting-after-end
+    setting-after-requires
+    stand-in-requires
+    returns)

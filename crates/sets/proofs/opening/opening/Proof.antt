@@ -1,0 +1,40 @@
+-- `sets::opening::opening` meets its contract: the groups before the configurations, these, and the groups after them. No axiom.
+use mathlib.Core.Path.{ap}
+use borrow.Author.Needs.{needs}
+use Rattle.descriptors.proofs.CheckReferences.{told}
+use Rattle.sets.proofs.Passing.{ordered}
+use Rattle.sets.proofs.opening.opening.Statement.{statement}
+use Rattle.sets.proofs.opening.opening.Tie as tie
+
+begin-requires : tie.Need-begin-requires
+begin-requires c κs = search needs
+
+returns : tie.Need-returns
+returns c = c .before .begin .ensures .1 (c .if1 .taken) (c .before .before .before .before .args .serial .now)
+
+read-strings-requires : tie.Need-read-strings-requires
+read-strings-requires c κs = let b = c .before .before .begin .ensures .0 (c .before .if1 .left) in ordered _ _ (b .frame) (b .contents)
+
+good-configurations-requires : tie.Need-good-configurations-requires
+good-configurations-requires c κs = search needs
+
+finish-requires : tie.Need-finish-requires
+finish-requires c κs =
+    let v = c .before .good-configurations in
+    let r = c .before .before .before .read-strings .ensures in
+    record { entries = r .entries; named = r .named; told = λ good. told (v .result) _ _ (v .ensures) good }
+
+returns-2 : tie.Need-returns-2
+returns-2 c =
+    c .finish .ensures (c .before .before .before .before .before .before .before .before .before .before .args .limits) (c .before .before .before .before .before .before .before .begin .ensures .0 (c .before .before .before .before .before .before .if1 .left)) (ap (λ v. v .good) (c .before .before .good-configurations .ensures))
+
+pub opening-spec : {M : Type 1} → statement M
+opening-spec =
+    tie.close
+    (tie.spec
+    begin-requires
+    returns
+    read-strings-requires
+    good-configurations-requires
+    finish-requires
+    returns-2)

@@ -1,0 +1,20 @@
+-- Limits that ask of a configuration what those of a speed ask. No axiom.
+use Prim.Native.Nat.{ℕ}
+use mathlib.Core.Path.{_≡_, refl, ap}
+use mathlib.Core.List.{List, [], _∷_}
+use mathlib.Core.Bool.{false, _&&_}
+use lib.ListN.{length}
+use Rattle.descriptors.specs.Limits.{fullSpeed, pairedFull}
+use Rattle.descriptors.specs.Cut.{cut, descriptorsOf, wellCut}
+use Rattle.descriptors.specs.Configuration.{goodDescriptors, goodConfiguration}
+use Rattle.single_walk.specs.Passes.{AtSpeed}
+
+-- the two rows differ in the types of entries alone
+descriptors-alike : (size : ℕ) (ds : List (List ℕ)) → goodDescriptors pairedFull size ds ≡ goodDescriptors fullSpeed size ds
+unfolding goodDescriptors
+descriptors-alike size [] = refl
+descriptors-alike size (d ∷ ds) = refl
+
+pub paired-at : AtSpeed pairedFull false
+unfolding goodConfiguration
+paired-at body = ap (λ b. wellCut (cut body) && b) (descriptors-alike (length body) (descriptorsOf (cut body)))

@@ -1,0 +1,20 @@
+-- `single_walk::collect::ones` meets its contract: a power of two less one. No axiom.
+use native.Mathlib.Omega.{arith}
+use lib.Pow.{pow-pos}
+use Rattle.octets.proofs.Bits.{shifted-one}
+use Rattle.single_walk.proofs.Rules.{lowest-bits}
+use borrow.Author.Needs.{needs}
+use Rattle.single_walk.proofs.collect.ones.Statement.{statement}
+use Rattle.single_walk.proofs.collect.ones.Tie as tie
+
+shl-result : tie.Need-shl-result
+shl-result c = search needs
+
+sub-result : tie.Need-sub-result
+sub-result c = rw (shifted-one (c .args .n) (omega arith)) (omega (arith, pow-pos (c .args .n)))
+
+returns : tie.Need-returns
+returns c = λ k. rw (shifted-one (c .args .n) (omega arith)) (lowest-bits (c .args .n) k)
+
+pub ones-spec : {M : Type 1} → statement M
+ones-spec = tie.close (tie.spec shl-result sub-result returns)

@@ -1,0 +1,40 @@
+-- `single_walk::pass::walk_once` meets its contract: the limits ask of a body what those of their speed ask. No axiom.
+use mathlib.Core.Path.{sym, ap, _∙_}
+use mathlib.Core.Bool.{false≢true}
+use borrow.Author.Needs.{needs}
+use Rattle.descriptors.specs.Check.{verdict, configurationRefers}
+use Rattle.single_walk.proofs.pass.walk_once.Statement.{statement}
+use Rattle.single_walk.proofs.pass.walk_once.Tie as tie
+
+collect-requires : tie.Need-collect-requires
+collect-requires c κs = c .before .before .pre .1
+
+returns : tie.Need-returns
+returns c =
+    let a = c .before .before .before .args in
+    record {
+      verdict = c .collect .ensures .verdict ∙ ap (λ good. verdict good (configurationRefers (a .names .now) (a .body .now))) (sym (c .before .before .before .pre .0 (a .body .now)));
+      surveyed = λ _. c .collect .ensures .surveyed;
+    }
+
+good-configuration-requires : tie.Need-good-configuration-requires
+good-configuration-requires c κs = search needs
+
+nothing-known-requires : tie.Need-nothing-known-requires
+nothing-known-requires c κs = search needs
+
+returns-2 : tie.Need-returns-2
+returns-2 c = record {
+  verdict = c .before .before .good-configuration .ensures;
+  surveyed = λ selected. absurd (false≢true (sym (c .before .before .before .if1 .left) ∙ selected));
+}
+
+pub walk-once-spec : {M : Type 1} → statement M
+walk-once-spec =
+    tie.close
+    (tie.spec
+    collect-requires
+    returns
+    good-configuration-requires
+    nothing-known-requires
+    returns-2)

@@ -1,0 +1,13 @@
+-- `single_walk::walk::at_other` meets its contract. No axiom.
+use borrow.Author.Needs.{needs}
+use Rattle.single_walk.proofs.walk.at_other.Statement.{statement}
+use Rattle.single_walk.proofs.walk.at_other.Tie as tie
+
+with-bit-requires : tie.Need-with-bit-requires
+with-bit-requires c κs = search needs
+
+returns : tie.Need-returns
+returns c = rw (c .with-bit .ensures)
+
+pub at-other-spec : {M : Type 1} → statement M
+at-other-spec = tie.close (tie.spec with-bit-requires returns)

@@ -1,0 +1,45 @@
+-- `single_walk::walk::may_list` meets its contract: each rule that fails. No axiom.
+use mathlib.Core.Path.{sym, _∙_}
+use Rattle.descriptors.proofs.SequenceRules.{by-kind}
+use borrow.Author.Needs.{needs}
+use Rattle.single_walk.specs.Course.{limitsAt}
+use Rattle.single_walk.proofs.walk.may_list.Statement.{statement}
+use Rattle.single_walk.proofs.walk.may_list.Tie as tie
+
+may-come-requires : tie.Need-may-come-requires
+may-come-requires c κs = search needs
+
+peek-requires : tie.Need-peek-requires
+peek-requires c κs = search needs
+
+word-requires : tie.Need-word-requires
+word-requires c κs = search needs
+
+peek-requires-2 : tie.Need-peek-requires-2
+peek-requires-2 c κs = search needs
+
+good-kind-requires : tie.Need-good-kind-requires
+good-kind-requires c κs = search needs
+
+returns : tie.Need-returns
+returns c =
+    let a = c .before .before .before .before .before .before .before .args in
+    let kind = rw (c .before .before .before .peek .ensures, c .before .before .word .ensures, c .before .peek2 .ensures) at (c .good-kind .ensures) in
+    kind ∙ sym (by-kind (limitsAt (a .high)) (a .order) (a .d .now) ∙ rw (sym (c .before .before .before .before .before .may-come .ensures) ∙ c .before .before .before .before .if1 .taken))
+
+returns-2 : tie.Need-returns-2
+returns-2 c =
+    let a = c .before .before .before .args in
+    sym (by-kind (limitsAt (a .high)) (a .order) (a .d .now) ∙ rw (sym (c .before .may-come .ensures) ∙ c .if1 .left))
+
+pub may-list-spec : {M : Type 1} → statement M
+may-list-spec =
+    tie.close
+    (tie.spec
+    may-come-requires
+    peek-requires
+    word-requires
+    peek-requires-2
+    good-kind-requires
+    returns
+    returns-2)

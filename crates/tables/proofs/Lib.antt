@@ -1,3 +1,0 @@
-pub mod Learning
-pub mod AtSpeed
-pub mod InUse
