@@ -4,6 +4,7 @@ pub mod endpoints;
 pub mod lookup;
 pub mod sequence;
 pub mod survey;
+pub mod types;
 
 ghost use mathlib.Core.Path.{_≡_};
 ghost use mathlib.Core.Bool.{true};

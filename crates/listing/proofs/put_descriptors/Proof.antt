@@ -19,15 +19,6 @@ Inv-loop out₀ at body stand₀ next₀ from₀ out stand next from = Place bod
 abbrev μ-loop : tie.MeasureT-loop
 μ-loop out₀ at body stand₀ next₀ from₀ out stand next from = length body - from
 
-outside-requires : tie.Need-outside-requires Inv-loop μ-loop
-outside-requires c κs = search needs
-
-peek-requires : tie.Need-peek-requires Inv-loop μ-loop
-peek-requires c κs = search needs
-
-cast-from : tie.Need-cast-from Inv-loop μ-loop
-cast-from c = search needs
-
 loop-holds : tie.Need-loop-holds Inv-loop μ-loop
 loop-holds c =
     let s = c .before .before .before .before in
@@ -84,9 +75,9 @@ put-descriptors-spec =
     (tie.spec
     Inv-loop
     μ-loop
-    outside-requires
-    peek-requires
-    cast-from
+    (λ c κs. search needs)
+    (λ c κs. search needs)
+    (λ c. search needs)
     loop-holds
     step-over-requires
     sub-put-descriptor
