@@ -1,10 +1,10 @@
 // A buffer on the bench: full of one byte before a call, and looked at whole after it.
-pub const BEFORE: u8 = 170;
+pub const FILLER: u8 = 170;
 
 fn is_untouched(bytes: &[u8]) -> bool {
     let mut i = 0;
     while i < bytes.len() {
-        if bytes[i] != BEFORE {
+        if bytes[i] != FILLER {
             return false;
         }
         i += 1;

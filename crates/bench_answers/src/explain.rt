@@ -1,39 +1,48 @@
 // Why the device answered something else.
 use crate::report::STALLED;
-use crate::words::say;
+use descriptors::types;
+use events::refusals::DOES_NOT_EXIST;
+use files::say;
+use requests::FROM_DEVICE;
+use requests::GET_DESCRIPTOR;
 ghost use Prim.Native.Nat.{_≤_};
+
+// Bits 6-5 of bmRequestType.
+const CLASS: u8 = 1;
+
+const VENDOR: u8 = 2;
 
 // Each rule is about the setup bytes, our number and the two answers.
 pub fn explain(setup: &[u8], number: u8, ours: &[u8], how: u8, recorded: &[u8]) {
-    let kind = octets::peek(setup, 0);
+    let request_type = octets::peek(setup, 0);
     let code = octets::peek(setup, 1);
     if how == STALLED {
         return say(b"the device stalls");
     }
-    if number == 10 {
-        return not_built(kind, code);
+    if number == requests::REQUEST_UNKNOWN {
+        return not_built(request_type, code);
     }
-    if number == 13 && kind == 0x80 && code == 6 {
+    if number == DOES_NOT_EXIST && request_type == FROM_DEVICE && code == GET_DESCRIPTOR {
         return no_descriptor(octets::peek(setup, 3));
     }
-    if number == 0 && kind == 0x80 && code == 0 {
+    if number == 0 && request_type == FROM_DEVICE && code == requests::GET_STATUS {
         return other_status(octets::peek(ours, 0), octets::peek(recorded, 0));
     }
-    if number == 0 && kind == 0x80 && code == 6 {
+    if number == 0 && request_type == FROM_DEVICE && code == GET_DESCRIPTOR {
         return other_bytes(octets::peek(setup, 3), ours, recorded);
     }
     say(b"unexplained");
 }
 
 // A request that is not in the table.
-fn not_built(kind: u8, code: u8) {
-    if kind / 32 % 4 == 1 {
+fn not_built(request_type: u8, code: u8) {
+    if request_type / 32 % 4 == CLASS {
         return say(b"a class request, and none is built");
     }
-    if kind / 32 % 4 == 2 {
+    if request_type / 32 % 4 == VENDOR {
         return say(b"a vendor request, and none is built");
     }
-    if kind == 0x81 && code == 6 {
+    if request_type == requests::FROM_INTERFACE && code == GET_DESCRIPTOR {
         return say(b"a class descriptor asked of an interface, which is not built");
     }
     say(b"unexplained");
@@ -41,7 +50,7 @@ fn not_built(kind: u8, code: u8) {
 
 // A descriptor that the set does not have.
 fn no_descriptor(asked: u8) {
-    if asked > 3 {
+    if asked > types::STRING {
         return say(b"a set has no descriptors of this type");
     }
     say(b"unexplained");
@@ -60,10 +69,10 @@ fn other_status(ours: u8, recorded: u8) {
 
 // Other bytes of a descriptor.
 fn other_bytes(asked: u8, ours: &[u8], recorded: &[u8]) {
-    if asked == 2 && differ_in_sizes(ours, recorded) {
+    if asked == types::CONFIGURATION && differ_in_sizes(ours, recorded) {
         return say(b"the set has packet sizes of full speed");
     }
-    if asked == 3 {
+    if asked == types::STRING {
         return say(b"the string was not recorded whole, so the set has another");
     }
     say(b"unexplained");
@@ -107,5 +116,5 @@ fn agree(ours: &[u8], recorded: &[u8], start: usize, k: usize) -> bool
     if k - start > 5 {
         return false;
     }
-    octets::peek(ours, start + 1) == 5
+    octets::peek(ours, start + 1) == types::ENDPOINT
 }

@@ -40,8 +40,8 @@ fn run(question: &[u8]) {
     if question.len() < end {
         return;
     }
-    words::say(&question[10..serial_at]);
-    let mut out = [buffer::BEFORE; 65536];
+    files::say(&question[10..serial_at]);
+    let mut out = [buffer::FILLER; 65536];
     work(
         octets::peek(question, 0),
         &question[serial_at..given_at],

@@ -1,10 +1,10 @@
 // The lines of the report.
 use crate::explain::explain;
-use crate::words::say;
 use crate::words::say_bytes;
-use crate::words::tell;
 use events::Answer;
 use events::reply;
+use files::say;
+use files::tell;
 
 // How a recorded transfer went: its data or status stage ended well, or it was stalled. The last is no recorded transfer: it brings the
 // record to where the recording begins.
@@ -12,7 +12,7 @@ pub const ENDED: u8 = 0;
 
 pub const STALLED: u8 = 1;
 
-pub const BEFORE: u8 = 2;
+pub const UNRECORDED: u8 = 2;
 
 // As many bytes as a device descriptor has.
 const SHOWN: usize = 18;
@@ -43,7 +43,7 @@ fn is_same(number: u8, ours: &[u8], how: u8, recorded: &[u8]) -> bool {
 }
 
 fn compared(setup: &[u8], number: u8, ours: &[u8], how: u8, recorded: &[u8]) {
-    if how == BEFORE {
+    if how == UNRECORDED {
         return say(b": before the recording\n");
     }
     if is_same(number, ours, how, recorded) {

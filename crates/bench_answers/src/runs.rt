@@ -1,12 +1,12 @@
 // Runs of events: every answer is told, and last the record. What happens is an image of 32 bytes and the events: of each its kind (0 setup,
 // 1 status end, 2 bus reset, 3 halt, 4 packet passed, 5 power, 6 suspend, 7 resume, 8 wake), the sizes of its words and of its bytes (1 each),
 // the words, which are written as they stand, and the bytes: a setup, an address or a source. tests/runs makes them.
-use crate::words::say;
 use crate::words::say_bytes;
-use crate::words::tell;
 use events::Answer;
 use events::Event;
 use events::reply;
+use files::say;
+use files::tell;
 use records::Device;
 ghost use Prim.Native.Nat.{_<_, _≤_};
 ghost use lib.ListN.{length};
@@ -64,33 +64,33 @@ fn print_answer(answer: Answer, asked: u16, size: u32) {
     say(b"\n");
 }
 
-fn event_of(kind: u8, bytes: &[u8]) -> Event {
-    if kind == 0 {
+fn event_of(event_number: u8, bytes: &[u8]) -> Event {
+    if event_number == 0 {
         return events::setup_event(bytes);
     }
-    if kind == 1 {
+    if event_number == 1 {
         return Event::StatusEnd;
     }
-    if kind == 2 {
+    if event_number == 2 {
         return Event::BusReset(0);
     }
-    if kind == 3 {
+    if event_number == 3 {
         return Event::Halt(octets::peek(bytes, 0));
     }
-    if kind == 4 {
+    if event_number == 4 {
         return Event::PacketPassed(octets::peek(bytes, 0));
     }
-    if kind == 5 {
+    if event_number == 5 {
         return Event::Power(octets::peek(bytes, 0));
     }
-    sleep_event(kind)
+    sleep_event(event_number)
 }
 
-fn sleep_event(kind: u8) -> Event {
-    if kind == 6 {
+fn sleep_event(event_number: u8) -> Event {
+    if event_number == 6 {
         return Event::Suspend;
     }
-    if kind == 7 {
+    if event_number == 7 {
         return Event::Resume;
     }
     Event::Wake

@@ -11,8 +11,7 @@ use Rattle.sets.specs.Opening.{Board}
 use Rattle.sets.specs.View.{View}
 use Rattle.records.specs.Image.{deviceOf}
 use Rattle.events.specs.declared.Answer.the-variants.{Refused}
-use Rattle.events.specs.Answer.{partOf}
-use Rattle.events.specs.Places.{InsideAt}
+use Rattle.events.specs.Answer.{partOf, InsideAt}
 use Rattle.steps.specs.Endpoint.{endpointOn}
 use Rattle.steps.specs.Gathering.{endpointIn, endpointOnIn}
 use Rattle.steps.proofs.EndpointParts.{endpoint-inside}

@@ -3,8 +3,7 @@ use Prim.Native.Nat.{ℕ, _+_}
 use mathlib.Core.Path.{_≡_, refl}
 use mathlib.Core.Bool.{Bool, true, false}
 use Rattle.octets.specs.Sentences.{pick}
-use Rattle.events.specs.Answer.{Block, ofFirst, ofSet, ofSerial, Part}
-use Rattle.events.specs.Places.{inBlock}
+use Rattle.events.specs.Answer.{Block, ofFirst, ofSet, ofSerial, Part, inBlock}
 use Rattle.board.specs.Exports.{Spot, spotOf}
 use Rattle.board.specs.Handing.{spotIn}
 

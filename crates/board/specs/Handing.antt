@@ -4,8 +4,7 @@ use mathlib.Core.Path.{_≡_}
 use mathlib.Core.List.{List}
 use lib.ListN.{length}
 use Rattle.events.specs.declared.Answer.{Answer}
-use Rattle.events.specs.Answer.{Part, numberOf, bytesOf, partOf}
-use Rattle.events.specs.Places.{inBlock, bytesIn}
+use Rattle.events.specs.Answer.{Part, numberOf, bytesOf, partOf, inBlock, bytesIn}
 use Rattle.board.specs.Exports.{Spot, padded}
 
 -- a part's place, given where the first set, the set in use and the serial block lie

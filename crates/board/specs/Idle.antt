@@ -20,7 +20,7 @@ use Rattle.records.specs.Fits.{fitsOn}
 use Rattle.events.specs.Answer.{numberOf}
 use Rattle.events.specs.declared.Event.the-variants.{StatusEnd}
 use Rattle.events.specs.Step.{step, event, setupEvent}
-use Rattle.packets.specs.Packets.{count, canCut, packet}
+use Rattle.packets.specs.Packets.{packetCount, canCut, packet}
 use Rattle.promises.specs.Examples.{bytes, computed, S}
 use Rattle.promises.specs.Inhabited.{octets, acceptedS, bytesS}
 use Rattle.promises.specs.Pairs.{pair, acceptedPair, bytesPair}
@@ -222,9 +222,9 @@ module _ (cutter : Cutter) (ok : CutsAll cutter) (at : Spot) where
 -- ---- the packet count: where a reply can be cut, the packets that get 0 are those below the rule's count and no others
 module _ (reply : List ℕ) (at : Spot) (asked size : ℕ) (number : ℕ → ℕ) (shown : ℕ → List ℕ) (spot : ℕ → Spot)
     (cuts : (k : ℕ) → k < 4294967296 → CutsPacket reply at asked size k (number k) (shown k) (spot k)) (can : canCut (length reply) asked size ≡ true) (small : asked < 65536) where
-  pub notMadeUp : (made : ℕ) → ((k : ℕ) → k < 4294967296 → (number k ≡ 0 → k < made) × (k < made → number k ≡ 0)) → made ≡ count (length reply) asked size
+  pub notMadeUp : (made : ℕ) → ((k : ℕ) → k < 4294967296 → (number k ≡ 0 → k < made) × (k < made → number k ≡ 0)) → made ≡ packetCount (length reply) asked size
   notMadeUp made counts =
-      let right = count (length reply) asked size in
+      let right = packetCount (length reply) asked size in
       let h : right < 4294967296 = few reply at asked size number shown spot cuts can small in
       let given = within reply at asked size number shown spot cuts can small in
       let past = beyond reply at asked size number shown spot cuts can small in

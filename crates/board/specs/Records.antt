@@ -13,8 +13,7 @@ use Rattle.records.specs.Fits.{fitsOn}
 use Rattle.records.specs.Device.{Sized}
 use Rattle.records.proofs.Image.{device-image}
 use Rattle.events.specs.declared.Event.{Event}
-use Rattle.events.specs.Answer.{numberOf, bytesOf, partOf}
-use Rattle.events.specs.Places.{bytesAt}
+use Rattle.events.specs.Answer.{numberOf, bytesOf, partOf, bytesAt}
 use Rattle.events.specs.Step.{step, Reply}
 use Rattle.promises.specs.Refusal.{leftBy, allows}
 use Rattle.promises.specs.Refusals.{stepNumber, stepKeeps, stepInside, refusalEmpty}

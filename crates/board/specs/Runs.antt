@@ -13,8 +13,7 @@ use Rattle.records.specs.Image.{bytesOfFour, deviceOf, imageOf}
 use Rattle.events.specs.declared.Answer.{Answer}
 use Rattle.events.specs.declared.Event.{Event}
 use Rattle.events.specs.declared.Event.the-variants.{StatusEnd, BusReset, Halt, PacketPassed, Power, Suspend, Resume, Wake}
-use Rattle.events.specs.Answer.{Part, numberOf, partOf}
-use Rattle.events.specs.Places.{InsideAt, bytesAt}
+use Rattle.events.specs.Answer.{Part, numberOf, partOf, InsideAt, bytesAt}
 use Rattle.events.specs.Step.{setupEvent, event, opened}
 use Rattle.order.specs.Run.{run, answers}
 use Rattle.promises.specs.Rearranged.{Values, valuesOf, imageAnswer, imageNext}

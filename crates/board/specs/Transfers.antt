@@ -22,18 +22,16 @@ use Rattle.records.specs.Image.{deviceOf}
 use Rattle.records.specs.Current.{setFor, viewAt}
 use Rattle.records.specs.Fits.{fitsOn}
 use Rattle.requests.specs.declared.Setup.{Setup}
-use Rattle.requests.specs.Setup.{setupOf}
-use Rattle.requests.specs.Table.{largestIndex, refusal}
+use Rattle.requests.specs.Table.{setupOf, largestIndex, refusal}
 use Rattle.events.specs.declared.Answer.{Answer}
 use Rattle.events.specs.declared.Answer.the-variants.{Done, OneByte, TwoBytes, SetPart, SerialPart, Refused}
 use Rattle.events.specs.declared.Event.{Event}
 use Rattle.events.specs.declared.Event.the-variants.{Request, Malformed}
 use Rattle.events.specs.declared.Outcome.{Outcome}
-use Rattle.events.specs.Answer.{numberOf, bytesOf, partOf}
-use Rattle.events.specs.Places.{inBlock, bytesAt}
+use Rattle.events.specs.Answer.{numberOf, bytesOf, partOf, inBlock, bytesAt}
 use Rattle.events.specs.Step.{asksTestMode, testModeInState, testModeFits, testModeRefusal, refusalFor, answerSetup, respond, step, Reply, event, setupEvent}
 use Rattle.laws.proofs.Outcomes.{chosen, ruled}
-use Rattle.packets.specs.Packets.{count, canCut, packetWhere, packet}
+use Rattle.packets.specs.Packets.{packetCount, canCut, packetWhere, packet}
 use Rattle.promises.specs.Packets.{joined, whole-reply}
 use Rattle.promises.specs.Replies.{sizeCuts, eventWithin, doneAccepted}
 use Rattle.board.specs.Exports.{Spot, Spots, padded, AnswersSetup, AnswersImage, CutsPacket}
@@ -44,7 +42,7 @@ pub packetNumber : {reply : List ℕ} {at : Spot} {asked size k n : ℕ} {shown 
     → (n ≡ 0) ⊎ ((n ≡ 15) × (shown ≡ []) × (spot ≡ at))
 unfolding packet
 packetNumber {reply} {at} {asked} {size} {k} c =
-    go (canCut (length reply) asked size && ltb k (count (length reply) asked size)) (c .number) (c .shows) (c .lies)
+    go (canCut (length reply) asked size && ltb k (packetCount (length reply) asked size)) (c .number) (c .shows) (c .lies)
   where
     go : (t : Bool) {n : ℕ} {shown : List ℕ} {spot : Spot} → (let q = packetWhere t (length reply) size k in
         n ≡ q .number → shown ≡ part reply (q .offset) (q .length) → spot ≡ record { block = at .block; offset = at .offset + q .offset }
@@ -64,7 +62,7 @@ size-small p h = go (either (eqb p 8 || eqb p 16 || eqb p 32) (eqb p 64) h)
     go (inl q) = first (either (eqb p 8 || eqb p 16) (eqb p 32) q)
     go (inr e) = omega (arith, eqb-true p 64 e)
 
-few-packets : (r w p : ℕ) → canCut r w p ≡ true → w < 65536 → count r w p < 4294967296
+few-packets : (r w p : ℕ) → canCut r w p ≡ true → w < 65536 → packetCount r w p < 4294967296
 few-packets r w p can h =
     let (size, long) = both (eqb p 8 || eqb p 16 || eqb p 32 || eqb p 64) (leb r w) can in
     let l = leb-true r w long in
@@ -74,7 +72,7 @@ few-packets r w p can h =
 module _ (reply : List ℕ) (at : Spot) (asked size : ℕ) (number : ℕ → ℕ) (shown : ℕ → List ℕ) (spot : ℕ → Spot)
     (cuts : (k : ℕ) → k < 4294967296 → CutsPacket reply at asked size k (number k) (shown k) (spot k)) (can : canCut (length reply) asked size ≡ true) (small : asked < 65536) where
   abbrev many : ℕ
-  many = count (length reply) asked size
+  many = packetCount (length reply) asked size
 
   pub few : many < 4294967296
   few = few-packets (length reply) asked size can small
@@ -220,7 +218,7 @@ pub transfer : {b : Board} {lie : Spots} {image setup : List ℕ} {left bytes : 
     → AnswersSetup b lie image setup 0 left bytes counted shown spot
     → (at : Spot) (number : ℕ → ℕ) (packets : ℕ → List ℕ) (place : ℕ → Spot)
     → ((k : ℕ) → k < 4294967296 → CutsPacket (reply bytes counted shown) at (setupOf setup .wLength) (packetSize b image) k (number k) (packets k) (place k))
-    → (let many = count (length (reply bytes counted shown)) (setupOf setup .wLength) (packetSize b image) in
+    → (let many = packetCount (length (reply bytes counted shown)) (setupOf setup .wLength) (packetSize b image) in
     (flatMap packets (upTo many) ≡ reply bytes counted shown) × ((k : ℕ) → k < many → number k ≡ 0) × ((k : ℕ) → k < 4294967296 → many ≤ k → number k ≡ 15))
 transfer {b} {image = image} {setup = setup} {bytes = bytes} {counted} {shown} r at number packets place cuts =
     let can = replyCuts r refl in

@@ -25,7 +25,7 @@ pub fn answer_on(
         }
         return Answer::Refused(7);
     }
-    steps::endpoint::endpoint(opening, paired, set, serial, records::load(image), number)
+    steps::current::endpoint(opening, paired, set, serial, records::load(image), number)
 }
 
 // Endpoint descriptor `number` of the current settings, from 0 on: a part of the set, and no copy.

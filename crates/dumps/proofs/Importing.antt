@@ -24,7 +24,7 @@ use Rattle.set_writer.proofs.Shuffled.{itself}
 use Rattle.set_writer.proofs.Ascending.{neighbours-ascend}
 use Rattle.set_writer.proofs.Precedes.{transitive}
 use Rattle.set_writer.proofs.Order.{sorted-is}
-use Rattle.dumps.specs.Dump.{splits, deviceIn, configurationsIn, zeroedDevice, zeroedConfiguration, devicePiece, configurationPiece, numbered, piecesFor, imported, tooLarge, importing}
+use Rattle.dumps.specs.Dump.{splits, deviceIn, configurationsIn, zeroedDevice, zeroedConfiguration, devicePiece, numbered, piecesFor, imported, tooLarge, importing}
 use Rattle.dumps.proofs.Streaming.{stream-size}
 use Rattle.dumps.specs.Import.{openingImported, Imports}
 

@@ -21,7 +21,7 @@ use Rattle.sets.specs.Opening.{opening, lent}
 use Rattle.sets.proofs.Entries.{only-later, only-empty, every-cons}
 use Rattle.sets.proofs.Groups.{groups, one-device}
 use Rattle.sets.proofs.Pieces.{bodies-of}
-use Rattle.dumps.specs.Dump.{flat, exported, exporting}
+use Rattle.dumps.specs.Dump.{flat, exported}
 use Rattle.dumps.specs.declared.export.Dumped.{Dumped}
 use Rattle.dumps.specs.Export.{share, shares, Exports}
 

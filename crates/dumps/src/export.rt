@@ -1,4 +1,5 @@
 // A dump of a set: its device descriptor and its configuration bodies.
+use descriptors::types;
 use sets::Entry;
 ghost use mathlib.Core.Path.{_≡_};
 ghost use Prim.Native.Nat.{_<_};
@@ -15,7 +16,7 @@ pub struct Dumped {
 fn share_of(e: Entry) -> usize
     ensures { λ r. ⌜ (r ≡ share e) × (r < 65536) ⌝ }
 {
-    if e.kind <= 2 {
+    if e.kind <= types::CONFIGURATION {
         return e.length as usize;
     }
     0
@@ -40,15 +41,18 @@ fn size_of(set: &[u8]) -> usize
 pub fn export(set: &[u8], serial: &[u8], out: &mut [u8]) -> Dumped
     ensures { λ r. ⌜ Exports (now (set .entry)) (now (serial .entry)) (now (out .entry)) (now (out .exit)) r ⌝ }
 {
-    let number = sets::opening::opening(set, serial, descriptors::limits::full_speed());
-    if number != 0 {
-        return Dumped { number, written: 0 };
+    let opening = sets::opening::opening(set, serial, descriptors::limits::full_speed());
+    if opening != 0 {
+        return Dumped {
+            number: opening,
+            written: 0,
+        };
     }
     let start = 4 + 8 * (octets::peek(set, 2) as usize);
     let size = size_of(set);
     if out.len() < size {
         return Dumped {
-            number: 22,
+            number: set_writer::BUFFER_TOO_SHORT,
             written: 0,
         };
     }

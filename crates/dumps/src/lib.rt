@@ -1,11 +1,12 @@
 // A dump: a device descriptor and configuration bodies end to end. Splitting it, and its bodies with their string references zeroed, as a stream of pieces.
+use descriptors::types;
 use descriptors::walk;
 use descriptors::walk::BEFORE_FIRST;
 ghost use mathlib.Core.Path.{_≡_};
 ghost use mathlib.Core.Bool.{true, _&&_};
 ghost use mathlib.Core.List.{map};
 ghost use Prim.Native.Nat.{_+_, _-_, _<_, _≤_};
-ghost use lib.ListN.{length, set, take, drop};
+ghost use lib.ListN.{length, set, drop};
 ghost use lib.Dec.{ltb};
 ghost use Rattle.octets.specs.Octets.{word};
 ghost use Rattle.octets.specs.Sentences.{pick};
@@ -16,6 +17,9 @@ ghost use Rattle.set_writer.specs.Stream.{streamOf};
 
 pub mod export;
 pub mod import;
+
+// The bytes of a device descriptor.
+const DEVICE_LENGTH: usize = 18;
 
 // What splitting finds: how many configuration bodies.
 pub enum Shape {
@@ -33,11 +37,11 @@ fn size_at(dump: &[u8], at: usize) -> usize
 pub fn split(dump: &[u8]) -> Shape
     ensures { λ r. ⌜ r ≡ splitOf (now (dump .entry)) ⌝ }
 {
-    if dump.len() <= 18 {
+    if dump.len() <= DEVICE_LENGTH {
         return Shape::Broken;
     }
     let mut n = 0;
-    let mut at = 18;
+    let mut at = DEVICE_LENGTH;
     while at < dump.len() {
         let size = size_at(dump, at);
         if size < 9 {
@@ -78,7 +82,9 @@ fn put_device(out: &mut [u8], from: usize, body: &[u8]) -> usize
 fn has_name(d: &[u8]) -> bool
     ensures { λ r. ⌜ r ≡ hasName (now (d .entry)) ⌝ }
 {
-    (octets::peek(d, 1) == 4) & (9 <= d.len()) & (octets::peek(d, 0) as usize == d.len())
+    (octets::peek(d, 1) == types::INTERFACE)
+        & (9 <= d.len())
+        & (octets::peek(d, 0) as usize == d.len())
 }
 
 // A configuration body, its references zeroed. Where it breaks off the walk is over: such a set is refused.
@@ -125,11 +131,11 @@ fn put_configurations(out: &mut [u8], at: usize, dump: &[u8]) -> usize
     ensures { λ r. ⌜ Wrote (now (out .entry)) at (streamOf (numbered 0 (map zeroedConfiguration (configurationsIn (now (dump .entry)))))) (now (out .exit)) r ⌝ }
 {
     let mut next = at;
-    let mut from = 18;
+    let mut from = DEVICE_LENGTH;
     let mut index: u8 = 0;
     while from < dump.len() {
         let size = size_at(dump, from);
-        let here = put_head(out, next, 2, index, size);
+        let here = put_head(out, next, types::CONFIGURATION, index, size);
         next = put_configuration(out, here, buffers::head(buffers::tail(dump, from), size));
         from += size;
         index += 1;
@@ -144,7 +150,7 @@ pub fn put_stream(out: &mut [u8], dump: &[u8]) -> usize
     requires { ⌜ Room (now out) 0 (streamOf (piecesFor (now dump))) ⌝ }
     ensures { λ r. ⌜ Wrote (now (out .entry)) 0 (streamOf (piecesFor (now (dump .entry)))) (now (out .exit)) r ⌝ }
 {
-    let from = put_head(out, 0, 1, 0, 18);
-    let at = put_device(out, from, buffers::head(dump, 18));
+    let from = put_head(out, 0, types::DEVICE, 0, DEVICE_LENGTH);
+    let at = put_device(out, from, buffers::head(dump, DEVICE_LENGTH));
     put_configurations(out, at, dump)
 }

@@ -32,7 +32,7 @@ use Rattle.records.specs.Current.{setAt, setFor, viewFor, viewAt, selected, end
 use Rattle.records.proofs.InUse.{rowFor, bytesFor}
 use Rattle.requests.specs.declared.Setup.{Setup}
 use Rattle.requests.specs.declared.Row.{Row}
-use Rattle.requests.specs.Table.{table, rowOf, inState, refusalAt, refusal}
+use Rattle.requests.specs.Table.{requestTable, rowOf, inState, refusalAt, refusal}
 use Rattle.events.specs.declared.Answer.{Answer}
 use Rattle.events.specs.declared.Answer.the-variants.{OneByte, TwoBytes, Refused}
 use Rattle.events.specs.declared.Event.{Event}
@@ -72,12 +72,12 @@ two p = just p refl
 answers : {b : Board} {d : Device} {e : Event} {bytes : List ℕ} → Reads b d e bytes → Answers b d e bytes
 answers x = just (x .steps) (x .sees)
 
-has-feature : rowOf (raw 0x00 0x03 0 0 0) ≡ some (getD table 4 (record { kind = 0; code = 0; value = 0; index = 0; string = 0; shortest = 0; longest = 0; lowest = 0; highest = 0 }))
+has-feature : rowOf (raw 0x00 0x03 0 0 0) ≡ some (getD requestTable 4 (record { bmRequestType = 0; bRequest = 0; value = 0; index = 0; string = 0; shortest = 0; longest = 0; lowest = 0; highest = 0 }))
 unfolding words.first
 has-feature = refl
 
 -- every row but SET_ADDRESS's and GET_DESCRIPTOR's is for Address or Configured
-late-rows : every (λ (y : Row). (eqb (y .code) 0x05 || eqb (y .code) 0x06) || leb 1 (y .lowest)) table ≡ true
+late-rows : every (λ (y : Row). (eqb (y .bRequest) 0x05 || eqb (y .bRequest) 0x06) || leb 1 (y .lowest)) requestTable ≡ true
 unfolding every
 late-rows = refl
 
@@ -436,9 +436,9 @@ module _ (b : Board) (octets : BytesOf b) (ok : accepted b ≡ true) (d : Device
 
   late-row : (s : Setup) (x : Row) → rowOf s ≡ some x → (eqb (s .bRequest) 0x05 || eqb (s .bRequest) 0x06) ≡ false → leb (x .lowest) 0 ≡ false
   late-row s x p n =
-      let (m, q) = first-some (λ (y : Row). eqb (y .kind) (s .bmRequestType) && eqb (y .code) (s .bRequest)) table p in
-      let code = eqb-true (x .code) (s .bRequest) (both (eqb (x .kind) (s .bmRequestType)) (eqb (x .code) (s .bRequest)) q .1) in
-      if-then-false (x .code) (x .lowest) (every-member (λ (y : Row). (eqb (y .code) 0x05 || eqb (y .code) 0x06) || leb 1 (y .lowest)) {xs = table} late-rows m) (rw code n)
+      let (m, q) = first-some (λ (y : Row). eqb (y .bmRequestType) (s .bmRequestType) && eqb (y .bRequest) (s .bRequest)) requestTable p in
+      let code = eqb-true (x .bRequest) (s .bRequest) (both (eqb (x .bmRequestType) (s .bmRequestType)) (eqb (x .bRequest) (s .bRequest)) q .1) in
+      if-then-false (x .bRequest) (x .lowest) (every-member (λ (y : Row). (eqb (y .bRequest) 0x05 || eqb (y .bRequest) 0x06) || leb 1 (y .lowest)) {xs = requestTable} late-rows m) (rw code n)
     where
       if-then-false : (c l : ℕ) → ((eqb c 0x05 || eqb c 0x06) || leb 1 l) ≡ true → (eqb c 0x05 || eqb c 0x06) ≡ false → leb l 0 ≡ false
       if-then-false c l p q = let w : leb 1 l ≡ true = rw q at p in lt-leb l 0 (omega (arith, leb-true 1 l w))

@@ -26,8 +26,7 @@ use Rattle.records.specs.Device.{inDefault, inAddress, inConfigured, nothing, a
 use Rattle.records.specs.Current.{setAt, viewFor, viewAt, selected, currentEndpoints, endpointAt}
 use Rattle.records.specs.Fits.{fitsOn}
 use Rattle.requests.specs.declared.Setup.{Setup}
-use Rattle.requests.specs.Setup.{recipient}
-use Rattle.requests.specs.Table.{table}
+use Rattle.requests.specs.Table.{recipient, requestTable}
 use Rattle.events.specs.declared.Answer.{Answer}
 use Rattle.events.specs.declared.Event.{Event}
 use Rattle.events.specs.declared.Event.the-variants.{Request, Malformed, StatusEnd, BusReset, Halt, PacketPassed, Power, Suspend, Resume, Wake}
@@ -79,7 +78,7 @@ no-setting j a t = false≢true t
 abbrev coded : ℕ → Bool
 coded c = eqb c 0x00 || eqb c 0x01 || eqb c 0x03 || eqb c 0x05 || eqb c 0x06 || eqb c 0x08 || eqb c 0x09 || eqb c 0x0A || eqb c 0x0B
 
-all-coded : every (λ r. coded (r .code)) table ≡ true
+all-coded : every (λ r. coded (r .bRequest)) requestTable ≡ true
 unfolding every
 all-coded = refl
 
@@ -281,7 +280,7 @@ module _ (b : Board) (h : Book) (d : Device) (sized : Sized d) (good : SoundConf
           (λ t. absurd (false≢true (sym e3 ∙ eq-eqb (s .bRequest) 0x03 (test-code (v .paired) s t .1))))
           (λ t.
           let (r, m, k, c, i, f) = let-through (d .state) s (rw t at p) in
-          rw (e0, e1, e3, e5, e6, e8, e9, eA) at (rw c at (every-member (λ r. coded (r .code)) {xs = table} all-coded m)))
+          rw (e0, e1, e3, e5, e6, e8, e9, eA) at (rw c at (every-member (λ r. coded (r .bRequest)) {xs = requestTable} all-coded m)))
 
 -- ---- every event
 -- a book agrees with a record, or a test mode was entered, in which nothing is heard any more

@@ -20,8 +20,7 @@ use Rattle.records.specs.Device.{nothing, inTestMode, settled}
 use Rattle.records.specs.Current.{viewAt, selected, endpointAt}
 use Rattle.records.specs.Fits.{fitsOn}
 use Rattle.requests.specs.declared.Setup.{Setup}
-use Rattle.requests.specs.Setup.{recipient}
-use Rattle.requests.specs.Table.{table, largestIndex}
+use Rattle.requests.specs.Table.{recipient, requestTable, largestIndex}
 use Rattle.events.specs.declared.Event.{Event}
 use Rattle.events.specs.declared.Event.the-variants.{Request, Malformed, StatusEnd, BusReset, Halt, PacketPassed, Power, Suspend, Resume, Wake}
 use Rattle.events.specs.declared.Outcome.{Outcome}
@@ -80,7 +79,7 @@ module _ (v : View) (d : Device) (s : Setup) (calm : inTestMode d ≡ false) (w 
   asked-for c z n = cases (asksTestMode (v .paired) s) (λ t. t) (λ t.
       let (r, m, k, x, i, f) = let-through (d .state) s (rw t at p) in
       let code : s .bRequest ≡ 3 = eqb-true (s .bRequest) 3 c in
-      let low = leb-true (r .kind) 2 (if-then (eqb (r .code) 3) (leb (r .kind) 2) (every-member (λ r. eqb (r .code) 3 ⇒ leb (r .kind) 2) {xs = table} refl m) (eq-eqb (r .code) 3 (x ∙ code))) in
+      let low = leb-true (r .bmRequestType) 2 (if-then (eqb (r .bRequest) 3) (leb (r .bmRequestType) 2) (every-member (λ r. eqb (r .bRequest) 3 ⇒ leb (r .bmRequestType) 2) {xs = requestTable} refl m) (eq-eqb (r .bRequest) 3 (x ∙ code))) in
       let zero : s .bmRequestType % 32 ≡ 0 = eqb-true (recipient s) 0 z in
       joined (joined n (eq-eqb (s .bmRequestType) 0 (omega (arith, k, low)))) c)
 
@@ -89,7 +88,7 @@ module _ (v : View) (d : Device) (s : Setup) (calm : inTestMode d ≡ false) (w 
   in-address c =
       let code : s .bRequest ≡ 5 = eqb-true (s .bRequest) 5 c in
       let (r, m, k, x, i, f) = let-through (d .state) s (table-judges (v .paired) d s code refl p) in
-      let low = leb-true (r .value) 127 (if-then (eqb (r .code) 5) (leb (r .value) 127) (every-member (λ r. eqb (r .code) 5 ⇒ leb (r .value) 127) {xs = table} refl m) (eq-eqb (r .code) 5 (x ∙ code))) in
+      let low = leb-true (r .value) 127 (if-then (eqb (r .bRequest) 5) (leb (r .value) 127) (every-member (λ r. eqb (r .bRequest) 5 ⇒ leb (r .value) 127) {xs = requestTable} refl m) (eq-eqb (r .bRequest) 5 (x ∙ code))) in
       let fits = leb-true (s .wValue) (r .value) (conjunct 0 (leb (s .wValue) (r .value) ∷ leb (s .wIndex) (largestIndex r (s .wValue)) ∷ leb (r .shortest) (s .wLength) ∷ leb (s .wLength) (r .longest) ∷ []) f) in
       omega arith
 

@@ -10,8 +10,7 @@ use Rattle.records.specs.Fits.{fitsOn}
 use Rattle.events.specs.declared.Answer.{Answer}
 use Rattle.events.specs.declared.Event.{Event}
 use Rattle.events.specs.declared.Event.the-variants.{Request, StatusEnd, BusReset}
-use Rattle.events.specs.Answer.{numberOf, bytesOf, partOf}
-use Rattle.events.specs.Places.{bytesAt}
+use Rattle.events.specs.Answer.{numberOf, bytesOf, partOf, bytesAt}
 use Rattle.events.specs.Step.{step}
 use Rattle.order.specs.Run.{log}
 use Rattle.promises.specs.Rearranged.{nextOf, after}

@@ -15,7 +15,7 @@ use Rattle.records.specs.declared.Device.{Device}
 use Rattle.records.specs.Device.{fresh, inTestMode}
 use Rattle.records.specs.Current.{viewFor, viewAt, currentEndpoints}
 use Rattle.requests.specs.declared.Setup.{Setup}
-use Rattle.requests.specs.Setup.{recipient}
+use Rattle.requests.specs.Table.{recipient}
 use Rattle.events.specs.declared.Event.{Event}
 use Rattle.events.specs.declared.Event.the-variants.{Request, Malformed, StatusEnd, BusReset, Halt, PacketPassed, Power, Suspend, Resume, Wake}
 use Rattle.events.specs.Step.{goodReset}

@@ -2,7 +2,7 @@
 use Prim.Native.Nat.{ℕ, _<_}
 use native.Mathlib.Omega.{arith}
 use mathlib.Core.Path.{_≡_, refl, ap, _∙_}
-use mathlib.Core.Bool.{Bool, true, false, _&&_, _||_}
+use mathlib.Core.Bool.{Bool, true, false, _&&_}
 use mathlib.Core.List.{[], _∷_}
 use mathlib.Core.Option.{Option, some, none}
 use lib.Dec.{eqb, leb}
@@ -15,10 +15,10 @@ use Rattle.requests.specs.declared.Row.{Row}
 use Rattle.events.specs.Requests.{namesTestMode}
 use Rattle.events.specs.Step.{asksTestMode, refusalFor}
 use Rattle.events.specs.Facts.{takesByte}
-use Rattle.requests.specs.Table.{table, rowOf, inState, largestIndex, fieldsFit, refusalAt, refusal}
+use Rattle.requests.specs.Table.{requestTable, rowOf, inState, largestIndex, fieldsFit, refusalAt, refusal}
 
 -- the rows of SET_ADDRESS and SET_CONFIGURATION ask for a wValue of one byte
-bytes : every (λ r. takesByte (r .code) ⇒ leb (r .value) 255) table ≡ true
+bytes : every (λ r. takesByte (r .bRequest) ⇒ leb (r .value) 255) requestTable ≡ true
 unfolding every
 bytes = refl
 
@@ -34,9 +34,9 @@ one-byte state s p q = go (rowOf s) refl p
     go : (o : Option Row) → rowOf s ≡ o → refusalAt o state s ≡ 0 → s .wValue < 256
     go none e p = absurd (omega arith)
     go (some r) e p =
-        let (m, t) = first-some (λ r. eqb (r .kind) (s .bmRequestType) && eqb (r .code) (s .bRequest)) table e in
-        let same = eqb-true (r .code) (s .bRequest) (both (eqb (r .kind) (s .bmRequestType)) (eqb (r .code) (s .bRequest)) t .1) in
-        let asked = if-then (takesByte (r .code)) (leb (r .value) 255) (every-member (λ r. takesByte (r .code) ⇒ leb (r .value) 255) bytes m) (ap takesByte same ∙ q) in
+        let (m, t) = first-some (λ r. eqb (r .bmRequestType) (s .bmRequestType) && eqb (r .bRequest) (s .bRequest)) requestTable e in
+        let same = eqb-true (r .bRequest) (s .bRequest) (both (eqb (r .bmRequestType) (s .bmRequestType)) (eqb (r .bRequest) (s .bRequest)) t .1) in
+        let asked = if-then (takesByte (r .bRequest)) (leb (r .value) 255) (every-member (λ r. takesByte (r .bRequest) ⇒ leb (r .value) 255) bytes m) (ap takesByte same ∙ q) in
         let fits = conjunct 0 (leb (s .wValue) (r .value) ∷ leb (s .wIndex) (largestIndex r (s .wValue)) ∷ leb (r .shortest) (s .wLength) ∷ leb (s .wLength) (r .longest) ∷ []) (fitting (inState r state) (fieldsFit r s) p) in
         omega (arith, leb-true (s .wValue) (r .value) fits, leb-true (r .value) 255 asked)
 

@@ -1,6 +1,10 @@
--- Document 01's number and values for every case of an answer.
-use Prim.Native.Nat.{ℕ}
+-- Document 01's number and values for every case of an answer, and where the part that it hands back lies.
+use Prim.Native.Nat.{ℕ, _+_, _≤_}
 use mathlib.Core.List.{List, [], _∷_}
+use lib.ListN.{length}
+use Rattle.octets.specs.Octets.{part}
+use Rattle.sets.specs.Opening.{Board}
+use Rattle.records.specs.Current.{setFor}
 use Rattle.records.specs.declared.Device.{Device}
 use Rattle.events.specs.declared.Answer.{Answer}
 use Rattle.events.specs.declared.Answer.the-variants.{Done, OneByte, TwoBytes, SetPart, SerialPart, Refused}
@@ -40,6 +44,26 @@ partOf (TwoBytes a b) = record { block = ofFirst; offset = 0; length = 0 }
 partOf (SetPart offset size) = record { block = ofSet; offset = offset; length = size }
 partOf (SerialPart size) = record { block = ofSerial; offset = 0; length = size }
 partOf (Refused n) = record { block = ofFirst; offset = 0; length = 0 }
+
+-- the first set's, that of the set in use, or the serial block's
+abbrev pub inBlock : {A : Type 0} → A → A → A → Block → A
+inBlock first used serial ofFirst = first
+inBlock first used serial ofSet = used
+inBlock first used serial ofSerial = serial
+
+-- a part lies inside its slice; and its bytes
+abbrev pub Inside : List ℕ → List ℕ → List ℕ → Part → Type 0
+Inside first used serial p = p .offset + p .length ≤ length (inBlock first used serial (p .block))
+
+abbrev pub bytesIn : List ℕ → List ℕ → List ℕ → Part → List ℕ
+bytesIn first used serial p = part (inBlock first used serial (p .block)) (p .offset) (p .length)
+
+-- the same on a board, where byte 7 of the record that the event found is `speed`
+abbrev pub InsideAt : Board → ℕ → Part → Type 0
+InsideAt b speed = Inside (b .set) (setFor b speed) (b .serial)
+
+abbrev pub bytesAt : Board → ℕ → Part → List ℕ
+bytesAt b speed = bytesIn (b .set) (setFor b speed) (b .serial)
 
 -- ---- outcomes
 abbrev pub gives : Answer → Device → Outcome

@@ -11,7 +11,7 @@ use Rattle.records.specs.declared.Device.{Device}
 use Rattle.records.specs.Device.{inConfigured}
 use Rattle.records.specs.Current.{viewAt, selected}
 use Rattle.requests.specs.declared.Setup.{Setup}
-use Rattle.requests.specs.Setup.{recipient}
+use Rattle.requests.specs.Table.{recipient}
 use Rattle.events.specs.declared.Event.{Event}
 use Rattle.events.specs.declared.Event.the-variants.{Request, Malformed, StatusEnd, BusReset, Halt, PacketPassed, Power, Suspend, Resume, Wake}
 

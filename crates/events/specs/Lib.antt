@@ -3,4 +3,3 @@ pub mod Requests
 pub mod Facts
 pub mod Step
 pub mod Concerns
-pub mod Places

@@ -1,7 +1,6 @@
 -- One definition for each standard request, on a device that fits and with nothing waiting (document 01, below "States").
 -- A request is given the view of the board, the record and the setup, past the table's refusals 10 to 12.
 use Prim.Native.Nat.{ℕ, _+_, _*_, _/_, _%_, min}
-use mathlib.Core.List.{List, []}
 use mathlib.Core.Bool.{Bool, true, false, _&&_, _||_}
 use mathlib.Core.Option.{Option, some, none}
 use lib.ListN.{getD, set}
@@ -9,14 +8,14 @@ use lib.Dec.{eqb, leb}
 use Rattle.octets.specs.Bit.{bit, setBit, clearBit}
 use Rattle.octets.specs.Sentences.{pick, only, first, member}
 use Rattle.descriptors.specs.declared.Endpoint.{Endpoint}
-use Rattle.descriptors.specs.Configuration.{Configuration, hasInterface, hasSetting, canHalt, bitOf, cleared, ofEither}
+use Rattle.descriptors.specs.Configuration.{hasInterface, hasSetting, canHalt, bitOf, cleared, ofEither}
 use Rattle.sets.specs.declared.Entry.{Entry}
 use Rattle.sets.specs.View.{View, entryByIndex, hasValue, wakes}
 use Rattle.records.specs.declared.Device.{Device}
 use Rattle.records.specs.Device.{inAddress, inConfigured, atHighSpeed, testWaiting, withWaiting, withWakeup, withConfiguration, withEndpoints}
 use Rattle.records.specs.Current.{selected, endpointAt}
 use Rattle.requests.specs.declared.Setup.{Setup}
-use Rattle.requests.specs.Setup.{recipient}
+use Rattle.requests.specs.Table.{recipient}
 use Rattle.events.specs.declared.Answer.the-variants.{OneByte, TwoBytes, SetPart, SerialPart}
 use Rattle.events.specs.declared.facts.Located.{Located}
 use Rattle.events.specs.declared.facts.Located.the-variants.{Body, Serial, Nowhere}

@@ -17,8 +17,7 @@ use Rattle.descriptors.specs.Configuration.{canHalt, bitOf}
 use Rattle.records.specs.Current.{viewAt, endpointAt}
 use Rattle.records.specs.Fits.{fitsOn}
 use Rattle.requests.specs.declared.Setup.{Setup}
-use Rattle.requests.specs.Setup.{setupOf}
-use Rattle.requests.specs.Table.{refusal}
+use Rattle.requests.specs.Table.{setupOf, refusal}
 use Rattle.events.specs.declared.Answer.{Answer}
 use Rattle.events.specs.declared.Answer.the-variants.{Refused}
 use Rattle.events.specs.declared.Event.{Event}

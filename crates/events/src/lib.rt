@@ -4,12 +4,15 @@ use requests::Setup;
 ghost use mathlib.Core.Path.{_≡_};
 ghost use Rattle.events.specs.Step.{setupEvent};
 
-pub mod endpoint;
 pub mod facts;
+pub mod halts;
 pub mod reaction;
+pub mod refusals;
 pub mod reply;
 pub mod respond;
 pub mod standard;
+
+const SETUP_LENGTH: usize = 8;
 
 // An event: a setup of eight bytes, a setup of any other length, or one of the eight others.
 pub enum Event {
@@ -46,7 +49,7 @@ pub struct Outcome {
 pub fn setup_event(bytes: &[u8]) -> Event
     ensures { λ r. ⌜ r ≡ setupEvent (now (bytes .entry)) ⌝ }
 {
-    if bytes.len() == 8 {
+    if bytes.len() == SETUP_LENGTH {
         return Event::Request(requests::setup_of(bytes));
     }
     Event::Malformed

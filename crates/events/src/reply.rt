@@ -4,8 +4,7 @@ ghost use mathlib.Core.Path.{_≡_};
 ghost use Prim.Native.Nat.{_+_};
 ghost use lib.ListN.{length};
 ghost use Rattle.octets.specs.Octets.{byte};
-ghost use Rattle.events.specs.Answer.{numberOf, bytesOf, partOf};
-ghost use Rattle.events.specs.Places.{inBlock, Inside, bytesIn};
+ghost use Rattle.events.specs.Answer.{numberOf, bytesOf, partOf, inBlock, Inside, bytesIn};
 
 // Document 01's number.
 pub fn number(answer: Answer) -> u8

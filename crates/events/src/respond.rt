@@ -1,11 +1,12 @@
 // From an event on a record that fits to its reaction.
 use crate::Event;
-use crate::endpoint;
 use crate::facts::Facts;
+use crate::halts;
 use crate::reaction::Reaction;
 use crate::reaction::done;
 use crate::reaction::refused;
 use crate::reaction::settling;
+use crate::refusals;
 use crate::standard;
 use records::Change;
 use records::Device;
@@ -29,14 +30,14 @@ fn request(facts: Facts, device: Device, setup: Setup) -> Reaction
 {
     let code = setup.bRequest;
     match code {
-        0x00 => standard::get_status(facts, device, setup),
-        0x01 => standard::clear_feature(facts, device, setup),
-        0x03 => standard::set_feature(facts, device, setup),
-        0x05 => standard::set_address(setup),
-        0x06 => standard::get_descriptor(facts, setup),
-        0x08 => standard::get_configuration(device),
-        0x09 => standard::set_configuration(facts, setup),
-        0x0a => standard::get_interface(facts, device, setup),
+        requests::GET_STATUS => standard::get_status(facts, device, setup),
+        requests::CLEAR_FEATURE => standard::clear_feature(facts, device, setup),
+        requests::SET_FEATURE => standard::set_feature(facts, device, setup),
+        requests::SET_ADDRESS => standard::set_address(setup),
+        requests::GET_DESCRIPTOR => standard::get_descriptor(facts, setup),
+        requests::GET_CONFIGURATION => standard::get_configuration(device),
+        requests::SET_CONFIGURATION => standard::set_configuration(facts, setup),
+        requests::GET_INTERFACE => standard::get_interface(facts, device, setup),
         _ => standard::set_interface(facts, device, setup),
     }
 }
@@ -45,20 +46,25 @@ fn request(facts: Facts, device: Device, setup: Setup) -> Reaction
 fn asks_test_mode(paired: bool, setup: Setup) -> bool
     ensures { λ r. ⌜ r ≡ asksTestMode paired setup ⌝ }
 {
-    (paired & (setup.wValue == 2)) & (setup.bmRequestType == 0) & (setup.bRequest == 3)
+    (paired & (setup.wValue == standard::TEST_MODE))
+        & (setup.bmRequestType == requests::TO_DEVICE)
+        & (setup.bRequest == requests::SET_FEATURE)
 }
 
 // The test mode passes at high speed in every state, else where other features do; its selector is wIndex's high byte, and the low one is 0.
 fn test_mode_refusal(device: Device, setup: Setup) -> u8
     ensures { λ r. ⌜ r ≡ testModeRefusal device setup ⌝ }
 {
-    if (device.speed == 1) | (device.state == 1) | (device.state == 2) {
+    if (device.speed == records::SPEED_HIGH)
+        | (device.state == records::ADDRESS)
+        | (device.state == records::CONFIGURED)
+    {
         if (setup.wIndex % 256 == 0) & (setup.wLength == 0) {
             return 0;
         }
-        return 12;
+        return requests::FIELD_WRONG;
     }
-    11
+    requests::NOT_IN_THIS_STATE
 }
 
 // What refuses a setup before its request is asked; 0 if nothing does. The table judges every setup but that of the test mode.
@@ -77,8 +83,8 @@ fn answer_setup(facts: Facts, device: Device, setup: Setup) -> Reaction
     requires { ⌜ device .power < 2 ⌝ }
     ensures { λ r. ⌜ ((v : View) → Tells v device setup facts → outcomeOf r device ≡ answerSetup v device setup) ⌝ }
 {
-    if 2 <= device.speed {
-        return settling(refused(17));
+    if records::IN_TEST_MODE <= device.speed {
+        return settling(refused(refusals::TEST_MODE_ENTERED));
     }
     let number = refusal_for(facts.paired, device, setup);
     if number == 0 {
@@ -92,11 +98,11 @@ fn status_end(device: Device) -> Reaction
     ensures { λ r. ⌜ outcomeOf r device ≡ statusEnd device ⌝ }
 {
     let waiting = device.waiting;
-    if waiting == 255 {
+    if waiting == records::NOTHING {
         return done(Change::Kept);
     }
     if records::test_waits(device) {
-        let speed = 1 + 16 * (waiting - 128);
+        let speed = records::SPEED_HIGH + records::TEST_ENTERED * (waiting - records::TEST_WAITING);
         return done(Change::TestMode(speed));
     }
     done(Change::Address {
@@ -109,8 +115,8 @@ fn status_end(device: Device) -> Reaction
 fn bus_reset(paired: bool, speed: u8, device: Device) -> Reaction
     ensures { λ r. ⌜ ((v : View) → paired ≡ v .paired → outcomeOf r device ≡ busReset v device speed) ⌝ }
 {
-    if (speed == 0) | (paired & (speed == 1)) {
-        if 2 <= device.speed {
+    if (speed == records::SPEED_FULL) | (paired & (speed == records::SPEED_HIGH)) {
+        if records::IN_TEST_MODE <= device.speed {
             return done(Change::Kept);
         }
         return done(Change::Fresh {
@@ -118,7 +124,7 @@ fn bus_reset(paired: bool, speed: u8, device: Device) -> Reaction
             speed,
         });
     }
-    refused(16)
+    refused(refusals::ENDPOINT_UNFIT)
 }
 
 // The power source has changed, or was found.
@@ -128,7 +134,7 @@ fn power(source: u8) -> Reaction
     if source <= 1 {
         return done(Change::Power(source));
     }
-    refused(16)
+    refused(refusals::ENDPOINT_UNFIT)
 }
 
 // The device is suspended from now on, or is not.
@@ -145,7 +151,7 @@ fn wake(device: Device) -> Reaction
     if (device.suspended == 1) & (device.wakeup == 1) {
         return done(Change::Kept);
     }
-    refused(19)
+    refused(refusals::WAKE_NOT_ALLOWED)
 }
 
 // Every event.
@@ -158,11 +164,11 @@ pub fn respond(facts: Facts, device: Device, event: Event) -> Reaction
     let endpoint = survey.endpoint;
     match event {
         Event::Request(setup) => answer_setup(facts, device, setup),
-        Event::Malformed => refused(9),
+        Event::Malformed => refused(refusals::SETUP_LENGTH_WRONG),
         Event::StatusEnd => status_end(device),
         Event::BusReset(speed) => bus_reset(facts.paired, speed, device),
-        Event::Halt(_) => endpoint::halt(endpoint, device),
-        Event::PacketPassed(_) => endpoint::packet_passed(endpoint, device),
+        Event::Halt(_) => halts::halt(endpoint, device),
+        Event::PacketPassed(_) => halts::packet_passed(endpoint, device),
         Event::Power(source) => power(source),
         Event::Suspend => suspended(true),
         Event::Resume => suspended(false),

@@ -1,13 +1,15 @@
 // The standard requests, past the table's refusals: each is a function of the facts, the record and the setup, and its contract says that for every
 // view of which the facts are true the outcome is the definition's.
 use crate::Answer;
-use crate::endpoint;
 use crate::facts::Facts;
 use crate::facts::Located;
+use crate::halts;
 use crate::reaction::Reaction;
 use crate::reaction::done;
 use crate::reaction::gives;
 use crate::reaction::refused;
+use crate::refusals::DOES_NOT_EXIST;
+use crate::refusals::NO_SUCH_FEATURE;
 use descriptors::lookup::EndpointFound;
 use records::Change;
 use records::Device;
@@ -19,6 +21,16 @@ ghost use Rattle.records.specs.declared.Device.{Device};
 ghost use Rattle.events.specs.Requests.{digit, getStatus, deviceFeature, setTestMode, endpointFeature, clearFeature, setFeature, setAddress, locate, getDescriptor, getConfiguration, setConfiguration, getInterface, setInterface};
 ghost use Rattle.events.specs.Facts.{Tells, withHalt, feature, outcomeOf};
 
+// The feature selectors of USB 2.0's table 9-6.
+const ENDPOINT_HALT: u16 = 0;
+
+const DEVICE_REMOTE_WAKEUP: u16 = 1;
+
+pub const TEST_MODE: u16 = 2;
+
+// The largest test selector.
+const LAST_TEST_MODE: u16 = records::LAST_TEST_MODE as u16;
+
 // GET_STATUS: of the device its power source and wakeup, of an interface 0, of an endpoint its halt.
 pub fn get_status(facts: Facts, device: Device, setup: Setup) -> Reaction
     requires { ⌜ device .wakeup < 2 ⌝ }
@@ -26,23 +38,23 @@ pub fn get_status(facts: Facts, device: Device, setup: Setup) -> Reaction
     ensures { λ r. ⌜ ((v : View) → Tells v device setup facts → outcomeOf r device ≡ getStatus v device setup) ⌝ }
 {
     let recipient = setup.bmRequestType % 32;
-    if recipient == 0 {
+    if recipient == requests::DEVICE {
         return gives(Answer::TwoBytes(device.power + 2 * device.wakeup, 0));
     }
-    if recipient == 1 {
+    if recipient == requests::INTERFACE {
         if facts.interface {
             return gives(Answer::TwoBytes(0, 0));
         }
-        return refused(13);
+        return refused(DOES_NOT_EXIST);
     }
-    if endpoint::is_zero(setup.wIndex) {
+    if halts::is_zero(setup.wIndex) {
         return gives(Answer::TwoBytes(0, 0));
     }
     let survey = facts.survey;
     let asked = survey.endpoint;
     match asked {
-        EndpointFound::Nothing => refused(13),
-        EndpointFound::At(e) => gives(Answer::TwoBytes(endpoint::is_halted(device, e) as u8, 0)),
+        EndpointFound::Nothing => refused(DOES_NOT_EXIST),
+        EndpointFound::At(e) => gives(Answer::TwoBytes(halts::is_halted(device, e) as u8, 0)),
     }
 }
 
@@ -50,10 +62,10 @@ pub fn get_status(facts: Facts, device: Device, setup: Setup) -> Reaction
 fn device_feature(on: bool, facts: Facts, setup: Setup) -> Reaction
     ensures { λ r. ⌜ ((v : View) (d : Device) → facts .waking ≡ wakes v → outcomeOf r d ≡ deviceFeature (digit on) v d setup) ⌝ }
 {
-    if (setup.wValue == 1) & facts.waking {
+    if (setup.wValue == DEVICE_REMOTE_WAKEUP) & facts.waking {
         return done(Change::Wakeup(on as u8));
     }
-    refused(14)
+    refused(NO_SUCH_FEATURE)
 }
 
 // The test mode that wIndex's high byte selects: it waits for the status end, at high speed alone.
@@ -61,29 +73,29 @@ fn set_test_mode(device: Device, setup: Setup) -> Reaction
     ensures { λ r. ⌜ outcomeOf r device ≡ setTestMode device setup ⌝ }
 {
     let selector = setup.wIndex / 256;
-    if (device.speed == 1) & (1 <= selector) & (selector <= 5) {
-        let waiting = 128 + selector as u8;
+    if (device.speed == records::SPEED_HIGH) & (1 <= selector) & (selector <= LAST_TEST_MODE) {
+        let waiting = records::TEST_WAITING + selector as u8;
         return done(Change::Waiting(waiting));
     }
-    refused(14)
+    refused(NO_SUCH_FEATURE)
 }
 
 // An endpoint's feature: its halt.
 fn endpoint_feature(on: bool, facts: Facts, device: Device, setup: Setup) -> Reaction
     ensures { λ r. ⌜ ((v : View) → Tells v device setup facts → outcomeOf r device ≡ endpointFeature (withHalt on) v device setup) ⌝ }
 {
-    if endpoint::is_zero(setup.wIndex) {
-        return refused(14);
+    if halts::is_zero(setup.wIndex) {
+        return refused(NO_SUCH_FEATURE);
     }
     let survey = facts.survey;
     let asked = survey.endpoint;
     match asked {
-        EndpointFound::Nothing => refused(13),
+        EndpointFound::Nothing => refused(DOES_NOT_EXIST),
         EndpointFound::At(e) => {
-            if (setup.wValue == 0) & endpoint::can_halt(e) {
-                return done(endpoint::with_halt(on, device, e));
+            if (setup.wValue == ENDPOINT_HALT) & halts::can_halt(e) {
+                return done(halts::with_halt(on, device, e));
             }
-            refused(14)
+            refused(NO_SUCH_FEATURE)
         }
     }
 }
@@ -93,17 +105,17 @@ fn feature(on: bool, facts: Facts, device: Device, setup: Setup) -> Reaction
     ensures { λ r. ⌜ ((v : View) → Tells v device setup facts → outcomeOf r device ≡ feature on v device setup) ⌝ }
 {
     let recipient = setup.bmRequestType % 32;
-    if recipient == 0 {
-        if on & (facts.paired & (setup.wValue == 2)) {
+    if recipient == requests::DEVICE {
+        if on & (facts.paired & (setup.wValue == TEST_MODE)) {
             return set_test_mode(device, setup);
         }
         return device_feature(on, facts, setup);
     }
-    if recipient == 1 {
+    if recipient == requests::INTERFACE {
         if facts.interface {
-            return refused(14);
+            return refused(NO_SUCH_FEATURE);
         }
-        return refused(13);
+        return refused(DOES_NOT_EXIST);
     }
     endpoint_feature(on, facts, device, setup)
 }
@@ -153,7 +165,7 @@ pub fn get_descriptor(facts: Facts, setup: Setup) -> Reaction
             let length = least(length, setup.wLength);
             gives(Answer::SerialPart { length })
         }
-        Located::Nowhere => refused(13),
+        Located::Nowhere => refused(DOES_NOT_EXIST),
     }
 }
 
@@ -171,12 +183,18 @@ pub fn set_configuration(facts: Facts, setup: Setup) -> Reaction
 {
     let value = setup.wValue as u8;
     if value == 0 {
-        return done(Change::Configuration { state: 1, value: 0 });
+        return done(Change::Configuration {
+            state: records::ADDRESS,
+            value: 0,
+        });
     }
     if facts.configuration {
-        return done(Change::Configuration { state: 2, value });
+        return done(Change::Configuration {
+            state: records::CONFIGURED,
+            value,
+        });
     }
-    refused(13)
+    refused(DOES_NOT_EXIST)
 }
 
 // GET_INTERFACE
@@ -188,7 +206,7 @@ pub fn get_interface(facts: Facts, device: Device, setup: Setup) -> Reaction
         let alternate = octets::peek(&alternates[..], setup.wIndex as usize);
         return gives(Answer::OneByte(alternate));
     }
-    refused(13)
+    refused(DOES_NOT_EXIST)
 }
 
 // SET_INTERFACE: halts and toggles of the endpoints of the old and the new setting are cleared. A setting that is there has small numbers.
@@ -200,9 +218,9 @@ pub fn set_interface(facts: Facts, device: Device, setup: Setup) -> Reaction
         return done(Change::Setting {
             interface: (setup.wIndex % 16) as u8,
             alternate: (setup.wValue % 16) as u8,
-            halts: endpoint::without(device.halts, survey.bits),
-            toggles: endpoint::without(device.toggles, survey.bits),
+            halts: halts::without(device.halts, survey.bits),
+            toggles: halts::without(device.toggles, survey.bits),
         });
     }
-    refused(13)
+    refused(DOES_NOT_EXIST)
 }

@@ -27,9 +27,9 @@ pub fn say(text: &[u8]) {
 }
 
 // A number between two texts.
-pub fn tell(before: &[u8], number: usize, behind: &[u8]) {
-    say(before);
-    io::print_decimal(STDOUT_FILENO, number as u64);
+pub fn tell(front: &[u8], value: usize, behind: &[u8]) {
+    say(front);
+    io::print_decimal(STDOUT_FILENO, value as u64);
     say(behind);
 }
 

@@ -23,8 +23,7 @@ use Rattle.events.specs.declared.Answer.the-variants.{Done, OneByte, TwoBytes, 
 use Rattle.events.specs.declared.Event.{Event}
 use Rattle.events.specs.declared.Event.the-variants.{Request, Malformed, StatusEnd, BusReset, Halt, PacketPassed, Power, Suspend, Resume, Wake}
 use Rattle.events.specs.declared.Outcome.{Outcome}
-use Rattle.events.specs.Answer.{numberOf, bytesOf, partOf}
-use Rattle.events.specs.Places.{bytesAt}
+use Rattle.events.specs.Answer.{numberOf, bytesOf, partOf, bytesAt}
 use Rattle.events.specs.Step.{goodReset, step, event, respond, statusEnd, halt, packetPassed, haltAt, passAt}
 use Rattle.set_writer.proofs.Stream.{two-bytes}
 use Rattle.laws.proofs.Outcomes.{chosen}

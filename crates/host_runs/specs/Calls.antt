@@ -8,10 +8,10 @@ use Rattle.sets.specs.Opening.{Board}
 use Rattle.records.specs.declared.Device.{Device}
 use Rattle.records.specs.Image.{imageOf}
 use Rattle.requests.specs.declared.Setup.{Setup}
-use Rattle.requests.specs.Setup.{setupOf}
+use Rattle.requests.specs.Table.{setupOf}
 use Rattle.events.specs.declared.Event.{Event}
 use Rattle.events.specs.declared.Event.the-variants.{Request, Malformed, StatusEnd, BusReset, Halt, PacketPassed, Power, Suspend, Resume, Wake}
-use Rattle.packets.specs.Packets.{count}
+use Rattle.packets.specs.Packets.{packetCount}
 use Rattle.enumeration.specs.Script.{Seen, Line, does}
 use Rattle.board.specs.Exports.{Opens, Spot, Spots, CutsPacket}
 use Rattle.board.specs.Runs.{Call, setup, tell, recordEvent, eventOf, Given, number, handed, Runs, ends, calls}
@@ -33,7 +33,7 @@ pub record Cut (b : Board) (image asked bytes : List ℕ) : Type 0 where
 
 -- how many there are; they are the reply: those below the count put together, each given, every later one refused with 15
 abbrev pub many : {b : Board} {image asked bytes : List ℕ} → Cut b image asked bytes → ℕ
-many {b} {image} {asked} {bytes} c = count (length bytes) (setupOf asked .wLength) (packetSize b image)
+many {b} {image} {asked} {bytes} c = packetCount (length bytes) (setupOf asked .wLength) (packetSize b image)
 
 pub record Arrives {b : Board} {image asked bytes : List ℕ} (c : Cut b image asked bytes) : Type 0 where
   pub together : flatMap (c .packets) (upTo (many c)) ≡ bytes

@@ -19,7 +19,7 @@ use Rattle.records.specs.declared.Device.{Device}
 use Rattle.records.specs.Device.{inDefault, inAddress, inConfigured, nothing, atHighSpeed, afterReset, testWaiting, testWaits, inTestMode, enterTestMode, settled, withWaiting, withWakeup, withPower, withSuspended, awake, withAddress, withConfiguration, withEndpoints}
 use Rattle.records.specs.Current.{selectedIn, selected, endpointAt}
 use Rattle.requests.specs.declared.Setup.{Setup}
-use Rattle.requests.specs.Setup.{recipient}
+use Rattle.requests.specs.Table.{recipient}
 use Rattle.events.specs.declared.Answer.{Answer}
 use Rattle.events.specs.declared.Answer.the-variants.{OneByte, TwoBytes, Refused}
 use Rattle.events.specs.declared.facts.Located.{Located}

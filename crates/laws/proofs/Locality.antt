@@ -15,7 +15,7 @@ use Rattle.records.specs.declared.Device.{Device}
 use Rattle.records.specs.Device.{inConfigured, nothing, testWaits, enterTestMode}
 use Rattle.records.specs.Current.{setFor, setAt, viewFor, viewAt, selectedIn, selected}
 use Rattle.records.specs.Fits.{fitsOn}
-use Rattle.requests.specs.Setup.{recipient}
+use Rattle.requests.specs.Table.{recipient}
 use Rattle.events.specs.declared.Event.{Event}
 use Rattle.events.specs.declared.Event.the-variants.{Request, Malformed, StatusEnd, BusReset, Halt, PacketPassed, Power, Suspend, Resume, Wake}
 use Rattle.events.specs.Answer.{numberOf}

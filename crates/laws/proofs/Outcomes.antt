@@ -23,8 +23,7 @@ use Rattle.records.specs.Device.{inDefault, inAddress, inConfigured, nothing, a
 use Rattle.records.specs.Current.{selected, currentEndpoints, endpointAt}
 use Rattle.requests.specs.declared.Setup.{Setup}
 use Rattle.requests.specs.declared.Row.{Row}
-use Rattle.requests.specs.Setup.{recipient}
-use Rattle.requests.specs.Table.{table, rowOf, inState, fieldsFit, refusalAt, refusal}
+use Rattle.requests.specs.Table.{recipient, requestTable, rowOf, inState, fieldsFit, refusalAt, refusal}
 use Rattle.events.specs.declared.Answer.{Answer}
 use Rattle.events.specs.declared.Answer.the-variants.{Done, SetPart, SerialPart}
 use Rattle.events.specs.declared.Event.{Event}
@@ -87,16 +86,16 @@ chosen P false p q = q refl
 
 -- ---- the table: what holds of a setup that it lets through
 -- a rule of the table's rows, of the row that let a setup through
-pub ruled : (f : Row → Bool) → every f table ≡ true → (state : ℕ) (s : Setup) → refusal state s ≡ 0
-    → (r : Row) × (f r ≡ true) × (r .code ≡ s .bRequest) × (inState r state ≡ true) × (fieldsFit r s ≡ true)
+pub ruled : (f : Row → Bool) → every f requestTable ≡ true → (state : ℕ) (s : Setup) → refusal state s ≡ 0
+    → (r : Row) × (f r ≡ true) × (r .bRequest ≡ s .bRequest) × (inState r state ≡ true) × (fieldsFit r s ≡ true)
 ruled f p state s q = let (r, m, k, c, i, h) = let-through state s q in (r, every-member f p m, c, i, h)
 
 -- 05 is for Default and Address alone, with an address up to 127; 09 is not for Default
 addressAllowed : (state : ℕ) (s : Setup) → refusal state s ≡ 0 → s .bRequest ≡ 5 → (s .wValue ≤ 127) × (state ≤ 1)
 unfolding every
 addressAllowed state s p c =
-    let (r, f, k, i, h) = ruled (λ r. eqb (r .code) 5 ⇒ leb (r .value) 127 && leb (r .highest) 1) refl state s p in
-    let f′ = if-then (eqb (r .code) 5) (leb (r .value) 127 && leb (r .highest) 1) f (eq-eqb (r .code) 5 (k ∙ c)) in
+    let (r, f, k, i, h) = ruled (λ r. eqb (r .bRequest) 5 ⇒ leb (r .value) 127 && leb (r .highest) 1) refl state s p in
+    let f′ = if-then (eqb (r .bRequest) 5) (leb (r .value) 127 && leb (r .highest) 1) f (eq-eqb (r .bRequest) 5 (k ∙ c)) in
     let (a, b) = both (leb (r .value) 127) (leb (r .highest) 1) f′ in
     let t = leb-true (s .wValue) (r .value) (conjunct 0 (leb (s .wValue) (r .value) ∷ _ ∷ _ ∷ _ ∷ []) h) in
     let u = leb-true state (r .highest) (both (leb (r .lowest) state) (leb state (r .highest)) i .1) in
@@ -105,8 +104,8 @@ addressAllowed state s p c =
 configurationAllowed : (state : ℕ) (s : Setup) → refusal state s ≡ 0 → s .bRequest ≡ 9 → 1 ≤ state
 unfolding every
 configurationAllowed state s p c =
-    let (r, f, k, i, h) = ruled (λ r. eqb (r .code) 9 ⇒ leb 1 (r .lowest)) refl state s p in
-    let f′ = if-then (eqb (r .code) 9) (leb 1 (r .lowest)) f (eq-eqb (r .code) 9 (k ∙ c)) in
+    let (r, f, k, i, h) = ruled (λ r. eqb (r .bRequest) 9 ⇒ leb 1 (r .lowest)) refl state s p in
+    let f′ = if-then (eqb (r .bRequest) 9) (leb 1 (r .lowest)) f (eq-eqb (r .bRequest) 9 (k ∙ c)) in
     let u = leb-true (r .lowest) state (both (leb (r .lowest) state) (leb state (r .highest)) i .0) in
     omega (arith, leb-true 1 (r .lowest) f′)
 

@@ -11,15 +11,14 @@ use Rattle.octets.specs.Sentences.{pick, _⇒_, every}
 use Rattle.octets.proofs.Sentences.{cases, never, both, if-then, first-some, every-member}
 use Rattle.requests.specs.declared.Setup.{Setup}
 use Rattle.requests.specs.declared.Row.{Row}
-use Rattle.requests.specs.Setup.{recipient}
+use Rattle.requests.specs.Table.{recipient, requestTable, rowOf, inState, fieldsFit, refusalAt, refusal}
 use Rattle.records.specs.declared.Device.{Device}
 use Rattle.events.specs.Requests.{namesTestMode}
 use Rattle.events.specs.Step.{asksTestMode, testModeInState, testModeFits, refusalFor}
-use Rattle.requests.specs.Table.{table, rowOf, inState, fieldsFit, refusalAt, refusal}
 
 -- the row that let a setup through
 pub let-through : (state : ℕ) (s : Setup) → refusal state s ≡ 0
-    → (r : Row) × List·Memᴰ r table × (r .kind ≡ s .bmRequestType) × (r .code ≡ s .bRequest) × (inState r state ≡ true) × (fieldsFit r s ≡ true)
+    → (r : Row) × List·Memᴰ r requestTable × (r .bmRequestType ≡ s .bmRequestType) × (r .bRequest ≡ s .bRequest) × (inState r state ≡ true) × (fieldsFit r s ≡ true)
 unfolding refusal
 let-through state s p = go (rowOf s) refl p
   where
@@ -29,20 +28,20 @@ let-through state s p = go (rowOf s) refl p
     passed false b e = absurd (omega arith)
 
     go : (o : Option Row) → rowOf s ≡ o → refusalAt o state s ≡ 0
-        → (r : Row) × List·Memᴰ r table × (r .kind ≡ s .bmRequestType) × (r .code ≡ s .bRequest) × (inState r state ≡ true) × (fieldsFit r s ≡ true)
+        → (r : Row) × List·Memᴰ r requestTable × (r .bmRequestType ≡ s .bmRequestType) × (r .bRequest ≡ s .bRequest) × (inState r state ≡ true) × (fieldsFit r s ≡ true)
     go none q n = absurd (omega arith)
     go (some r) q n =
-        let (m, e) = first-some (λ x. eqb (x .kind) (s .bmRequestType) && eqb (x .code) (s .bRequest)) table q in
-        let (k, c) = both (eqb (r .kind) (s .bmRequestType)) (eqb (r .code) (s .bRequest)) e in
+        let (m, e) = first-some (λ x. eqb (x .bmRequestType) (s .bmRequestType) && eqb (x .bRequest) (s .bRequest)) requestTable q in
+        let (k, c) = both (eqb (r .bmRequestType) (s .bmRequestType)) (eqb (r .bRequest) (s .bRequest)) e in
         let (i, h) = passed (inState r state) (fieldsFit r s) n in
-        (r, m, eqb-true (r .kind) (s .bmRequestType) k, eqb-true (r .code) (s .bRequest) c, i, h)
+        (r, m, eqb-true (r .bmRequestType) (s .bmRequestType) k, eqb-true (r .bRequest) (s .bRequest) c, i, h)
 
 -- what holds of every row's type and code holds of a setup that the table does not refuse
-tabled : (P : ℕ → ℕ → Bool) → every (λ r. P (r .kind) (r .code)) table ≡ true
+tabled : (P : ℕ → ℕ → Bool) → every (λ r. P (r .bmRequestType) (r .bRequest)) requestTable ≡ true
     → (state : ℕ) (s : Setup) → refusal state s ≡ 0 → P (s .bmRequestType) (s .bRequest) ≡ true
 tabled P all state s p =
     let (r, m, k, c, i, h) = let-through state s p in
-    sym (ap (λ x. P x (r .code)) k ∙ ap (P (s .bmRequestType)) c) ∙ every-member (λ x. P (x .kind) (x .code)) all m
+    sym (ap (λ x. P x (r .bRequest)) k ∙ ap (P (s .bmRequestType)) c) ∙ every-member (λ x. P (x .bmRequestType) (x .bRequest)) all m
 
 -- the requests of a device alone; those of a device, an interface or an endpoint; the others are an interface's
 abbrev pub ofDevice : ℕ → Bool

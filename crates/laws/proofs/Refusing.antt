@@ -21,8 +21,7 @@ use Rattle.requests.specs.declared.Setup.{Setup}
 use Rattle.events.specs.declared.Event.{Event}
 use Rattle.events.specs.declared.Event.the-variants.{Request}
 use Rattle.events.specs.declared.Outcome.{Outcome}
-use Rattle.events.specs.Answer.{numberOf, partOf, refused}
-use Rattle.events.specs.Places.{InsideAt}
+use Rattle.events.specs.Answer.{numberOf, partOf, refused, InsideAt}
 use Rattle.laws.proofs.Outcomes.{reads, fromSet, fromSerial, changes, refusedWith, inTest, Refusable, Responded, answers, leaves, becomes, refuses}
 
 -- an outcome by its number: done; a setup refused by its rules or in a test mode, once it has settled; or a refusal that settles nothing

@@ -21,7 +21,7 @@ use Rattle.records.specs.declared.Device.{Device}
 use Rattle.records.specs.Device.{inTestMode, awake, settled, withEndpoints}
 use Rattle.records.specs.Current.{selected, endpointAt}
 use Rattle.requests.specs.declared.Setup.{Setup}
-use Rattle.requests.specs.Setup.{recipient}
+use Rattle.requests.specs.Table.{recipient}
 use Rattle.events.specs.declared.Outcome.{Outcome}
 use Rattle.events.specs.declared.Event.{Event}
 use Rattle.events.specs.declared.Event.the-variants.{Request, Malformed, StatusEnd, BusReset, Halt, PacketPassed, Power, Suspend, Resume, Wake}

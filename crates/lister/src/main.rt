@@ -2,8 +2,8 @@
 use descriptors::limits::Limits;
 use libc::STDOUT_FILENO;
 
-// The kind of set that was asked for.
-fn kind() -> Limits {
+// The limits of the set that was asked for.
+fn limits() -> Limits {
     if files::is_argument(1, b"super") {
         return descriptors::limits::super_speed();
     }
@@ -17,6 +17,6 @@ fn main() {
     let mut out = [0u8; listing::ROOM];
     let set_size = files::read(b"set.bin", &mut set);
     let serial_size = files::read(b"unit.bin", &mut serial);
-    let size = listing::list(&set[..set_size], &serial[..serial_size], kind(), &mut out);
+    let size = listing::list(&set[..set_size], &serial[..serial_size], limits(), &mut out);
     io::write_all(STDOUT_FILENO, &out[..size]);
 }

@@ -1,6 +1,7 @@
 // The lister's lines, written into a lent buffer. Each function writes at a place and gives the place behind what it wrote.
 use buffers::put;
 use buffers::put_bytes;
+use descriptors::types;
 use descriptors::walk;
 use descriptors::walk::BEFORE_FIRST;
 use descriptors::walk::Stand;
@@ -81,10 +82,10 @@ fn put_interface(out: &mut [u8], at: usize, d: &[u8], stand: Stand) -> usize
     requires { ⌜ Room (now out) at (interfaceLine (settingAt stand) (now d)) ⌝ }
     ensures { λ r. ⌜ Wrote (now (out .entry)) at (interfaceLine (settingAt stand) (now (d .entry))) (now (out .exit)) r ⌝ }
 {
-    let number = stand.interface as u16;
+    let interface = stand.interface as u16;
     let alternate = stand.alternate as u16;
     let endpoints = octets::peek(d, 4) as u16;
-    put_line(out, at, b"I", &[number, alternate, endpoints])
+    put_line(out, at, b"I", &[interface, alternate, endpoints])
 }
 
 // An endpoint descriptor's line.
@@ -104,10 +105,10 @@ fn put_descriptor(out: &mut [u8], at: usize, d: &[u8], stand: Stand) -> usize
     ensures { λ r. ⌜ Wrote (now (out .entry)) at (lineAt stand (now (d .entry))) (now (out .exit)) r ⌝ }
 {
     let kind = octets::peek(d, 1);
-    if kind == 4 {
+    if kind == types::INTERFACE {
         return put_interface(out, at, d, stand);
     }
-    if kind == 5 {
+    if kind == types::ENDPOINT {
         return put_endpoint(out, at, d);
     }
     at
@@ -150,7 +151,7 @@ fn put_entry(out: &mut [u8], at: usize, set: &[u8], e: Entry) -> usize
     requires { ⌜ Room (now out) at (entryLines (now set) e) ⌝ }
     ensures { λ r. ⌜ Wrote (now (out .entry)) at (entryLines (now (set .entry)) e) (now (out .exit)) r ⌝ }
 {
-    if e.kind == 2 {
+    if e.kind == types::CONFIGURATION {
         return put_configuration(out, at, body_of(set, e));
     }
     at
@@ -178,7 +179,7 @@ fn put_accepted(out: &mut [u8], set: &[u8]) -> usize
     requires { ⌜ Room (now out) 0 (acceptedLines (now set)) ⌝ }
     ensures { λ r. ⌜ Wrote (now (out .entry)) 0 (acceptedLines (now (set .entry))) (now (out .exit)) r ⌝ }
 {
-    let configurations = count_of(set, 2) as u16;
+    let configurations = count_of(set, types::CONFIGURATION) as u16;
     let next = put_line(out, 0, b"ACCEPTED", &[configurations]);
     put_configurations(out, next, set)
 }
@@ -188,9 +189,9 @@ pub fn list(set: &[u8], serial: &[u8], limits: descriptors::limits::Limits, out:
     requires { ⌜ room ≤ length (now out) ⌝ }
     ensures { λ r. ⌜ Listed limits (lent (now (set .entry)) (now (serial .entry))) (now (out .entry)) (now (out .exit)) r ⌝ }
 {
-    let number = sets::opening::opening(set, serial, limits) as u16;
-    if number != 0 {
-        return put_line(out, 0, b"REFUSED", &[number]);
+    let opening = sets::opening::opening(set, serial, limits) as u16;
+    if opening != 0 {
+        return put_line(out, 0, b"REFUSED", &[opening]);
     }
     put_accepted(out, set)
 }

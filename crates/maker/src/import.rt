@@ -1,6 +1,8 @@
 // A dump becomes a set, or what stands in the way is told.
+use crate::told::DEVICE_BROKEN;
 use files::say;
 use files::tell;
+use set_writer::LONGEST_SET;
 ghost use Prim.Native.Nat.{_<_, _≤_};
 ghost use lib.ListN.{length};
 
@@ -35,7 +37,7 @@ fn say_body(n: usize, at: usize, what: &[u8]) {
 fn tell_body(dump: &[u8], n: usize, at: usize, number: u8) {
     let size = size_at(dump, at);
     let left = buffers::tail(dump, at).len();
-    if number == 23 {
+    if number == dumps::import::DUMP_BROKEN {
         if (size < 9) | (left < size) {
             say_body(n, at, b" says wTotalLength ");
             tell(b"", size, b", and ");
@@ -69,14 +71,14 @@ fn refused(dump: &[u8], number: u8, opening: u8) {
     if dump.len() <= 18 {
         return say(b"    a device descriptor of 18 bytes and a configuration are not there\n");
     }
-    if (opening == 3) | (dump.len() > 16384) {
+    if (opening == DEVICE_BROKEN) | (dump.len() > LONGEST_SET) {
         return say(b"    the device descriptor, or the whole, is none of a full-speed device\n");
     }
     tell_bodies(dump, number);
 }
 
 fn import(dump: &[u8]) {
-    let mut set = [0u8; 16384];
+    let mut set = [0u8; LONGEST_SET];
     let report = dumps::import::import(dump, &mut set);
     if report.number == 0 {
         let size = set_writer::length_written(report.number, &set) as usize;

@@ -1,9 +1,21 @@
 // What a maker is told of a refusal: its number, why, and each piece that stands in the way, counted from 1, with its place in pieces.bin.
-use crate::write::kind;
+use crate::write::limits;
+use descriptors::types;
 use files::say;
 use files::tell;
 ghost use Prim.Native.Nat.{_<_, _≤_};
 ghost use lib.ListN.{length};
+
+// What opening says of a set, under the header's names.
+const CONTENTS_BROKEN: u8 = 2;
+
+pub const DEVICE_BROKEN: u8 = 3;
+
+const CONFIGURATION_BROKEN: u8 = 4;
+
+const STRING_BROKEN: u8 = 5;
+
+const SERIAL_BROKEN: u8 = 6;
 
 // Where the piece behind the one at a place begins; the stream's end, where that one does not end.
 fn next(stream: &[u8], at: usize) -> usize
@@ -70,7 +82,7 @@ fn tell_large(n: usize, at: usize, end: usize) {
 }
 
 fn is_entry(its_type: u8) -> bool {
-    let limits = kind();
+    let limits = limits();
     descriptors::limits::is_named(limits.entries, its_type)
 }
 
@@ -105,18 +117,18 @@ fn tell_entry(stream: &[u8], n: usize, at: usize) {
 // 21, and the opener would say 3, 4 or 5: the pieces of that type; of the configurations those that break a rule by themselves.
 fn tell_body(stream: &[u8], n: usize, at: usize, opening: u8) {
     let its_type = octets::peek(buffers::tail(stream, at), 0);
-    if (opening == 3) & (its_type == 1) {
+    if (opening == DEVICE_BROKEN) & (its_type == types::DEVICE) {
         say_piece(n, at, b" is a device\n");
     }
-    if (opening == 3) & (its_type == 15) {
+    if (opening == DEVICE_BROKEN) & (its_type == types::BOS) {
         say_piece(n, at, b" is a BOS\n");
     }
-    if (opening == 5) & (its_type == 3) {
+    if (opening == STRING_BROKEN) & (its_type == types::STRING) {
         say_piece(n, at, b" is a string\n");
     }
-    if (opening == 4) & (its_type == 2) {
+    if (opening == CONFIGURATION_BROKEN) & (its_type == types::CONFIGURATION) {
         let body = set_writer::pieces::body_at(stream, at);
-        let verdict = descriptors::check::good_configuration(body, kind(), &[0; 8]);
+        let verdict = descriptors::check::good_configuration(body, limits(), &[0; 8]);
         if verdict.good {
             return say_piece(n, at, b" is a configuration, good by itself\n");
         }
@@ -127,13 +139,13 @@ fn tell_body(stream: &[u8], n: usize, at: usize, opening: u8) {
 fn tell_piece(stream: &[u8], n: usize, at: usize, number: u8, opening: u8)
     requires { ⌜ at < length (now stream) ⌝ }
 {
-    if number == 20 {
+    if number == set_writer::PIECES_BROKEN {
         return tell_broken(stream, n, at);
     }
     if opening == 0 {
         return tell_large(n, at, next(stream, at));
     }
-    if opening == 2 {
+    if opening == CONTENTS_BROKEN {
         return tell_entry(stream, n, at);
     }
     tell_body(stream, n, at, opening);
@@ -154,12 +166,12 @@ pub fn refused(stream: &[u8], number: u8, opening: u8) {
     if stream.len() == 0 {
         say(b"    there are no pieces\n");
     }
-    if (opening == 3) & is_entry(15) {
+    if (opening == DEVICE_BROKEN) & is_entry(types::BOS) {
         say(
             b"    a SuperSpeed set has one device, and one BOS of at least 5 bytes with its length in bytes 2 and 3\n",
         );
     }
-    if opening == 6 {
+    if opening == SERIAL_BROKEN {
         say(b"    unit.bin is not the serial block that the device asks for\n");
     }
     tell_pieces(stream, number, opening);

@@ -2,8 +2,8 @@
 use crate::told;
 use descriptors::limits::Limits;
 
-// The kind of set that was asked for.
-pub fn kind() -> Limits {
+// The limits of the set that was asked for.
+pub fn limits() -> Limits {
     if files::is_argument(2, b"super") {
         return descriptors::limits::super_speed();
     }
@@ -11,8 +11,8 @@ pub fn kind() -> Limits {
 }
 
 fn write(stream: &[u8], serial: &[u8]) {
-    let mut set = [0u8; 16384];
-    let report = set_writer::write(stream, serial, kind(), &mut set);
+    let mut set = [0u8; set_writer::LONGEST_SET];
+    let report = set_writer::write(stream, serial, limits(), &mut set);
     if report.number == 0 {
         let size = set_writer::length_written(report.number, &set) as usize;
         return files::write(b"set.bin", buffers::head(&set, size));

@@ -11,7 +11,7 @@ use Rattle.records.specs.Image.{imageOf}
 use Rattle.events.specs.Step.{setupEvent}
 use Rattle.set_writer.specs.Writer.{laid}
 use Rattle.dumps.specs.Dump.{zeroed, exported}
-use Rattle.trimming.specs.Trim.{trimmed, padded}
+use Rattle.trimming.specs.Trim.{trimmed, zeroFilled}
 use Rattle.promises.specs.Examples.{bytes, piece, device, configuration, interface, endpoint, computed, S, T}
 use Rattle.promises.specs.Bench.{stands}
 use Rattle.promises.specs.Inhabited.{octets, configured}
@@ -39,7 +39,7 @@ opensS = writtenOpens writesS refl
 
 -- ---- L11: T, whose string 5 nothing names
 abbrev left : List ℕ
-left = padded (trimmed (T .set)) (length (T .set))
+left = zeroFilled (trimmed (T .set)) (length (T .set))
 
 pub trimsT : Shortens fullSpeed (T .set) (T .serial) 0 left (length (trimmed (T .set)))
 unfolding trimming

@@ -26,13 +26,12 @@ use Rattle.records.specs.Device.{inTestMode, settled}
 use Rattle.records.specs.Image.{deviceOf}
 use Rattle.records.specs.Fits.{fitsOn}
 use Rattle.requests.specs.declared.Setup.{Setup}
-use Rattle.requests.specs.Setup.{setupOf}
+use Rattle.requests.specs.Table.{setupOf}
 use Rattle.events.specs.declared.Answer.{Answer}
 use Rattle.events.specs.declared.Answer.the-variants.{Refused}
 use Rattle.events.specs.declared.Event.the-variants.{Request}
 use Rattle.events.specs.declared.Outcome.{Outcome}
-use Rattle.events.specs.Answer.{numberOf, partOf}
-use Rattle.events.specs.Places.{bytesAt}
+use Rattle.events.specs.Answer.{numberOf, partOf, bytesAt}
 use Rattle.events.specs.Requests.{isEntry, bodyAt, languageFor, locateString, locate, describe, getDescriptor}
 use Rattle.events.specs.Step.{request, refusalFor, answerSetup, step, Reply, event, setupEvent}
 use Rattle.set_writer.specs.Writer.{pieces, setOf, writing}

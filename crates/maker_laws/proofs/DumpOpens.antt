@@ -18,7 +18,7 @@ use Rattle.sets.specs.Strings.{referencesOf, isNonzero, goodStrings}
 use Rattle.sets.specs.Opening.{lent, numberedFrom, valueNonzero, distinctValues, goodDevices, goodConfigurations, goodBlock, opening}
 use Rattle.sets.proofs.Groups.{all-six, texts-out, no-texts}
 use Rattle.set_writer.specs.Writer as pieces
-use Rattle.set_writer.specs.Writer.{bodies, laid, opensAs}
+use Rattle.set_writer.specs.Writer.{bodyBytes, laid, opensAs}
 use Rattle.set_writer.proofs.LaidOut.{laid-frame, laid-contents}
 use Rattle.set_writer.proofs.ReadBack.{read-back}
 use Rattle.dumps.specs.Dump.{flat, devicePiece, numbered}
@@ -40,8 +40,8 @@ unfolding every numbered
 long-numbered i [] h = refl
 long-numbered i (b ∷ bs) h = joined (le-leb 2 (length b) (h b (List·Memᴰ·head refl))) (long-numbered (i + 1) bs (λ c m. h c (List·Memᴰ·tail m)))
 
-numbered-flat : (i : ℕ) (bs : List (List ℕ)) → bodies (numbered i bs) ≡ flat bs
-unfolding bodies numbered flat
+numbered-flat : (i : ℕ) (bs : List (List ℕ)) → bodyBytes (numbered i bs) ≡ flat bs
+unfolding bodyBytes numbered flat
 numbered-flat i [] = refl
 numbered-flat i (b ∷ bs) = rw (numbered-flat (i + 1) bs)
 
@@ -57,8 +57,8 @@ module _ (d : List ℕ) (bs : List (List ℕ)) where
   abbrev pub made : List ℕ
   made = laid ps
 
-  pub ps-total : pieces.total ps ≡ 4 + 8 * (1 + length bs) + length (d ++ flat bs)
-  unfolding bodies
+  pub ps-total : pieces.laidLength ps ≡ 4 + 8 * (1 + length bs) + length (d ++ flat bs)
+  unfolding bodyBytes
   ps-total = omega (arith, numbered-length 0 bs, ap (λ (l : List ℕ). length (d ++ l)) (numbered-flat 0 bs))
 
   contents-good : 2 ≤ length d → ((b : List ℕ) → List·Memᴰ b bs → 2 ≤ length b) → goodContents fullSpeed made ≡ true

@@ -20,7 +20,7 @@ use Rattle.sets.specs.Pieces.{Piece, pieceFor, piecesIn, kindOf}
 use Rattle.sets.proofs.Pieces.{map-only}
 use Rattle.set_writer.specs.Writer.{laid}
 use Rattle.set_writer.proofs.ReadBack.{read-back}
-use Rattle.trimming.specs.Trim.{named, namedString, zeroStays, kept, keptPieces, trimmed, padded, Trims}
+use Rattle.trimming.specs.Trim.{referenced, referencedString, zeroStays, kept, keptPieces, trimmed, zeroFilled, Trims}
 use Rattle.trimming.specs.Asked.{bodyIn, bodyUnder, left}
 use Rattle.set_writer.proofs.InPieces.{only-only, any-only, first-only, Alike, same-device, same-references}
 
@@ -29,7 +29,7 @@ abbrev pub keptPiece : List ℕ → Piece → Bool
 keptPiece set p = left set (p .kind) (p .index)
 
 abbrev pub stringNamed : List ℕ → Piece → Bool
-stringNamed set p = kindOf 3 p && leb 1 (p .index) && named set (p .index)
+stringNamed set p = kindOf 3 p && leb 1 (p .index) && referenced set (p .index)
 
 module _ (set : List ℕ) where
   pub kept-pieces : keptPieces set ≡ only (keptPiece set) (piecesIn set)
@@ -51,7 +51,7 @@ module _ (set : List ℕ) where
 
   pub named-kept : (p : Piece) → stringNamed set p ≡ true → keptPiece set p ≡ true
   named-kept p h =
-      let (a, n) = both (kindOf 3 p && leb 1 (p .index)) (named set (p .index)) h in
+      let (a, n) = both (kindOf 3 p && leb 1 (p .index)) (referenced set (p .index)) h in
       let i = leb-true 1 (p .index) (both (kindOf 3 p) (leb 1 (p .index)) a .1) in
       rw (ne-eqb (p .index) 0 (λ e. omega arith), n, or-true)
 
@@ -66,13 +66,13 @@ module _ (set : List ℕ) where
   }
 
   -- ---- trimming again
-  pub named-again : (j : ℕ) → named (trimmed set) j ≡ named set j
+  pub named-again : (j : ℕ) → referenced (trimmed set) j ≡ referenced set j
   named-again j = ap (member j) (same-references alike)
 
-  pub zero-pieces : any (namedString set) (entries set) ≡ any (stringNamed set) (piecesIn set)
+  pub zero-pieces : any (referencedString set) (entries set) ≡ any (stringNamed set) (piecesIn set)
   zero-pieces = sym (any-map (stringNamed set) (pieceFor set) (entries set))
 
-named-still : (set : List ℕ) → any (namedString (trimmed set)) (entries (trimmed set)) ≡ any (namedString set) (entries set)
+named-still : (set : List ℕ) → any (referencedString (trimmed set)) (entries (trimmed set)) ≡ any (referencedString set) (entries set)
 named-still set =
     zero-pieces (trimmed set)
     ∙ any-alike (stringNamed (trimmed set)) (stringNamed set) (piecesIn (trimmed set)) (λ p m. ap (λ (b : Bool). kindOf 3 p && leb 1 (p .index) && b) (named-again set (p .index)))
@@ -96,14 +96,14 @@ trimmed-again set =
     ∙ only-only (keptPiece set) (keptPiece set) (λ p k. k) (piecesIn set)
     ∙ sym (kept-pieces set))
 
-padded-whole : (bytes : List ℕ) → padded bytes (length bytes) ≡ bytes
+padded-whole : (bytes : List ℕ) → zeroFilled bytes (length bytes) ≡ bytes
 padded-whole bytes = rw (sub-self (length bytes)) (append-nil bytes)
 
 pub unchanged : (limits : Limits) (set serial : List ℕ) {after : List ℕ} {n : ℕ} → Trims limits (trimmed set) serial after n → after ≡ trimmed set
 unchanged limits set serial {n = n} t = t .bytes ∙ go (eqb n 0)
   where
-    go : (b : Bool) → pick b (padded (trimmed (trimmed set)) (length (trimmed set))) (trimmed set) ≡ trimmed set
-    go true = ap (λ (l : List ℕ). padded l (length (trimmed set))) (trimmed-again set) ∙ padded-whole (trimmed set)
+    go : (b : Bool) → pick b (zeroFilled (trimmed (trimmed set)) (length (trimmed set))) (trimmed set) ≡ trimmed set
+    go true = ap (λ (l : List ℕ). zeroFilled l (length (trimmed set))) (trimmed-again set) ∙ padded-whole (trimmed set)
     go false = refl
 
 -- ---- the buffer: "That set is the buffer's first total bytes", "the freed bytes at the end become zero", "A refused set is left unchanged"

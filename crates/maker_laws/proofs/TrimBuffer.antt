@@ -23,23 +23,23 @@ use Rattle.sets.specs.Found.{isAt}
 use Rattle.sets.proofs.Groups.{groups}
 use Rattle.sets.proofs.Strings.{string-zero}
 use Rattle.sets.specs.Pieces.{Piece, pieceFor}
-use Rattle.set_writer.specs.Writer.{total, laid}
+use Rattle.set_writer.specs.Writer.{laidLength, laid}
 use Rattle.set_writer.proofs.Laid.{laid-length}
 use Rattle.set_writer.proofs.Canonical.{canonical}
 use Rattle.set_writer.proofs.Stream.{two-bytes}
-use Rattle.trimming.specs.Trim.{zeroStays, kept, keptPieces, trimmed, padded, Trims}
+use Rattle.trimming.specs.Trim.{zeroStays, kept, keptPieces, trimmed, zeroFilled, Trims}
 use Rattle.trimming.specs.Asked.{bodyIn, bodyUnder, left}
 use Rattle.set_writer.proofs.InPieces.{same-bodies, same-device}
 use Rattle.maker_laws.proofs.TrimAgain.{alike, same-bytes, there, unchanged}
 use Rattle.maker_laws.proofs.TrimOpens.{opens-again}
 
 -- ---- "That set is the buffer's first total bytes"
-total-front : (ps : List Piece) (rest : List ℕ) → sets.total (laid ps ++ rest) ≡ total ps
+total-front : (ps : List Piece) (rest : List ℕ) → sets.total (laid ps ++ rest) ≡ laidLength ps
 unfolding laid
-total-front ps rest = two-bytes (total ps)
+total-front ps rest = two-bytes (laidLength ps)
 
 module _ {limits : Limits} {set serial after : List ℕ} {n : ℕ} (t : Trims limits set serial after n) (z : n ≡ 0) where
-  bytes : after ≡ padded (trimmed set) (length set)
+  bytes : after ≡ zeroFilled (trimmed set) (length set)
   bytes = t .bytes ∙ rw (eq-eqb n 0 z)
 
   pub total-is : sets.total after ≡ length (trimmed set)

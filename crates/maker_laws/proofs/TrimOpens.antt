@@ -17,7 +17,7 @@ use Rattle.sets.specs.Opening.{lent, opening}
 use Rattle.sets.proofs.Groups.{Groups, groups, all-six, one-device, GoodTexts, texts-in, texts-out}
 use Rattle.octets.specs.Octets.{Bytes}
 use Rattle.sets.specs.Pieces.{Piece, pieceFor, piecesIn, kindOf, piecesOf, sole}
-use Rattle.set_writer.specs.Writer.{precedes, total, laid}
+use Rattle.set_writer.specs.Writer.{precedes, laidLength, laid}
 use Rattle.set_writer.proofs.Laid.{laid-length}
 use Rattle.set_writer.proofs.Canonical.{canonical}
 use Rattle.set_writer.proofs.Ascending.{neighbours-ascend}
@@ -71,7 +71,7 @@ module _ (limits : Limits) (set serial : List ℕ) (small : Bytes set) (p : open
   few : length ps ≤ 64
   few = omega (arith, length-map (entries set) (pieceFor set), entries-length (count set) (drop 4 set), framed set (g .frame) .few)
 
-  fits : total ps ≤ 16384
+  fits : laidLength ps ≤ 16384
   fits = omega (arith, laid-length ps, ap length whole, framed set (g .frame) .most)
 
   one : 1 ≤ length (only k ps)

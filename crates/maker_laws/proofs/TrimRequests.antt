@@ -28,7 +28,7 @@ use Rattle.records.specs.Image.{deviceOf, imageOf}
 use Rattle.records.specs.Fits.{fits, fitsOn}
 use Rattle.requests.specs.declared.Setup.{Setup}
 use Rattle.requests.specs.declared.Row.{Row}
-use Rattle.requests.specs.Table.{table, rowOf}
+use Rattle.requests.specs.Table.{requestTable, rowOf}
 use Rattle.requests.proofs.Found.{without-row}
 use Rattle.events.specs.declared.Answer.the-variants.{Refused}
 use Rattle.events.specs.declared.Event.{Event}
@@ -36,12 +36,11 @@ use Rattle.events.specs.declared.Event.the-variants.{Request, Malformed, Status
 use Rattle.events.specs.declared.facts.Located.{Located}
 use Rattle.events.specs.declared.facts.Located.the-variants.{Body, Serial, Nowhere}
 use Rattle.events.specs.declared.Outcome.{Outcome}
-use Rattle.events.specs.Answer.{partOf, refused}
-use Rattle.events.specs.Places.{bytesIn}
+use Rattle.events.specs.Answer.{partOf, refused, bytesIn}
 use Rattle.events.specs.Requests.{isEntry, bodyAt, byIndex, languageFor, locateString, locate, describe, getStatus, clearFeature, setFeature, setAddress, getDescriptor, getConfiguration, setConfiguration, getInterface, setInterface}
 use Rattle.events.specs.Step.{request, refusalFor, answerSetup, halt, packetPassed, respond, step, Reply, replyOf, event}
 use Rattle.set_writer.proofs.InPieces.{same-bodies}
-use Rattle.trimming.specs.Trim.{named, namedString, zeroStays, kept, trimmed}
+use Rattle.trimming.specs.Trim.{referenced, referencedString, zeroStays, kept, trimmed}
 use Rattle.trimming.specs.Keeping.{deviceNames, entryNames}
 use Rattle.trimming.proofs.Naming.{named-by}
 use Rattle.trimming.specs.Asked.{bodyIn, bodyUnder, left}
@@ -123,21 +122,21 @@ module _ (set other serial : List ℕ) where
 
 -- ---- GET_DESCRIPTOR
 -- the table knows it with the type 80 alone
-device-alone : every (λ r. eqb (r .code) 0x06 ⇒ eqb (r .kind) 0x80) table ≡ true
+device-alone : every (λ r. eqb (r .bRequest) 0x06 ⇒ eqb (r .bmRequestType) 0x80) requestTable ≡ true
 unfolding every
 device-alone = refl
 
 no-row : (s : Setup) → eqb (s .bRequest) 0x06 ≡ true → eqb (s .bmRequestType) 0x80 ≡ false → rowOf s ≡ none
-no-row s c t = none-first (λ r. eqb (r .kind) (s .bmRequestType) && eqb (r .code) (s .bRequest)) table
-    (λ r m. cases (eqb (r .kind) (s .bmRequestType) && eqb (r .code) (s .bRequest)) (λ p. other r m p) (λ p. p))
+no-row s c t = none-first (λ r. eqb (r .bmRequestType) (s .bmRequestType) && eqb (r .bRequest) (s .bRequest)) requestTable
+    (λ r m. cases (eqb (r .bmRequestType) (s .bmRequestType) && eqb (r .bRequest) (s .bRequest)) (λ p. other r m p) (λ p. p))
   where
-    other : (r : Row) → List·Memᴰ r table → (eqb (r .kind) (s .bmRequestType) && eqb (r .code) (s .bRequest)) ≡ true
-        → (eqb (r .kind) (s .bmRequestType) && eqb (r .code) (s .bRequest)) ≡ false
+    other : (r : Row) → List·Memᴰ r requestTable → (eqb (r .bmRequestType) (s .bmRequestType) && eqb (r .bRequest) (s .bRequest)) ≡ true
+        → (eqb (r .bmRequestType) (s .bmRequestType) && eqb (r .bRequest) (s .bRequest)) ≡ false
     other r m p =
-        let (k, j) = both (eqb (r .kind) (s .bmRequestType)) (eqb (r .code) (s .bRequest)) p in
-        let six = eq-eqb (r .code) 0x06 (eqb-true (r .code) (s .bRequest) j ∙ eqb-true (s .bRequest) 0x06 c) in
-        let device = eqb-true (r .kind) 0x80 (if-then (eqb (r .code) 0x06) (eqb (r .kind) 0x80) (every-member (λ r. eqb (r .code) 0x06 ⇒ eqb (r .kind) 0x80) device-alone m) six) in
-        never (eq-eqb (s .bmRequestType) 0x80 (sym (eqb-true (r .kind) (s .bmRequestType) k) ∙ device)) t
+        let (k, j) = both (eqb (r .bmRequestType) (s .bmRequestType)) (eqb (r .bRequest) (s .bRequest)) p in
+        let six = eq-eqb (r .bRequest) 0x06 (eqb-true (r .bRequest) (s .bRequest) j ∙ eqb-true (s .bRequest) 0x06 c) in
+        let device = eqb-true (r .bmRequestType) 0x80 (if-then (eqb (r .bRequest) 0x06) (eqb (r .bmRequestType) 0x80) (every-member (λ r. eqb (r .bRequest) 0x06 ⇒ eqb (r .bmRequestType) 0x80) device-alone m) six) in
+        never (eq-eqb (s .bmRequestType) 0x80 (sym (eqb-true (r .bmRequestType) (s .bmRequestType) k) ∙ device)) t
 
 not-of-device : (d : Device) (s : Setup) → eqb (s .bRequest) 0x06 ≡ true → eqb (s .bmRequestType) 0x80 ≡ false → eqb (refusalFor false d s) 0 ≡ false
 not-of-device d s c t = rw (without-row (d .state) s (no-row s c t))
@@ -243,27 +242,27 @@ module _ (set serial : List ℕ) where
 
   -- where string 0 goes, no entry is named, nor a serial number
   module _ (index : ℕ) (i : eqb index 0 ≡ false) (h : left set 3 index ≡ true) (z : zeroStays set ≡ false) where
-    index-named : named set index ≡ true
+    index-named : referenced set index ≡ true
     index-named = rw i at h
 
     no-entry : (language : ℕ) → bodyUnder set 3 index language ≡ none
-    no-entry language = ap (bodyIn set) (none-first (isAt 3 index language) (entries set) (λ e m. cases (isAt 3 index language e) (λ p. never (is-named language e p) (any-none (namedString set) (neither (any (namedString set) (entries set)) (leb 1 (iSerialNumber (deviceBody set))) z .0) m)) (λ p. p)))
+    no-entry language = ap (bodyIn set) (none-first (isAt 3 index language) (entries set) (λ e m. cases (isAt 3 index language e) (λ p. never (is-named language e p) (any-none (referencedString set) (neither (any (referencedString set) (entries set)) (leb 1 (iSerialNumber (deviceBody set))) z .0) m)) (λ p. p)))
       where
         above : (k : ℕ) → eqb k 0 ≡ false → leb 1 k ≡ true
         above k q = cases (leb 1 k) (λ p. p) (λ p. never (eq-eqb k 0 (omega (arith, leb-false 1 k p))) q)
 
-        is-named : (language : ℕ) (e : Entry) → isAt 3 index language e ≡ true → namedString set e ≡ true
+        is-named : (language : ℕ) (e : Entry) → isAt 3 index language e ≡ true → referencedString set e ≡ true
         is-named language e p =
             let (a, l) = both (eqb (e .kind) 3 && eqb (e .index) index) (eqb (e .language) language) p in
             let (k, j) = both (eqb (e .kind) 3) (eqb (e .index) index) a in
-            let n : named set (e .index) ≡ true = rw (eqb-true (e .index) index j) index-named in
+            let n : referenced set (e .index) ≡ true = rw (eqb-true (e .index) index j) index-named in
             joined (joined k (rw (eqb-true (e .index) index j) (above index i))) n
 
     no-serial : (leb 1 index && eqb index (iSerialNumber (deviceBody set))) ≡ false
     no-serial = cases (leb 1 index && eqb index (iSerialNumber (deviceBody set)))
         (λ p. let (l, e) = both (leb 1 index) (eqb index (iSerialNumber (deviceBody set))) p in
         let y : leb 1 (iSerialNumber (deviceBody set)) ≡ true = rw (eqb-true index (iSerialNumber (deviceBody set)) e) at l in
-        never y (neither (any (namedString set) (entries set)) (leb 1 (iSerialNumber (deviceBody set))) z .1))
+        never y (neither (any (referencedString set) (entries set)) (leb 1 (iSerialNumber (deviceBody set))) z .1))
         (λ p. p)
 
     unlisted-alike : (l m : ℕ) → SameAt (locateString v index l) (locateString w index m)
@@ -289,7 +288,7 @@ module _ (set serial : List ℕ) where
         (λ p. let (l, e) = both (leb 1 index) (eqb index (iSerialNumber (deviceBody set))) p in
         let i : eqb index 0 ≡ false = ne-eqb index 0 (λ z. omega (arith, leb-true 1 index l)) in
         let d = deviceBody set in
-        let r : named set index ≡ true = named-by set index ∙ or-left (any (entryNames set index) (entries set)) (or-right (eqb index (iManufacturer d)) (or-right (eqb index (iProduct d)) e)) in
+        let r : referenced set index ≡ true = named-by set index ∙ or-left (any (entryNames set index) (entries set)) (or-right (eqb index (iManufacturer d)) (or-right (eqb index (iProduct d)) e)) in
         never r (rw i at h))
         (λ p. p)
 

@@ -8,8 +8,7 @@ use Rattle.requests.specs.declared.Setup.{Setup}
 use Rattle.events.specs.declared.Answer.{Answer}
 use Rattle.events.specs.declared.Event.{Event}
 use Rattle.events.specs.declared.Event.the-variants.{Request, Malformed, StatusEnd, BusReset, Halt, PacketPassed, Power, Suspend, Resume, Wake}
-use Rattle.events.specs.Answer.{numberOf, bytesOf, partOf}
-use Rattle.events.specs.Places.{bytesIn}
+use Rattle.events.specs.Answer.{numberOf, bytesOf, partOf, bytesIn}
 use Rattle.octets.specs.Sentences.{any}
 use Rattle.sets.specs.Contents.{entries, isKind}
 use Rattle.trimming.specs.Trim.{kept}

@@ -4,12 +4,12 @@ use mathlib.Core.Path.{_≡_, refl}
 use mathlib.Core.List.{List, [], _∷_, _++_}
 use lib.ListN.{take}
 use Rattle.promises.specs.Examples.{bytes, computed, S}
-use Rattle.set_writer.specs.Writer.{contents, bodies, laid}
+use Rattle.set_writer.specs.Writer.{contents, bodyBytes, laid}
 use Rattle.dumps.specs.Dump.{flat, splitsAfter, bodiesAfter, namesFrom, blanked, zeroed, numbered, imported, exported, exporting, importing}
 
 -- a statement that says `unfolding parted` computes with the definitions of dumps
 unfoldable pub parted : ℕ
-unfolding flat splitsAfter bodiesAfter namesFrom blanked numbered contents bodies laid computed
+unfolding flat splitsAfter bodiesAfter namesFrom blanked numbered contents bodyBytes laid computed
 parted = 0
 
 -- the bench set's device and configuration, with references 1 to 5

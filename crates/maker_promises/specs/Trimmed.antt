@@ -20,7 +20,7 @@ use Rattle.records.specs.Fits.{fitsOn}
 use Rattle.events.specs.declared.Event.{Event}
 use Rattle.events.specs.Step.{step, event}
 use Rattle.sets.specs.Pieces.{Piece, piecesIn, kindOf}
-use Rattle.trimming.specs.Trim.{named, zeroStays, kept, trimmed, Trims}
+use Rattle.trimming.specs.Trim.{referenced, zeroStays, kept, trimmed, Trims}
 use Rattle.trimming.specs.Asked.{bodyUnder, left}
 use Rattle.maker_laws.specs.TrimRequests.{asksDropped, SaysSame}
 use Rattle.maker_laws.proofs.TrimAgain as again
@@ -41,7 +41,7 @@ module _ (set : List ℕ) where
   nothingElse = again.was-there set
 
   -- no string that a reference names goes
-  pub nothingNamedDropped : (p : Piece) → List·Memᴰ p (piecesIn set) → (kindOf 3 p && leb 1 (p .index) && named set (p .index)) ≡ true → List·Memᴰ p (piecesIn (trimmed set))
+  pub nothingNamedDropped : (p : Piece) → List·Memᴰ p (piecesIn set) → (kindOf 3 p && leb 1 (p .index) && referenced set (p .index)) ≡ true → List·Memᴰ p (piecesIn (trimmed set))
   nothingNamedDropped = again.nothing-named-dropped set
 
   -- what a request for a descriptor looks up: the same body, or none where the string was dropped

@@ -8,7 +8,7 @@ use Rattle.sets.specs.Opening.{lent, opening}
 use Rattle.events.specs.Answer.{numberOf}
 use Rattle.events.specs.Step.{step, setupEvent}
 use Rattle.sets.specs.Pieces.{piecesIn}
-use Rattle.set_writer.specs.Writer.{contents, bodies, laid}
+use Rattle.set_writer.specs.Writer.{contents, bodyBytes, laid}
 use Rattle.promises.specs.Examples.{bytes, computed, S, T}
 use Rattle.promises.specs.Inhabited.{acceptedT, bytesT, configured}
 use Rattle.trimming.specs.Trim.{trimmed}
@@ -17,7 +17,7 @@ use Rattle.maker_promises.specs.Trimmed.{sameStep}
 
 -- a statement that says `unfolding trimming` computes with the definitions of trimming
 unfoldable pub trimming : ℕ
-unfolding contents bodies laid computed
+unfolding contents bodyBytes laid computed
 trimming = 0
 
 -- S has no strings: nothing goes

@@ -5,11 +5,11 @@ use mathlib.Core.List.{List, [], _∷_, _++_}
 use lib.ListN.{take}
 use Rattle.descriptors.specs.Limits.{fullSpeed}
 use Rattle.promises.specs.Examples.{bytes, computed, S}
-use Rattle.set_writer.specs.Writer.{endsAfter, piecesAfter, insert, sortInto, contents, bodies, laid, setOf, writing}
+use Rattle.set_writer.specs.Writer.{endsAfter, piecesAfter, insert, sortInto, contents, bodyBytes, laid, setOf, writing}
 
 -- a statement that says `unfolding assembled` computes with the writer's definitions
 unfoldable pub assembled : ℕ
-unfolding endsAfter piecesAfter insert sortInto contents bodies laid computed
+unfolding endsAfter piecesAfter insert sortInto contents bodyBytes laid computed
 assembled = 0
 
 -- configuration, then device: type, index, language, length, body

@@ -6,7 +6,7 @@ use mathlib.Core.Bool.{Bool, true, false, _&&_, _||_, false≢true}
 use lib.Dec.{eqb, leb, ltb}
 use borrow.Author.Tests.{eqb-true, leb-true, ltb-true, lt-ltb}
 use Rattle.octets.specs.Sentences.{pick}
-use Rattle.packets.specs.Packets.{canCut, count, packetWhere, packet}
+use Rattle.packets.specs.Packets.{canCut, packetCount, packetWhere, packet}
 
 -- what holds of the four sizes holds of the size
 pub by-size : (P : ℕ → Type 0) → P 8 → P 16 → P 32 → P 64 → (r w p : ℕ) → canCut r w p ≡ true → P p
@@ -28,7 +28,7 @@ not-longer r w p = go (eqb p 8 || eqb p 16 || eqb p 32 || eqb p 64)
     go false h = absurd (false≢true h)
 
 Begins : ℕ → ℕ → ℕ → ℕ → Type 0
-Begins r w k p = k < count r w p → k * p ≤ r
+Begins r w k p = k < packetCount r w p → k * p ≤ r
 
 begins-at : (r w k p : ℕ) → (k < (r + p - 1) / p → k * p ≤ r) → (k < r / p + 1 → k * p ≤ r) → Begins r w k p
 unfolding Begins
@@ -38,7 +38,7 @@ begins-at r w k p f g = go (eqb r w)
     go true h = f h
     go false h = g h
 
-pub begins : (r w p k : ℕ) → canCut r w p ≡ true → k < count r w p → k * p ≤ r
+pub begins : (r w p k : ℕ) → canCut r w p ≡ true → k < packetCount r w p → k * p ≤ r
 unfolding Begins
 begins r w p k h =
     by-size (Begins r w k)
@@ -51,10 +51,10 @@ begins r w p k h =
 -- every packet lies inside the reply
 pub inside : (r w p k : ℕ) → packet r w p k .offset + packet r w p k .length ≤ r
 unfolding packet
-inside r w p k = go (canCut r w p) refl (ltb k (count r w p)) refl
+inside r w p k = go (canCut r w p) refl (ltb k (packetCount r w p)) refl
   where
-    go : (b : Bool) → canCut r w p ≡ b → (t : Bool) → ltb k (count r w p) ≡ t → packetWhere (b && t) r p k .offset + packetWhere (b && t) r p k .length ≤ r
-    go true e true f = let h = begins r w p k e (ltb-true k (count r w p) f) in omega arith
+    go : (b : Bool) → canCut r w p ≡ b → (t : Bool) → ltb k (packetCount r w p) ≡ t → packetWhere (b && t) r p k .offset + packetWhere (b && t) r p k .length ≤ r
+    go true e true f = let h = begins r w p k e (ltb-true k (packetCount r w p) f) in omega arith
     go true e false f = omega arith
     go false e t f = omega arith
 
@@ -62,11 +62,11 @@ pub bounded : (r w p : ℕ) → canCut r w p ≡ true → (8 ≤ p) × (p ≤ 64
 bounded = by-size (λ p. (8 ≤ p) × (p ≤ 64)) (omega arith, omega arith) (omega arith, omega arith) (omega arith, omega arith) (omega arith, omega arith)
 
 -- what the code makes of a packet below the count, and of every other
-pub is-packet : (r w p k l : ℕ) → canCut r w p ≡ true → k < count r w p → l ≡ min p (r - k * p)
+pub is-packet : (r w p k l : ℕ) → canCut r w p ≡ true → k < packetCount r w p → l ≡ min p (r - k * p)
     → record { number = 0; offset = k * p; length = l } ≡ packet r w p k
 unfolding packet
-is-packet r w p k l h b q = rw (h, lt-ltb k (count r w p) b, q)
+is-packet r w p k l h b q = rw (h, lt-ltb k (packetCount r w p) b, q)
 
-pub is-refused : (r w p k : ℕ) → canCut r w p && ltb k (count r w p) ≡ false → record { number = 15; offset = 0; length = 0 } ≡ packet r w p k
+pub is-refused : (r w p k : ℕ) → canCut r w p && ltb k (packetCount r w p) ≡ false → record { number = 15; offset = 0; length = 0 } ≡ packet r w p k
 unfolding packet
 is-refused r w p k h = rw h

@@ -7,8 +7,8 @@ use Rattle.octets.specs.Sentences.{pick, upTo}
 use Rattle.packets.specs.declared.Packet.{Packet}
 
 -- "if r = w the count is r / p rounded up; if r < w it is r / p rounded down, plus 1"
-abbrev pub count : ℕ → ℕ → ℕ → ℕ
-count r w p = pick (eqb r w) ((r + p - 1) / p) (r / p + 1)
+abbrev pub packetCount : ℕ → ℕ → ℕ → ℕ
+packetCount r w p = pick (eqb r w) ((r + p - 1) / p) (r / p + 1)
 
 -- "size not 8, 16, 32, 64; reply longer than wLength"
 abbrev pub canCut : ℕ → ℕ → ℕ → Bool
@@ -20,8 +20,8 @@ packetWhere true r p k = record { number = 0; offset = k * p; length = min p (r 
 packetWhere false r p k = record { number = 15; offset = 0; length = 0 }
 
 unfoldable pub packet : ℕ → ℕ → ℕ → ℕ → Packet
-packet r w p k = packetWhere (canCut r w p && ltb k (count r w p)) r p k
+packet r w p k = packetWhere (canCut r w p && ltb k (packetCount r w p)) r p k
 
 -- all packets of a reply, in order
 abbrev pub packets : ℕ → ℕ → ℕ → List Packet
-packets r w p = map (packet r w p) (upTo (count r w p))
+packets r w p = map (packet r w p) (upTo (packetCount r w p))

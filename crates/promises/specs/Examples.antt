@@ -13,7 +13,7 @@ use Rattle.sets.specs.Opening.{Board, lent, goodDevices, numberedFrom, goodConf
 use Rattle.sets.specs.Pair.{same, qualifies, mirrorsAll, mirrors, openingTwo}
 use Rattle.sets.specs.View.{viewOf}
 use Rattle.sets.specs.Pieces.{Piece}
-use Rattle.set_writer.specs.Writer.{contents, bodies, laid}
+use Rattle.set_writer.specs.Writer.{contents, bodyBytes, laid}
 use Rattle.records.specs.Image.{fourBytes, bytesOfFour, deviceOf, imageOf}
 use Rattle.records.specs.Fits.{fits}
 use Rattle.requests.specs.Table.{refusal}
@@ -67,7 +67,7 @@ string text = (2 + length text) ∷ 3 ∷ text
 
 -- a statement that says `unfolding computed` computes with all the definitions
 unfoldable pub computed : ℕ
-unfolding every any only first pairs neighbours below from cutAfter descriptorsOf wellCut grouped endpointsOf endsAt endsWithEndpoint goodDescriptors goodConfiguration groupsOf configurationOf configurationReferences cleared entriesFrom goodFrame endToEnd goodContents words languages references goodStrings goodDevices numberedFrom goodConfigurations goodBlock opening same qualifies mirrorsAll mirrors openingTwo viewOf fourBytes bytesOfFour deviceOf imageOf fits refusal getStatus clearFeature setFeature setAddress locate getDescriptor getConfiguration setConfiguration getInterface setInterface request answerSetup statusEnd halt packetPassed step event opened concerns packet digits fields listing flatMap contents bodies laid
+unfolding every any only first pairs neighbours below from cutAfter descriptorsOf wellCut grouped endpointsOf endsAt endsWithEndpoint goodDescriptors goodConfiguration groupsOf configurationOf configurationReferences cleared entriesFrom goodFrame endToEnd goodContents words languages references goodStrings goodDevices numberedFrom goodConfigurations goodBlock opening same qualifies mirrorsAll mirrors openingTwo viewOf fourBytes bytesOfFour deviceOf imageOf fits refusal getStatus clearFeature setFeature setAddress locate getDescriptor getConfiguration setConfiguration getInterface setInterface request answerSetup statusEnd halt packetPassed step event opened concerns packet digits fields listing flatMap contents bodyBytes laid
 computed = 0
 
 -- ---- the bench set S, byte for byte as document 01 prints it

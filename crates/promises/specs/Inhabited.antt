@@ -19,7 +19,7 @@ use Rattle.events.specs.declared.Event.the-variants.{StatusEnd, BusReset, Halt}
 use Rattle.events.specs.declared.Answer.the-variants.{Refused, SetPart, SerialPart}
 use Rattle.events.specs.Answer.{numberOf, bytesOf, partOf}
 use Rattle.events.specs.Step.{step, event, opened, setupEvent}
-use Rattle.requests.specs.Setup.{setupOf}
+use Rattle.requests.specs.Table.{setupOf}
 use Rattle.packets.specs.Packets.{canCut}
 use Rattle.promises.specs.Examples.{bytes, computed, S, T}
 use Rattle.octets.specs.Octets.{Bytes}

@@ -11,7 +11,7 @@ use Rattle.records.specs.declared.Device.{Device}
 use Rattle.records.specs.Device.{inAddress, inConfigured, zeros, fresh, withAddress, withConfiguration, withEndpoints}
 use Rattle.records.specs.Current.{currentEndpoints}
 use Rattle.requests.specs.declared.Setup.{Setup}
-use Rattle.requests.specs.Setup.{setupOf}
+use Rattle.requests.specs.Table.{setupOf}
 use Rattle.events.specs.declared.Outcome.{Outcome}
 use Rattle.events.specs.declared.Event.the-variants.{Request}
 use Rattle.events.specs.Answer.{done, refused}

@@ -14,7 +14,7 @@ use Rattle.octets.specs.Octets.{part}
 use Rattle.octets.specs.Sentences.{pick, from}
 use Rattle.octets.proofs.Sentences.{cases}
 use Rattle.packets.specs.declared.Packet.{Packet}
-use Rattle.packets.specs.Packets.{count, canCut, packetWhere, packet, packets}
+use Rattle.packets.specs.Packets.{packetCount, canCut, packetWhere, packet, packets}
 use Rattle.packets.proofs.Sizes.{by-size}
 use Rattle.promises.specs.Examples.{computed}
 
@@ -23,21 +23,21 @@ abbrev pub joined : List ℕ → List Packet → List ℕ
 joined reply ps = flatMap (λ q. part reply (q .offset) (q .length)) ps
 
 -- ---- each packet
-below-count : (r w p k : ℕ) → canCut r w p ≡ true → k < count r w p → packet r w p k ≡ record { number = 0; offset = k * p; length = min p (r - k * p) }
+below-count : (r w p k : ℕ) → canCut r w p ≡ true → k < packetCount r w p → packet r w p k ≡ record { number = 0; offset = k * p; length = min p (r - k * p) }
 unfolding packet
-below-count r w p k h b = rw (h, lt-ltb k (count r w p) b)
+below-count r w p k h b = rw (h, lt-ltb k (packetCount r w p) b)
 
 -- "at most p long"
 pub at-most : (r w p k : ℕ) → packet r w p k .length ≤ p
 unfolding packet
-at-most r w p k = go (canCut r w p && ltb k (count r w p))
+at-most r w p k = go (canCut r w p && ltb k (packetCount r w p))
   where
     go : (b : Bool) → packetWhere b r p k .length ≤ p
     go true = omega arith
     go false = omega arith
 
 Whole : ℕ → ℕ → ℕ → ℕ → Type 0
-Whole r w k p = suc k < count r w p → suc k * p ≤ r
+Whole r w k p = suc k < packetCount r w p → suc k * p ≤ r
 
 whole-at : (r w k p : ℕ) → (suc k < (r + p - 1) / p → suc k * p ≤ r) → (suc k < r / p + 1 → suc k * p ≤ r) → Whole r w k p
 unfolding Whole
@@ -48,7 +48,7 @@ whole-at r w k p f g = go (eqb r w)
     go false h = g h
 
 -- a packet that is not the last is p long
-pub all-but-the-last : (r w p k : ℕ) → canCut r w p ≡ true → suc k < count r w p → packet r w p k .length ≡ p
+pub all-but-the-last : (r w p k : ℕ) → canCut r w p ≡ true → suc k < packetCount r w p → packet r w p k .length ≡ p
 unfolding Whole
 all-but-the-last r w p k h b =
     let whole = by-size (Whole r w k)
@@ -64,18 +64,18 @@ all-but-the-last r w p k h b =
 Short : ℕ → ℕ → Type 0
 Short r p = r - r / p * p < p
 
-pub ends-short : (r w p : ℕ) → canCut r w p ≡ true → r < w → (count r w p ≡ r / p + 1) × (packet r w p (r / p) .length < p)
+pub ends-short : (r w p : ℕ) → canCut r w p ≡ true → r < w → (packetCount r w p ≡ r / p + 1) × (packet r w p (r / p) .length < p)
 unfolding Short
 ends-short r w p h l =
     let n : eqb r w ≡ false = cases (eqb r w) (λ e. let q = eqb-true r w e in absurd (omega arith)) (λ e. e) in
-    let c : count r w p ≡ r / p + 1 = rw n in
-    let b : r / p < count r w p = omega (arith, c) in
+    let c : packetCount r w p ≡ r / p + 1 = rw n in
+    let b : r / p < packetCount r w p = omega (arith, c) in
     let s = by-size (Short r) (omega arith) (omega arith) (omega arith) (omega arith) r w p h in
     (c, rw (below-count r w p (r / p) h b) (omega arith))
 
 -- ---- all of them
 Covers : ℕ → ℕ → ℕ → Type 0
-Covers r w p = r ≤ count r w p * p
+Covers r w p = r ≤ packetCount r w p * p
 
 covers-at : (r w p : ℕ) → r ≤ (r + p - 1) / p * p → r ≤ (r / p + 1) * p → Covers r w p
 unfolding Covers
@@ -106,11 +106,11 @@ least p l = go (decLe p (length l))
         rw e (take-all (length l) l (omega arith) ∙ sym (take-all p l m))
 
 -- the packets from the k-th on are what is left of the reply there
-left-from : (reply : List ℕ) (w p k n : ℕ) → canCut (length reply) w p ≡ true → k + n ≡ count (length reply) w p
+left-from : (reply : List ℕ) (w p k n : ℕ) → canCut (length reply) w p ≡ true → k + n ≡ packetCount (length reply) w p
     → joined reply (map (packet (length reply) w p) (from k n)) ≡ drop (k * p) reply
 unfolding flatMap from Covers
 left-from reply w p k zero h e =
-    let q : k ≡ count (length reply) w p = omega arith in
+    let q : k ≡ packetCount (length reply) w p = omega arith in
     let c : length reply ≤ k * p = rw q (covers (length reply) w p h) in
     sym (drop-of-length-le reply c)
 left-from reply w p k (suc n) h e =
@@ -121,7 +121,7 @@ left-from reply w p k (suc n) h e =
 
 -- a reply's packets put together in order are the reply
 pub whole-reply : (reply : List ℕ) (w p : ℕ) → canCut (length reply) w p ≡ true → joined reply (packets (length reply) w p) ≡ reply
-whole-reply reply w p h = left-from reply w p 0 (count (length reply) w p) h (omega arith) ∙ rw (zero-mul p)
+whole-reply reply w p h = left-from reply w p 0 (packetCount (length reply) w p) h (omega arith) ∙ rw (zero-mul p)
 
 -- ---- inhabited: 16 bytes at size 8, asked exactly (two packets) and asked longer (a third, empty one)
 pub asked-exactly : map (λ q. q .length) (packets 16 16 8) ≡ 8 ∷ 8 ∷ []

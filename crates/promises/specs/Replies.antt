@@ -27,8 +27,7 @@ use Rattle.records.proofs.InUse.{rowFor, opensFor}
 use Rattle.records.specs.Image.{deviceOf}
 use Rattle.records.specs.Fits.{fitsOn}
 use Rattle.requests.specs.declared.Setup.{Setup}
-use Rattle.requests.specs.Setup.{recipient, setupOf}
-use Rattle.requests.specs.Table.{table, refusal, largestIndex}
+use Rattle.requests.specs.Table.{recipient, setupOf, requestTable, refusal, largestIndex}
 use Rattle.events.specs.declared.Event.{Event}
 use Rattle.events.specs.declared.Event.the-variants.{Request, Malformed}
 use Rattle.events.specs.declared.facts.Located.{Located}
@@ -49,10 +48,10 @@ abbrev pub Within : ℕ → Outcome → Type 0
 Within w o = length (bytesOf (o .answer)) + partOf (o .answer) .length ≤ w
 
 -- a code whose rows all ask for at least n bytes
-asked : (code n : ℕ) → every (λ r. eqb (r .code) code ⇒ leb n (r .shortest)) table ≡ true → (state : ℕ) (s : Setup) → refusal state s ≡ 0 → s .bRequest ≡ code → n ≤ s .wLength
+asked : (code n : ℕ) → every (λ r. eqb (r .bRequest) code ⇒ leb n (r .shortest)) requestTable ≡ true → (state : ℕ) (s : Setup) → refusal state s ≡ 0 → s .bRequest ≡ code → n ≤ s .wLength
 asked code n all state s p c =
-    let (r, f, k, i, h) = ruled (λ r. eqb (r .code) code ⇒ leb n (r .shortest)) all state s p in
-    let a = leb-true n (r .shortest) (if-then (eqb (r .code) code) (leb n (r .shortest)) f (eq-eqb (r .code) code (k ∙ c))) in
+    let (r, f, k, i, h) = ruled (λ r. eqb (r .bRequest) code ⇒ leb n (r .shortest)) all state s p in
+    let a = leb-true n (r .shortest) (if-then (eqb (r .bRequest) code) (leb n (r .shortest)) f (eq-eqb (r .bRequest) code (k ∙ c))) in
     let b = leb-true (r .shortest) (s .wLength) (conjunct 2 (leb (s .wValue) (r .value) ∷ leb (s .wIndex) (largestIndex r (s .wValue)) ∷ leb (r .shortest) (s .wLength) ∷ leb (s .wLength) (r .longest) ∷ []) h) in
     omega arith
 

@@ -22,8 +22,7 @@ use Rattle.records.specs.Device.{nothing, atHighSpeed, fresh, testWaiting, test
 use Rattle.records.specs.Current.{viewAt, selected, endpointAt}
 use Rattle.records.specs.Fits.{fitsOn}
 use Rattle.requests.specs.declared.Setup.{Setup}
-use Rattle.requests.specs.Setup.{recipient}
-use Rattle.requests.specs.Table.{largestIndex}
+use Rattle.requests.specs.Table.{recipient, largestIndex}
 use Rattle.events.specs.declared.Answer.{Answer}
 use Rattle.events.specs.declared.Event.{Event}
 use Rattle.events.specs.declared.Event.the-variants.{Request, Malformed, StatusEnd, BusReset, Halt, PacketPassed, Power, Suspend, Resume, Wake}
@@ -164,8 +163,8 @@ ofRow paired d s p = cases (asksTestMode paired s)
     (λ t. let (k, c) = test-code paired s t in (λ three zero. eq-eqb _ 0 k, λ five. never five (ap (λ x. eqb x 0x05) c)))
     (λ t.
     let (r, m, k, c, i, h) = let-through (d .state) s (rw t at p) in
-    let device = every-member (λ r. (eqb (r .code) 3 && eqb (r .kind % 32) 0) ⇒ eqb (r .kind) 0) refl m in
-    let address = every-member (λ r. eqb (r .code) 5 ⇒ leb (r .value) 127) refl m in (
+    let device = every-member (λ r. (eqb (r .bRequest) 3 && eqb (r .bmRequestType % 32) 0) ⇒ eqb (r .bmRequestType) 0) refl m in
+    let address = every-member (λ r. eqb (r .bRequest) 5 ⇒ leb (r .value) 127) refl m in (
       λ three zero. rw k at (if-then _ _ device (joined (ap (λ x. eqb x 3) c ∙ three) (ap (λ x. eqb (x % 32) 0) k ∙ zero))),
       λ five.
           let l = leb-true (r .value) 127 (if-then _ _ address (ap (λ x. eqb x 5) c ∙ five)) in

@@ -18,7 +18,7 @@ use Rattle.records.specs.Device.{nothing, atHighSpeed, testWaiting, testWaits, 
 use Rattle.records.specs.Current.{viewAt, endpointAt}
 use Rattle.records.specs.Fits.{fitsOn}
 use Rattle.requests.specs.declared.Setup.{Setup}
-use Rattle.requests.specs.Setup.{setupOf}
+use Rattle.requests.specs.Table.{setupOf}
 use Rattle.events.specs.declared.Event.{Event}
 use Rattle.events.specs.declared.Event.the-variants.{Request, Malformed, StatusEnd, BusReset, Halt, PacketPassed, Power, Suspend, Resume, Wake}
 use Rattle.events.specs.declared.Outcome.{Outcome}

@@ -7,15 +7,15 @@ use mathlib.Core.Path.{_≡_, refl, sym, ap, subst, _∙_}
 use mathlib.Core.Bool.{Bool, true, false}
 use mathlib.Core.List.{List, [], _∷_, _++_, append-assoc, append-nil}
 use lib.ListN.{length, set, take, drop, replicate, getD, length-append, length-take, length-set, drop-of-length-le}
-use lib.Seq.{take-at, take-all, drop-at, drop-drop}
+use lib.Seq.{take-at, take-all, drop-at}
 use lib.Dec.{ltb}
 use Rattle.octets.specs.Sentences.{pick}
-use borrow.Author.Tests.{lt-ltb, le-ltb}
+use borrow.Author.Tests.{lt-ltb}
 use borrow.Rule.Slice.PartMut.{putMid}
 use Rattle.records.specs.declared.Device.{Device}
 use Rattle.records.specs.declared.Change.{Change}
 use Rattle.records.specs.declared.Change.the-variants.{Kept, Waiting, Wakeup, Power, Suspended, Address, Configuration, Setting, Endpoints, Passed, Fresh, TestMode}
-use Rattle.records.specs.Device.{awake, withConfiguration, withEndpoints}
+use Rattle.records.specs.Device.{withConfiguration, withEndpoints}
 use Rattle.records.specs.Image.{bytesOfFour, imageOf}
 use Rattle.records.specs.Change.{withSetting, changed, after, waitsAfter, settledWith}
 use Rattle.records.proofs.Image.{front}

@@ -1,7 +1,7 @@
 // The device record: what a board keeps between events.
 use descriptors::survey::Survey;
 ghost use mathlib.Core.Path.{_≡_};
-ghost use mathlib.Core.Bool.{true, false};
+ghost use mathlib.Core.Bool.{false};
 ghost use Prim.Native.Nat.{_<_};
 ghost use lib.ListN.{length};
 ghost use Rattle.descriptors.specs.declared.survey.Asked.{Asked};
@@ -13,6 +13,46 @@ ghost use Rattle.records.specs.Change.{valued, misfit, recordIn};
 ghost use Rattle.records.specs.Fits.{inRange, goodWaiting, goodState, fits};
 
 pub mod renewal;
+
+// How many bytes an image has.
+pub const IMAGE_LENGTH: usize = 32;
+
+// A device's states.
+pub const DEFAULT: u8 = 0;
+
+pub const ADDRESS: u8 = 1;
+
+pub const CONFIGURED: u8 = 2;
+
+// The largest address that SET_ADDRESS gives.
+const LAST_ADDRESS: u8 = 127;
+
+// Nothing waits for the status end.
+pub const NOTHING: u8 = 255;
+
+// The speed of the set in use.
+pub const SPEED_FULL: u8 = 0;
+
+pub const SPEED_HIGH: u8 = 1;
+
+// Test modes have the selectors 1 to 5. One waits as 128 plus its selector; once entered, the speed is 1 plus 16 times it.
+pub const LAST_TEST_MODE: u8 = 5;
+
+pub const TEST_WAITING: u8 = 128;
+
+pub const TEST_ENTERED: u8 = 16;
+
+const FIRST_TEST_WAITS: u8 = TEST_WAITING + 1;
+
+const LAST_TEST_WAITS: u8 = TEST_WAITING + LAST_TEST_MODE;
+
+const LAST_TEST_ENTERED: u8 = SPEED_HIGH + TEST_ENTERED * LAST_TEST_MODE;
+
+// A speed from here on: a test mode is entered.
+pub const IN_TEST_MODE: u8 = 2;
+
+// No set has this state.
+const NO_STATE: u8 = 255;
 
 // In the order of its 32-byte image. state: 0 Default, 1 Address, 2 Configured; waiting: the address that the next status end
 // applies, or 128 plus the selector of the test mode that it enters, 255 for none; power: 0 bus, 1 own supply; suspended: 0 or 1; speed: 0 full, 1
@@ -73,14 +113,14 @@ pub fn fresh() -> Device
     ensures { λ r. ⌜ r ≡ fresh ⌝ }
 {
     Device {
-        state: 0,
+        state: DEFAULT,
         address: 0,
-        waiting: 255,
+        waiting: NOTHING,
         configuration: 0,
         wakeup: 0,
         power: 0,
         suspended: 0,
-        speed: 0,
+        speed: SPEED_FULL,
         alternates: [0; 16],
         halts: 0,
         toggles: 0,
@@ -92,26 +132,9 @@ pub fn settled(device: Device) -> Device
     ensures { λ r. ⌜ r ≡ settled device ⌝ }
 {
     let mut next = device;
-    next.waiting = 255;
+    next.waiting = NOTHING;
     next.suspended = 0;
     next
-}
-
-// Whether two slices are the same.
-pub fn same(was: &[u8], next: &[u8]) -> bool
-    ensures { λ r. ⌜ (r ≡ true → now (was .entry) ≡ now (next .entry)) × (now (was .entry) ≡ now (next .entry) → r ≡ true) ⌝ }
-{
-    if was.len() != next.len() {
-        return false;
-    }
-    let mut k = was.len();
-    while 0 < k {
-        k -= 1;
-        if was[k] != next[k] {
-            return false;
-        }
-    }
-    true
 }
 
 // The number of four bytes at k.
@@ -158,7 +181,7 @@ fn misfit() -> Device
     ensures { λ r. ⌜ r ≡ misfit ⌝ }
 {
     let mut none = fresh();
-    none.state = 255;
+    none.state = NO_STATE;
     none
 }
 
@@ -166,7 +189,7 @@ fn misfit() -> Device
 pub fn read(image: &[u8]) -> Device
     ensures { λ r. ⌜ r ≡ recordIn (now (image .entry)) ⌝ }
 {
-    if image.len() == 32 {
+    if image.len() == IMAGE_LENGTH {
         return load(image);
     }
     misfit()
@@ -210,37 +233,39 @@ fn in_range(paired: bool, device: Device) -> bool
     ensures { λ r. ⌜ r ≡ inRange paired device ⌝ }
 {
     let speed = device.speed;
-    (device.state <= 2)
+    (device.state <= CONFIGURED)
         & (device.wakeup <= 1)
         & (device.power <= 1)
         & (device.suspended <= 1)
-        & ((speed == 0) | (paired & (speed % 16 == 1) & (speed <= 81)))
+        & ((speed == SPEED_FULL)
+            | (paired & (speed % TEST_ENTERED == SPEED_HIGH) & (speed <= LAST_TEST_ENTERED)))
 }
 
 // A test mode waits: 128 plus its selector.
 pub fn test_waits(device: Device) -> bool
     ensures { λ r. ⌜ r ≡ testWaits device ⌝ }
 {
-    (129 <= device.waiting) & (device.waiting <= 133)
+    (FIRST_TEST_WAITS <= device.waiting) & (device.waiting <= LAST_TEST_WAITS)
 }
 
 // Nothing waits; or an address, before a test mode is entered; or a test mode, at high speed.
 fn good_waiting(device: Device) -> bool
     ensures { λ r. ⌜ r ≡ goodWaiting device ⌝ }
 {
-    (device.waiting == 255)
-        | ((device.waiting <= 127) & !(2 <= device.speed))
-        | (test_waits(device) & (device.speed == 1))
+    (device.waiting == NOTHING)
+        | ((device.waiting <= LAST_ADDRESS) & !(IN_TEST_MODE <= device.speed))
+        | (test_waits(device) & (device.speed == SPEED_HIGH))
 }
 
 // What each state asks of the address, the configuration and what waits; `there`: the set has a configuration with the record's value.
 fn good_state(there: bool, device: Device) -> bool
     ensures { λ r. ⌜ ((v : View) → there ≡ hasValue (record { 0 = device .configuration }) (v .configurations) → r ≡ goodState v device) ⌝ }
 {
-    let in_use = (1 <= device.address) & (device.address <= 127);
-    (!(device.state == 0) | ((device.address == 0) & (device.configuration == 0)))
-        & (!(device.state == 1) | (in_use & (device.configuration == 0)))
-        & (!(device.state == 2) | (in_use & there & ((device.waiting == 255) | test_waits(device))))
+    let in_use = (1 <= device.address) & (device.address <= LAST_ADDRESS);
+    (!(device.state == DEFAULT) | ((device.address == 0) & (device.configuration == 0)))
+        & (!(device.state == ADDRESS) | (in_use & (device.configuration == 0)))
+        & (!(device.state == CONFIGURED)
+            | (in_use & there & ((device.waiting == NOTHING) | test_waits(device))))
 }
 
 // Whether a record fits. `survey` is of the configuration with the record's value, of no descriptors if none has it; `there`: the set has one; `waking`: some configuration supports remote wakeup; `paired`: two sets are lent.

@@ -1,5 +1,7 @@
 // The image renewed where it stands: of what an event changes, only bytes that differ are written.
 use crate::Change;
+use crate::IMAGE_LENGTH;
+use crate::NOTHING;
 ghost use mathlib.Core.Path.{_≡_};
 ghost use Prim.Native.Nat.{_<_};
 ghost use lib.ListN.{length, set, replicate};
@@ -7,6 +9,29 @@ ghost use Rattle.records.specs.declared.Device.{Device};
 ghost use Rattle.records.specs.Device.{withAddress, withConfiguration, withEndpoints, withPower, withSpeed, fresh};
 ghost use Rattle.records.specs.Image.{bytesOfFour, imageOf, deviceOf};
 ghost use Rattle.records.specs.Change.{withSetting, waitsAfter, settledWith, changed, renewed};
+
+// Where the record's fields lie in its image.
+const STATE: usize = 0;
+
+const ADDRESS: usize = 1;
+
+const WAITING: usize = 2;
+
+const CONFIGURATION: usize = 3;
+
+const WAKEUP: usize = 4;
+
+const POWER: usize = 5;
+
+const SUSPENDED: usize = 6;
+
+const SPEED: usize = 7;
+
+const ALTERNATES: usize = 8;
+
+const HALTS: usize = 24;
+
+const TOGGLES: usize = 28;
 
 // A byte gets a value: it is written if it has another.
 fn put(bytes: &mut [u8], k: usize, value: u8)
@@ -57,7 +82,7 @@ pub fn put_settings(settings: &mut [u8; 16], image: &[u8; 32])
     ensures { λ _. ⌜ now (settings .exit) ≡ deviceOf (now (image .entry)) .alternates ⌝ }
 {
     let whole = &image[..];
-    put_all(&mut settings[..], &whole[8..24]);
+    put_all(&mut settings[..], &whole[ALTERNATES..HALTS]);
 }
 
 // What waits once a setup has settled the record and changed it: asked before anything is written, so that no byte is written twice.
@@ -65,29 +90,29 @@ fn waits_after(change: Change) -> u8
     ensures { λ r. ⌜ r ≡ waitsAfter change ⌝ }
 {
     match change {
-        Change::Kept => 255,
+        Change::Kept => NOTHING,
         Change::Waiting(address) => address,
-        Change::Wakeup(_) => 255,
-        Change::Power(_) => 255,
-        Change::Suspended(_) => 255,
+        Change::Wakeup(_) => NOTHING,
+        Change::Power(_) => NOTHING,
+        Change::Suspended(_) => NOTHING,
         Change::Address {
             state: _,
             address: _,
-        } => 255,
-        Change::Configuration { state: _, value: _ } => 255,
+        } => NOTHING,
+        Change::Configuration { state: _, value: _ } => NOTHING,
         Change::Setting {
             interface: _,
             alternate: _,
             halts: _,
             toggles: _,
-        } => 255,
+        } => NOTHING,
         Change::Endpoints {
             halts: _,
             toggles: _,
-        } => 255,
-        Change::Passed { toggles: _ } => 255,
-        Change::Fresh { power: _, speed: _ } => 255,
-        Change::TestMode(_) => 255,
+        } => NOTHING,
+        Change::Passed { toggles: _ } => NOTHING,
+        Change::Fresh { power: _, speed: _ } => NOTHING,
+        Change::TestMode(_) => NOTHING,
     }
 }
 
@@ -97,8 +122,8 @@ fn settle(image: &mut [u8], settles: bool, waits: u8)
     ensures { λ _. ⌜ ((d : Device) → now (image .entry) ≡ imageOf d → now (image .exit) ≡ imageOf (settledWith settles waits d)) ⌝ }
 {
     if settles {
-        put(image, 2, waits);
-        put(image, 6, 0);
+        put(image, WAITING, waits);
+        put(image, SUSPENDED, 0);
     }
 }
 
@@ -107,9 +132,9 @@ fn put_address(image: &mut [u8], state: u8, address: u8)
     requires { ⌜ length (now image) ≡ 32 ⌝ }
     ensures { λ _. ⌜ ((d : Device) → now (image .entry) ≡ imageOf d → now (image .exit) ≡ imageOf (withAddress state address d)) ⌝ }
 {
-    put(image, 0, state);
-    put(image, 1, address);
-    put(image, 2, 255);
+    put(image, STATE, state);
+    put(image, ADDRESS, address);
+    put(image, WAITING, NOTHING);
 }
 
 // Another state and configuration; every setting, halt and toggle becomes 0.
@@ -117,9 +142,9 @@ fn put_configuration(image: &mut [u8], state: u8, value: u8)
     requires { ⌜ length (now image) ≡ 32 ⌝ }
     ensures { λ _. ⌜ ((d : Device) → now (image .entry) ≡ imageOf d → now (image .exit) ≡ imageOf (withConfiguration state value d)) ⌝ }
 {
-    put(image, 0, state);
-    put(image, 3, value);
-    clear(&mut image[8..32]);
+    put(image, STATE, state);
+    put(image, CONFIGURATION, value);
+    clear(&mut image[ALTERNATES..IMAGE_LENGTH]);
 }
 
 // Another setting of one interface.
@@ -129,7 +154,7 @@ fn put_setting(image: &mut [u8], interface: u8, alternate: u8)
         → now (image .exit) ≡ imageOf (withEndpoints (withSetting interface alternate (d .alternates)) (d .halts) (d .toggles) d)) ⌝ }
 {
     if interface < 16 {
-        put(&mut image[8..24], interface as usize, alternate);
+        put(&mut image[ALTERNATES..HALTS], interface as usize, alternate);
     }
 }
 
@@ -138,8 +163,8 @@ fn put_endpoints(image: &mut [u8], halts: u32, toggles: u32)
     requires { ⌜ length (now image) ≡ 32 ⌝ }
     ensures { λ _. ⌜ ((d : Device) → length (d .alternates) ≡ 16 → now (image .entry) ≡ imageOf d → now (image .exit) ≡ imageOf (withEndpoints (d .alternates) halts toggles d)) ⌝ }
 {
-    put_four(&mut image[24..28], halts);
-    put_four(&mut image[28..32], toggles);
+    put_four(&mut image[HALTS..TOGGLES], halts);
+    put_four(&mut image[TOGGLES..IMAGE_LENGTH], toggles);
 }
 
 // The fresh record, but for its power source and its speed.
@@ -147,12 +172,12 @@ fn put_fresh(image: &mut [u8], power: u8, speed: u8)
     requires { ⌜ length (now image) ≡ 32 ⌝ }
     ensures { λ _. ⌜ ((d : Device) → now (image .entry) ≡ imageOf d → now (image .exit) ≡ imageOf (withSpeed speed (withPower power fresh))) ⌝ }
 {
-    put_address(image, 0, 0);
-    put_configuration(image, 0, 0);
-    put(image, 4, 0);
-    put(image, 5, power);
-    put(image, 6, 0);
-    put(image, 7, speed);
+    put_address(image, crate::DEFAULT, 0);
+    put_configuration(image, crate::DEFAULT, 0);
+    put(image, WAKEUP, 0);
+    put(image, POWER, power);
+    put(image, SUSPENDED, 0);
+    put(image, SPEED, speed);
 }
 
 // What an event changes.
@@ -162,10 +187,10 @@ fn apply(image: &mut [u8], change: Change)
 {
     match change {
         Change::Kept => {}
-        Change::Waiting(address) => put(image, 2, address),
-        Change::Wakeup(on) => put(image, 4, on),
-        Change::Power(source) => put(image, 5, source),
-        Change::Suspended(on) => put(image, 6, on),
+        Change::Waiting(address) => put(image, WAITING, address),
+        Change::Wakeup(on) => put(image, WAKEUP, on),
+        Change::Power(source) => put(image, POWER, source),
+        Change::Suspended(on) => put(image, SUSPENDED, on),
         Change::Address { state, address } => put_address(image, state, address),
         Change::Configuration { state, value } => put_configuration(image, state, value),
         Change::Setting {
@@ -179,13 +204,13 @@ fn apply(image: &mut [u8], change: Change)
         }
         Change::Endpoints { halts, toggles } => put_endpoints(image, halts, toggles),
         Change::Passed { toggles } => {
-            put(image, 6, 0);
-            put_four(&mut image[28..32], toggles);
+            put(image, SUSPENDED, 0);
+            put_four(&mut image[TOGGLES..IMAGE_LENGTH], toggles);
         }
         Change::Fresh { power, speed } => put_fresh(image, power, speed),
         Change::TestMode(speed) => {
-            put(image, 2, 255);
-            put(image, 7, speed);
+            put(image, WAITING, NOTHING);
+            put(image, SPEED, speed);
         }
     }
 }
@@ -194,7 +219,7 @@ fn apply(image: &mut [u8], change: Change)
 pub fn renew(image: &mut [u8], settles: bool, change: Change)
     ensures { λ _. ⌜ now (image .exit) ≡ renewed settles change (now (image .entry)) ⌝ }
 {
-    if image.len() == 32 {
+    if image.len() == IMAGE_LENGTH {
         settle(image, settles, waits_after(change));
         apply(image, change);
     }

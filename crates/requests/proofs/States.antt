@@ -10,7 +10,7 @@ use Rattle.octets.specs.Sentences.{every}
 use Rattle.octets.proofs.Sentences.{both, every-member, first-some}
 use Rattle.requests.specs.declared.Setup.{Setup}
 use Rattle.requests.specs.declared.Row.{Row}
-use Rattle.requests.specs.Table.{table, rowOf, inState}
+use Rattle.requests.specs.Table.{requestTable, rowOf, inState}
 
 abbrev pub allowedInDefault : ℕ → Bool
 allowedInDefault code = eqb code 0x05 || eqb code 0x06
@@ -29,14 +29,14 @@ equal false false p = refl
 
 -- whether a row's interval has a state exactly when its code is allowed there
 abbrev agrees : ℕ → (ℕ → Bool) → Row → Bool
-agrees state allowed r = Bool·beq (inState r state) (allowed (r .code))
+agrees state allowed r = Bool·beq (inState r state) (allowed (r .bRequest))
 
 module _ (s : Setup) {r : Row} (p : rowOf s ≡ some r) where
-  same-code : r .code ≡ s .bRequest
-  same-code = eqb-true _ _ (both (eqb (r .kind) (s .bmRequestType)) (eqb (r .code) (s .bRequest)) (first-some _ table p .1) .1)
+  same-code : r .bRequest ≡ s .bRequest
+  same-code = eqb-true _ _ (both (eqb (r .bmRequestType) (s .bmRequestType)) (eqb (r .bRequest) (s .bRequest)) (first-some _ requestTable p .1) .1)
 
-  by-table : (state : ℕ) (allowed : ℕ → Bool) → every (agrees state allowed) table ≡ true → inState r state ≡ allowed (s .bRequest)
-  by-table state allowed q = equal _ _ (every-member (agrees state allowed) q (first-some _ table p .0)) ∙ ap allowed same-code
+  by-table : (state : ℕ) (allowed : ℕ → Bool) → every (agrees state allowed) requestTable ≡ true → inState r state ≡ allowed (s .bRequest)
+  by-table state allowed q = equal _ _ (every-member (agrees state allowed) q (first-some _ requestTable p .0)) ∙ ap allowed same-code
 
   pub in-default : inState r 0 ≡ allowedInDefault (s .bRequest)
   unfolding every

@@ -1,12 +1,20 @@
--- The request table (document 01, "Request table"), and the refusals 10, 11 and 12 in that order.
-use Prim.Native.Nat.{ℕ, _/_}
+-- The eight setup bytes, the request table (document 01, "Request table"), and the refusals 10, 11 and 12 in that order.
+use Prim.Native.Nat.{ℕ, _/_, _%_}
 use mathlib.Core.Bool.{Bool, _&&_}
 use mathlib.Core.List.{List, [], _∷_}
 use mathlib.Core.Option.{Option, some, none}
 use lib.Dec.{eqb, leb}
+use Rattle.octets.specs.Octets.{byte, word}
 use Rattle.octets.specs.Sentences.{pick, first}
 use Rattle.requests.specs.declared.Setup.{Setup}
 use Rattle.requests.specs.declared.Row.{Row}
+
+abbrev pub setupOf : List ℕ → Setup
+setupOf bytes = record { bmRequestType = byte bytes 0; bRequest = byte bytes 1; wValue = word bytes 2; wIndex = word bytes 4; wLength = word bytes 6 }
+
+-- the recipient: bits 4–0 of bmRequestType; 0 device, 1 interface, 2 endpoint
+abbrev pub recipient : Setup → ℕ
+recipient s = s .bmRequestType % 32
 
 -- ---- a row in the page's words
 -- the least and the most
@@ -63,10 +71,25 @@ addressAndConfigured = span 1 2
 abbrev configuredAlone : Span
 configuredAlone = span 2 2
 
-abbrev asks : ℕ → ℕ → ℕ → Index → Span → Span → Row
-asks bmRequestType bRequest wValue wIndex wLength states = record {
-  kind = bmRequestType;
-  code = bRequest;
+-- the standard requests under USB 2.0's names, and their codes
+pub data StandardRequest : Type 0 where
+  GET-STATUS CLEAR-FEATURE SET-FEATURE SET-ADDRESS GET-DESCRIPTOR GET-CONFIGURATION SET-CONFIGURATION GET-INTERFACE SET-INTERFACE : StandardRequest
+
+abbrev pub code : StandardRequest → ℕ
+code GET-STATUS = 0x00
+code CLEAR-FEATURE = 0x01
+code SET-FEATURE = 0x03
+code SET-ADDRESS = 0x05
+code GET-DESCRIPTOR = 0x06
+code GET-CONFIGURATION = 0x08
+code SET-CONFIGURATION = 0x09
+code GET-INTERFACE = 0x0A
+code SET-INTERFACE = 0x0B
+
+abbrev asks : ℕ → StandardRequest → ℕ → Index → Span → Span → Row
+asks bmRequestType request wValue wIndex wLength states = record {
+  bmRequestType = bmRequestType;
+  bRequest = code request;
   value = wValue;
   index = wIndex .plain;
   string = wIndex .string;
@@ -77,27 +100,27 @@ asks bmRequestType bRequest wValue wIndex wLength states = record {
 }
 
 -- "Type and code in hexadecimal, fixed fields after them", and the states
-abbrev pub table : List Row
-table =
-    asks 0x80 0x00 (valueUpTo 0) indexZero (lengthIs 2) addressAndConfigured ∷
-    asks 0x81 0x00 (valueUpTo 0) anyIndex (lengthIs 2) addressAndConfigured ∷
-    asks 0x82 0x00 (valueUpTo 0) anyIndex (lengthIs 2) addressAndConfigured ∷
-    asks 0x00 0x01 anyValue indexZero (lengthIs 0) addressAndConfigured ∷
-    asks 0x00 0x03 anyValue indexZero (lengthIs 0) addressAndConfigured ∷
-    asks 0x01 0x01 anyValue anyIndex (lengthIs 0) addressAndConfigured ∷
-    asks 0x02 0x01 anyValue anyIndex (lengthIs 0) addressAndConfigured ∷
-    asks 0x01 0x03 anyValue anyIndex (lengthIs 0) addressAndConfigured ∷
-    asks 0x02 0x03 anyValue anyIndex (lengthIs 0) addressAndConfigured ∷
-    asks 0x00 0x05 (valueUpTo 127) indexZero (lengthIs 0) defaultAndAddress ∷
-    asks 0x80 0x06 anyValue indexZeroUnlessString anyLength everyState ∷
-    asks 0x80 0x08 (valueUpTo 0) indexZero (lengthIs 1) addressAndConfigured ∷
-    asks 0x00 0x09 (valueUpTo 255) indexZero (lengthIs 0) addressAndConfigured ∷
-    asks 0x81 0x0A (valueUpTo 0) anyIndex (lengthIs 1) configuredAlone ∷
-    asks 0x01 0x0B anyValue anyIndex (lengthIs 0) configuredAlone ∷
+abbrev pub requestTable : List Row
+requestTable =
+    asks 0x80 GET-STATUS (valueUpTo 0) indexZero (lengthIs 2) addressAndConfigured ∷
+    asks 0x81 GET-STATUS (valueUpTo 0) anyIndex (lengthIs 2) addressAndConfigured ∷
+    asks 0x82 GET-STATUS (valueUpTo 0) anyIndex (lengthIs 2) addressAndConfigured ∷
+    asks 0x00 CLEAR-FEATURE anyValue indexZero (lengthIs 0) addressAndConfigured ∷
+    asks 0x00 SET-FEATURE anyValue indexZero (lengthIs 0) addressAndConfigured ∷
+    asks 0x01 CLEAR-FEATURE anyValue anyIndex (lengthIs 0) addressAndConfigured ∷
+    asks 0x02 CLEAR-FEATURE anyValue anyIndex (lengthIs 0) addressAndConfigured ∷
+    asks 0x01 SET-FEATURE anyValue anyIndex (lengthIs 0) addressAndConfigured ∷
+    asks 0x02 SET-FEATURE anyValue anyIndex (lengthIs 0) addressAndConfigured ∷
+    asks 0x00 SET-ADDRESS (valueUpTo 127) indexZero (lengthIs 0) defaultAndAddress ∷
+    asks 0x80 GET-DESCRIPTOR anyValue indexZeroUnlessString anyLength everyState ∷
+    asks 0x80 GET-CONFIGURATION (valueUpTo 0) indexZero (lengthIs 1) addressAndConfigured ∷
+    asks 0x00 SET-CONFIGURATION (valueUpTo 255) indexZero (lengthIs 0) addressAndConfigured ∷
+    asks 0x81 GET-INTERFACE (valueUpTo 0) anyIndex (lengthIs 1) configuredAlone ∷
+    asks 0x01 SET-INTERFACE anyValue anyIndex (lengthIs 0) configuredAlone ∷
     []
 
 abbrev pub rowOf : Setup → Option Row
-rowOf s = first (λ r. eqb (r .kind) (s .bmRequestType) && eqb (r .code) (s .bRequest)) table
+rowOf s = first (λ r. eqb (r .bmRequestType) (s .bmRequestType) && eqb (r .bRequest) (s .bRequest)) requestTable
 
 -- 11: "not allowed in this state"
 abbrev pub inState : Row → ℕ → Bool

@@ -1,7 +1,6 @@
 // The eight setup bytes, and the table of the fifteen standard requests.
 ghost use mathlib.Core.Path.{_≡_};
-ghost use Rattle.requests.specs.Setup.{setupOf};
-ghost use Rattle.requests.specs.Table.{rowOf, inState, largestIndex, fieldsFit, refusal};
+ghost use Rattle.requests.specs.Table.{setupOf, rowOf, inState, largestIndex, fieldsFit, refusal};
 ghost use Rattle.requests.specs.Found.{foundOf};
 
 // The setup bytes as numbers.
@@ -13,11 +12,11 @@ pub struct Setup {
     pub wLength: u16,
 }
 
-// What a row of the table asks: wValue at most `value`; wIndex at most `index`, or `string` where the type asked is 3;
+// What a row of the table asks: the type and the code; wValue at most `value`; wIndex at most `index`, or `string` where the type asked is a string;
 // wLength from `shortest` to `longest`; the state from `lowest` to `highest`.
 pub struct Row {
-    pub kind: u8,
-    pub code: u8,
+    pub bmRequestType: u8,
+    pub bRequest: u8,
     pub value: u16,
     pub index: u16,
     pub string: u16,
@@ -33,171 +32,229 @@ pub enum RowFound {
     Missing,
 }
 
-const ROWS: [Row; 15] = [
+// The types and codes of the standard requests, under USB 2.0's names.
+pub const FROM_DEVICE: u8 = 0x80;
+
+pub const FROM_INTERFACE: u8 = 0x81;
+
+const FROM_ENDPOINT: u8 = 0x82;
+
+pub const TO_DEVICE: u8 = 0x00;
+
+const TO_INTERFACE: u8 = 0x01;
+
+const TO_ENDPOINT: u8 = 0x02;
+
+pub const GET_STATUS: u8 = 0x00;
+
+pub const CLEAR_FEATURE: u8 = 0x01;
+
+pub const SET_FEATURE: u8 = 0x03;
+
+pub const SET_ADDRESS: u8 = 0x05;
+
+pub const GET_DESCRIPTOR: u8 = 0x06;
+
+pub const GET_CONFIGURATION: u8 = 0x08;
+
+pub const SET_CONFIGURATION: u8 = 0x09;
+
+pub const GET_INTERFACE: u8 = 0x0a;
+
+const SET_INTERFACE: u8 = 0x0b;
+
+// The recipients in bits 4-0 of a type; the third is an endpoint.
+pub const DEVICE: u8 = 0;
+
+pub const INTERFACE: u8 = 1;
+
+// The type of a string descriptor, as wValue's high byte asks for it.
+const STRING: u16 = 3;
+
+// A device's states, as byte 0 of its record has them.
+const DEFAULT: u8 = 0;
+
+const ADDRESS: u8 = 1;
+
+const CONFIGURED: u8 = 2;
+
+// What refuses a setup at the table, under the header's names.
+pub const REQUEST_UNKNOWN: u8 = 10;
+
+pub const NOT_IN_THIS_STATE: u8 = 11;
+
+pub const FIELD_WRONG: u8 = 12;
+
+// Every number of two bytes is at most this.
+const FREE: u16 = 65535;
+
+const ROW_COUNT: usize = 15;
+
+const ROWS: [Row; ROW_COUNT] = [
     Row {
-        kind: 0x80,
-        code: 0x00,
+        bmRequestType: FROM_DEVICE,
+        bRequest: GET_STATUS,
         value: 0,
         index: 0,
         string: 0,
         shortest: 2,
         longest: 2,
-        lowest: 1,
-        highest: 2,
+        lowest: ADDRESS,
+        highest: CONFIGURED,
     },
     Row {
-        kind: 0x81,
-        code: 0x00,
+        bmRequestType: FROM_INTERFACE,
+        bRequest: GET_STATUS,
         value: 0,
-        index: 65535,
-        string: 65535,
+        index: FREE,
+        string: FREE,
         shortest: 2,
         longest: 2,
-        lowest: 1,
-        highest: 2,
+        lowest: ADDRESS,
+        highest: CONFIGURED,
     },
     Row {
-        kind: 0x82,
-        code: 0x00,
+        bmRequestType: FROM_ENDPOINT,
+        bRequest: GET_STATUS,
         value: 0,
-        index: 65535,
-        string: 65535,
+        index: FREE,
+        string: FREE,
         shortest: 2,
         longest: 2,
-        lowest: 1,
-        highest: 2,
+        lowest: ADDRESS,
+        highest: CONFIGURED,
     },
     Row {
-        kind: 0x00,
-        code: 0x01,
-        value: 65535,
+        bmRequestType: TO_DEVICE,
+        bRequest: CLEAR_FEATURE,
+        value: FREE,
         index: 0,
         string: 0,
         shortest: 0,
         longest: 0,
-        lowest: 1,
-        highest: 2,
+        lowest: ADDRESS,
+        highest: CONFIGURED,
     },
     Row {
-        kind: 0x00,
-        code: 0x03,
-        value: 65535,
+        bmRequestType: TO_DEVICE,
+        bRequest: SET_FEATURE,
+        value: FREE,
         index: 0,
         string: 0,
         shortest: 0,
         longest: 0,
-        lowest: 1,
-        highest: 2,
+        lowest: ADDRESS,
+        highest: CONFIGURED,
     },
     Row {
-        kind: 0x01,
-        code: 0x01,
-        value: 65535,
-        index: 65535,
-        string: 65535,
+        bmRequestType: TO_INTERFACE,
+        bRequest: CLEAR_FEATURE,
+        value: FREE,
+        index: FREE,
+        string: FREE,
         shortest: 0,
         longest: 0,
-        lowest: 1,
-        highest: 2,
+        lowest: ADDRESS,
+        highest: CONFIGURED,
     },
     Row {
-        kind: 0x02,
-        code: 0x01,
-        value: 65535,
-        index: 65535,
-        string: 65535,
+        bmRequestType: TO_ENDPOINT,
+        bRequest: CLEAR_FEATURE,
+        value: FREE,
+        index: FREE,
+        string: FREE,
         shortest: 0,
         longest: 0,
-        lowest: 1,
-        highest: 2,
+        lowest: ADDRESS,
+        highest: CONFIGURED,
     },
     Row {
-        kind: 0x01,
-        code: 0x03,
-        value: 65535,
-        index: 65535,
-        string: 65535,
+        bmRequestType: TO_INTERFACE,
+        bRequest: SET_FEATURE,
+        value: FREE,
+        index: FREE,
+        string: FREE,
         shortest: 0,
         longest: 0,
-        lowest: 1,
-        highest: 2,
+        lowest: ADDRESS,
+        highest: CONFIGURED,
     },
     Row {
-        kind: 0x02,
-        code: 0x03,
-        value: 65535,
-        index: 65535,
-        string: 65535,
+        bmRequestType: TO_ENDPOINT,
+        bRequest: SET_FEATURE,
+        value: FREE,
+        index: FREE,
+        string: FREE,
         shortest: 0,
         longest: 0,
-        lowest: 1,
-        highest: 2,
+        lowest: ADDRESS,
+        highest: CONFIGURED,
     },
     Row {
-        kind: 0x00,
-        code: 0x05,
+        bmRequestType: TO_DEVICE,
+        bRequest: SET_ADDRESS,
         value: 127,
         index: 0,
         string: 0,
         shortest: 0,
         longest: 0,
-        lowest: 0,
-        highest: 1,
+        lowest: DEFAULT,
+        highest: ADDRESS,
     },
     Row {
-        kind: 0x80,
-        code: 0x06,
-        value: 65535,
+        bmRequestType: FROM_DEVICE,
+        bRequest: GET_DESCRIPTOR,
+        value: FREE,
         index: 0,
-        string: 65535,
+        string: FREE,
         shortest: 0,
-        longest: 65535,
-        lowest: 0,
-        highest: 2,
+        longest: FREE,
+        lowest: DEFAULT,
+        highest: CONFIGURED,
     },
     Row {
-        kind: 0x80,
-        code: 0x08,
+        bmRequestType: FROM_DEVICE,
+        bRequest: GET_CONFIGURATION,
         value: 0,
         index: 0,
         string: 0,
         shortest: 1,
         longest: 1,
-        lowest: 1,
-        highest: 2,
+        lowest: ADDRESS,
+        highest: CONFIGURED,
     },
     Row {
-        kind: 0x00,
-        code: 0x09,
+        bmRequestType: TO_DEVICE,
+        bRequest: SET_CONFIGURATION,
         value: 255,
         index: 0,
         string: 0,
         shortest: 0,
         longest: 0,
-        lowest: 1,
-        highest: 2,
+        lowest: ADDRESS,
+        highest: CONFIGURED,
     },
     Row {
-        kind: 0x81,
-        code: 0x0a,
+        bmRequestType: FROM_INTERFACE,
+        bRequest: GET_INTERFACE,
         value: 0,
-        index: 65535,
-        string: 65535,
+        index: FREE,
+        string: FREE,
         shortest: 1,
         longest: 1,
-        lowest: 2,
-        highest: 2,
+        lowest: CONFIGURED,
+        highest: CONFIGURED,
     },
     Row {
-        kind: 0x01,
-        code: 0x0b,
-        value: 65535,
-        index: 65535,
-        string: 65535,
+        bmRequestType: TO_INTERFACE,
+        bRequest: SET_INTERFACE,
+        value: FREE,
+        index: FREE,
+        string: FREE,
         shortest: 0,
         longest: 0,
-        lowest: 2,
-        highest: 2,
+        lowest: CONFIGURED,
+        highest: CONFIGURED,
     },
 ];
 
@@ -215,14 +272,14 @@ pub fn setup_of(bytes: &[u8]) -> Setup
 }
 
 // The row with the setup's type and code.
-pub fn find_row(setup: Setup) -> RowFound
+fn find_row(setup: Setup) -> RowFound
     ensures { λ r. ⌜ r ≡ foundOf (rowOf setup) ⌝ }
 {
     let rows = ROWS;
     let mut i: usize = 0;
-    while i < 15 {
+    while i < ROW_COUNT {
         let row = rows[i];
-        if (row.kind == setup.bmRequestType) & (row.code == setup.bRequest) {
+        if (row.bmRequestType == setup.bmRequestType) & (row.bRequest == setup.bRequest) {
             return RowFound::Is(row);
         }
         i += 1;
@@ -231,7 +288,7 @@ pub fn find_row(setup: Setup) -> RowFound
 }
 
 // Whether the row allows the state.
-pub fn in_state(row: Row, state: u8) -> bool
+fn in_state(row: Row, state: u8) -> bool
     ensures { λ r. ⌜ r ≡ inState row state ⌝ }
 {
     (row.lowest <= state) & (state <= row.highest)
@@ -241,7 +298,7 @@ pub fn in_state(row: Row, state: u8) -> bool
 fn largest_index(row: Row, value: u16) -> u16
     ensures { λ r. ⌜ r ≡ largestIndex row value ⌝ }
 {
-    if value / 256 == 3 {
+    if value / 256 == STRING {
         row.string
     } else {
         row.index
@@ -249,7 +306,7 @@ fn largest_index(row: Row, value: u16) -> u16
 }
 
 // Whether the setup's fields are those that the row asks for.
-pub fn fields_fit(row: Row, setup: Setup) -> bool
+fn fields_fit(row: Row, setup: Setup) -> bool
     ensures { λ r. ⌜ r ≡ fieldsFit row setup ⌝ }
 {
     let largest = largest_index(row, setup.wValue);
@@ -265,13 +322,13 @@ pub fn refusal(state: u8, setup: Setup) -> u8
 {
     let found = find_row(setup);
     match found {
-        RowFound::Missing => 10,
+        RowFound::Missing => REQUEST_UNKNOWN,
         RowFound::Is(row) => {
             if !in_state(row, state) {
-                return 11;
+                return NOT_IN_THIS_STATE;
             }
             if !fields_fit(row, setup) {
-                return 12;
+                return FIELD_WRONG;
             }
             0
         }

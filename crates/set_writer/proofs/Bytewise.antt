@@ -1,5 +1,5 @@
 -- Pieces of bytes make a set of bytes. No axiom.
-use Prim.Native.Nat.{ℕ, zero, suc, _+_, _*_, _/_, _%_, _≤_, _<_}
+use Prim.Native.Nat.{ℕ, zero, suc, _+_, _/_, _%_, _<_}
 use native.Mathlib.Omega.{arith}
 use mathlib.Core.Path.{_≡_, refl}
 use mathlib.Core.Logic.{⊎-elim}
@@ -7,7 +7,7 @@ use mathlib.Core.List.{List, [], _∷_, _++_, List·Memᴰ, List·Memᴰ·head, 
 use lib.ListN.{length, take, drop, length-append}
 use lib.Seq.{getD-drop}
 use Rattle.octets.specs.Octets.{word, Bytes}
-use Rattle.set_writer.specs.Writer.{pieceOf, piecesAfter, pieces, entryBytes, contents, bodies, front, header, total, laid}
+use Rattle.set_writer.specs.Writer.{pieceOf, piecesAfter, pieces, entryBytes, contents, bodyBytes, front, header, laidLength, laid}
 use Rattle.sets.specs.Pieces.{Piece}
 
 -- ---- lists of bytes
@@ -71,16 +71,16 @@ module _ (ps : List Piece) where
   abbrev AllSmall : Type 0
   AllSmall = (p : Piece) → List·Memᴰ p ps → Small p
 
-bodies-bytes : (ps : List Piece) → AllSmall ps → Bytes (bodies ps)
-unfolding bodies
+bodies-bytes : (ps : List Piece) → AllSmall ps → Bytes (bodyBytes ps)
+unfolding bodyBytes
 bodies-bytes [] s = no-bytes
-bodies-bytes (p ∷ ps) s = append-bytes (p .body) (bodies ps) (s p (List·Memᴰ·head refl) .body) (bodies-bytes ps (λ q m. s q (List·Memᴰ·tail m)))
+bodies-bytes (p ∷ ps) s = append-bytes (p .body) (bodyBytes ps) (s p (List·Memᴰ·head refl) .body) (bodies-bytes ps (λ q m. s q (List·Memᴰ·tail m)))
 
-bodies-more : (p : Piece) (ps : List Piece) → length (bodies (p ∷ ps)) ≡ length (p .body) + length (bodies ps)
-unfolding bodies
-bodies-more p ps = length-append (p .body) (bodies ps)
+bodies-more : (p : Piece) (ps : List Piece) → length (bodyBytes (p ∷ ps)) ≡ length (p .body) + length (bodyBytes ps)
+unfolding bodyBytes
+bodies-more p ps = length-append (p .body) (bodyBytes ps)
 
-contents-bytes : (start : ℕ) (ps : List Piece) → AllSmall ps → start + length (bodies ps) < 65536 → Bytes (contents start ps)
+contents-bytes : (start : ℕ) (ps : List Piece) → AllSmall ps → start + length (bodyBytes ps) < 65536 → Bytes (contents start ps)
 unfolding contents
 contents-bytes start [] s h = no-bytes
 contents-bytes start (p ∷ ps) s h =
@@ -88,9 +88,9 @@ contents-bytes start (p ∷ ps) s h =
     append-bytes (entryBytes p start) (contents (start + length (p .body)) ps) (entry-bytes p start (s p (List·Memᴰ·head refl)) (omega (arith, l)) (omega (arith, l)))
     (contents-bytes (start + length (p .body)) ps (λ q m. s q (List·Memᴰ·tail m)) (omega (arith, l)))
 
-pub laid-bytes : (ps : List Piece) → AllSmall ps → total ps < 65536 → length ps < 256 → Bytes (laid ps)
+pub laid-bytes : (ps : List Piece) → AllSmall ps → laidLength ps < 65536 → length ps < 256 → Bytes (laid ps)
 unfolding laid
 laid-bytes ps s h l =
-    let top = two-small (total ps) (length ps ∷ 0 ∷ []) h (one-byte (length ps) (0 ∷ []) l (one-byte 0 [] (omega arith) no-bytes)) in
-    let rest = append-bytes (contents (front ps) ps) (bodies ps) (contents-bytes (front ps) ps s h) (bodies-bytes ps s) in
-    append-bytes (header ps) (contents (front ps) ps ++ bodies ps) top rest
+    let top = two-small (laidLength ps) (length ps ∷ 0 ∷ []) h (one-byte (length ps) (0 ∷ []) l (one-byte 0 [] (omega arith) no-bytes)) in
+    let rest = append-bytes (contents (front ps) ps) (bodyBytes ps) (contents-bytes (front ps) ps s h) (bodies-bytes ps s) in
+    append-bytes (header ps) (contents (front ps) ps ++ bodyBytes ps) top rest

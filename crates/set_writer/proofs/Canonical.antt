@@ -16,7 +16,7 @@ use Rattle.descriptors.specs.Limits.{named}
 use Rattle.sets.specs.declared.Entry.{Entry}
 use Rattle.sets.specs.Contents.{entryOf, entriesFrom, entries, bodyOf, before, total, count, bodiesAt, endToEnd, goodFrame, goodContents}
 use Rattle.set_writer.specs.Writer as pieces
-use Rattle.set_writer.specs.Writer.{entryBytes, contents, bodies, front, header, laid}
+use Rattle.set_writer.specs.Writer.{entryBytes, contents, bodyBytes, front, header, laid}
 use Rattle.set_writer.proofs.Laid.{laid-parts}
 use Rattle.set_writer.proofs.Bytewise.{drop-bytes}
 use Rattle.sets.specs.Pieces.{pieceFor, piecesIn}
@@ -48,8 +48,8 @@ unfolding endToEnd
 up start end [] p = omega (arith, eqb-true start end p)
 up start end (e ∷ es) p = omega (arith, up (start + e .length) end es (both (eqb (e .offset) start) (endToEnd (start + e .length) end es) p .1))
 
-bodies-again : (set : List ℕ) (start : ℕ) (es : List Entry) → endToEnd start (length set) es ≡ true → bodies (map (pieceFor set) es) ≡ drop start set
-unfolding endToEnd bodies
+bodies-again : (set : List ℕ) (start : ℕ) (es : List Entry) → endToEnd start (length set) es ≡ true → bodyBytes (map (pieceFor set) es) ≡ drop start set
+unfolding endToEnd bodyBytes
 bodies-again set start [] p = let h : length set ≤ start = omega (arith, eqb-true start (length set) p) in sym (drop-of-length-le set h)
 bodies-again set start (e ∷ es) p =
     let (o, q) = both (eqb (e .offset) start) (endToEnd (start + e .length) (length set) es) p in
@@ -110,7 +110,7 @@ canonical limits set small f g =
     let b = bodies-again set (bodiesAt set) (entries set) laidOut in
     let inside : 8 * count set ≤ length (drop 4 set) = rw length-drop (omega arith) in
     let c = contents-again set (count set) (bodiesAt set) (drop 4 set) (drop-bytes 4 set small) inside laidOut in
-    let t : pieces.total (piecesIn set) ≡ total set = omega (arith, n, ap length b, length-drop (bodiesAt set) set) in
+    let t : pieces.laidLength (piecesIn set) ≡ total set = omega (arith, n, ap length b, length-drop (bodiesAt set) set) in
     let h : header (piecesIn set) ≡ take 4 set = rw (t, n, low (byte set 0) (byte set 1) (small 0), high (byte set 0) (byte set 1) (small 0)) (rw three at (first-four set four)) in
     let d : drop (bodiesAt set) set ≡ drop (8 * count set) (drop 4 set) = sym (drop-drop (8 * count set) 4 set) in
     let e : contents (front (piecesIn set)) (piecesIn set) ≡ take (8 * count set) (drop 4 set) = ap (λ (k : ℕ). contents (4 + 8 * k) (piecesIn set)) n ∙ c in

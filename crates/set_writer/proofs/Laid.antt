@@ -5,7 +5,7 @@ use mathlib.Core.Path.{_≡_, refl}
 use mathlib.Core.List.{List, [], _∷_, _++_}
 use lib.ListN.{length, length-append}
 use Rattle.sets.specs.Pieces.{Piece}
-use Rattle.set_writer.specs.Writer.{entryBytes, contents, bodies, front, header, total, laid}
+use Rattle.set_writer.specs.Writer.{entryBytes, contents, bodyBytes, front, header, laidLength, laid}
 
 pub contents-none : (start : ℕ) → contents start [] ≡ []
 unfolding contents
@@ -15,15 +15,15 @@ pub contents-more : (start : ℕ) (p : Piece) (ps : List Piece) → contents sta
 unfolding contents
 contents-more start p ps = refl
 
-pub bodies-none : bodies [] ≡ []
-unfolding bodies
+pub bodies-none : bodyBytes [] ≡ []
+unfolding bodyBytes
 bodies-none = refl
 
-pub bodies-more : (p : Piece) (ps : List Piece) → bodies (p ∷ ps) ≡ p .body ++ bodies ps
-unfolding bodies
+pub bodies-more : (p : Piece) (ps : List Piece) → bodyBytes (p ∷ ps) ≡ p .body ++ bodyBytes ps
+unfolding bodyBytes
 bodies-more p ps = refl
 
-pub laid-parts : (ps : List Piece) → laid ps ≡ header ps ++ (contents (front ps) ps ++ bodies ps)
+pub laid-parts : (ps : List Piece) → laid ps ≡ header ps ++ (contents (front ps) ps ++ bodyBytes ps)
 unfolding laid
 laid-parts ps = refl
 
@@ -32,6 +32,6 @@ unfolding contents
 contents-length start [] = refl
 contents-length start (p ∷ ps) = omega (arith, contents-length (start + length (p .body)) ps)
 
-pub laid-length : (ps : List Piece) → length (laid ps) ≡ total ps
+pub laid-length : (ps : List Piece) → length (laid ps) ≡ laidLength ps
 unfolding laid
-laid-length ps = omega (arith, length-append (contents (front ps) ps) (bodies ps), contents-length (front ps) ps)
+laid-length ps = omega (arith, length-append (contents (front ps) ps) (bodyBytes ps), contents-length (front ps) ps)

@@ -16,7 +16,7 @@ use Rattle.sets.specs.declared.Entry.{Entry}
 use Rattle.sets.specs.Contents as sets
 use Rattle.sets.specs.Contents.{entries, before, endToEnd, goodFrame, goodContents}
 use Rattle.sets.specs.Pieces.{Piece}
-use Rattle.set_writer.specs.Writer.{precedes, bodies, front, total, laid}
+use Rattle.set_writer.specs.Writer.{precedes, bodyBytes, front, laidLength, laid}
 use Rattle.set_writer.proofs.Laid.{laid-length}
 use Rattle.set_writer.proofs.Stream.{two-bytes}
 use Rattle.set_writer.proofs.ReadBack.{entriesFor, entries-read}
@@ -25,11 +25,11 @@ use Rattle.set_writer.proofs.Ascending.{Ascends}
 module _ (ps : List Piece) where
   pub laid-entries : entries (laid ps) ≡ entriesFor (front ps) ps
   unfolding laid
-  laid-entries = entries-read (front ps) ps (bodies ps)
+  laid-entries = entries-read (front ps) ps (bodyBytes ps)
 
-  laid-total : sets.total (laid ps) ≡ total ps
+  laid-total : sets.total (laid ps) ≡ laidLength ps
   unfolding laid
-  laid-total = two-bytes (total ps)
+  laid-total = two-bytes (laidLength ps)
 
   laid-count : sets.count (laid ps) ≡ length ps
   unfolding laid
@@ -39,7 +39,7 @@ module _ (ps : List Piece) where
   unfolding laid
   laid-zero = refl
 
-  pub laid-frame : 1 ≤ length ps → length ps ≤ 64 → total ps ≤ 16384 → goodFrame (laid ps) ≡ true
+  pub laid-frame : 1 ≤ length ps → length ps ≤ 64 → laidLength ps ≤ 16384 → goodFrame (laid ps) ≡ true
   unfolding goodFrame
   laid-frame one most fits =
       let l = laid-length ps in
@@ -71,10 +71,10 @@ before-laid o [] = refl
 before-laid o (p ∷ []) = refl
 before-laid o (p ∷ q ∷ ps) = rw (before-laid (o + length (p .body)) (q ∷ ps))
 
-ends-laid : (o end : ℕ) (ps : List Piece) → o + length (bodies ps) ≡ end → endToEnd o end (entriesFor o ps) ≡ true
-unfolding endToEnd bodies
+ends-laid : (o end : ℕ) (ps : List Piece) → o + length (bodyBytes ps) ≡ end → endToEnd o end (entriesFor o ps) ≡ true
+unfolding endToEnd bodyBytes
 ends-laid o end [] h = eq-eqb o end (omega arith)
-ends-laid o end (p ∷ ps) h = joined (eq-eqb o o refl) (ends-laid (o + length (p .body)) end ps (omega (arith, h, length-append (p .body) (bodies ps))))
+ends-laid o end (p ∷ ps) h = joined (eq-eqb o o refl) (ends-laid (o + length (p .body)) end ps (omega (arith, h, length-append (p .body) (bodyBytes ps))))
 
 abbrev pub ordered : Limits → List Piece → Bool
 ordered limits ps = every (λ p. named (limits .entries) (p .kind)) ps && neighbours precedes ps && every (λ p. leb 2 (length (p .body))) ps
@@ -120,10 +120,10 @@ module _ {A : Type 0} (k : A → Bool) where
     pub some-neighbours : (xs : List A) → Ascends less xs → neighbours less (only k xs) ≡ true
     some-neighbours xs a = ascends-neighbours (only k xs) (some-ascends xs a)
 
-pub some-bodies : (k : Piece → Bool) (ps : List Piece) → length (bodies (only k ps)) ≤ length (bodies ps)
-unfolding only bodies
+pub some-bodies : (k : Piece → Bool) (ps : List Piece) → length (bodyBytes (only k ps)) ≤ length (bodyBytes ps)
+unfolding only bodyBytes
 some-bodies k [] = omega arith
 some-bodies k (p ∷ ps) =
     let ih = some-bodies k ps in
-    let l = length-append (p .body) (bodies ps) in
-    cases (k p) (λ h. rw h (omega (arith, ih, l, length-append (p .body) (bodies (only k ps))))) (λ h. rw h (omega (arith, ih, l)))
+    let l = length-append (p .body) (bodyBytes ps) in
+    cases (k p) (λ h. rw h (omega (arith, ih, l, length-append (p .body) (bodyBytes (only k ps))))) (λ h. rw h (omega (arith, ih, l)))

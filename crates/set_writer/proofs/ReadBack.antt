@@ -1,5 +1,5 @@
 -- What is laid out reads back: the entries of the set, with the bodies that they name, are the pieces. No axiom.
-use Prim.Native.Nat.{ℕ, _+_, _*_, _/_, _%_}
+use Prim.Native.Nat.{ℕ, _+_}
 use native.Mathlib.Omega.{arith}
 use mathlib.Core.Path.{_≡_, refl}
 use mathlib.Core.List.{List, [], _∷_, _++_, map, append-assoc}
@@ -8,7 +8,7 @@ use lib.Seq.{drop-append-seam, take-append-seam}
 use Rattle.sets.specs.declared.Entry.{Entry}
 use Rattle.sets.specs.Contents.{entryOf, entriesFrom}
 use Rattle.sets.specs.Pieces.{Piece, pieceFor, piecesIn}
-use Rattle.set_writer.specs.Writer.{entryBytes, contents, bodies, front, header, laid, entryFor}
+use Rattle.set_writer.specs.Writer.{entryBytes, contents, bodyBytes, front, header, laid, entryFor}
 use Rattle.set_writer.proofs.Stream.{two-bytes}
 use Rattle.set_writer.proofs.Laid.{contents-length}
 
@@ -27,17 +27,17 @@ entries-read start (p ∷ ps) rest =
     rw (entry-read p start (contents (start + length (p .body)) ps ++ rest), entries-read (start + length (p .body)) ps rest)
 
 -- the bodies that they name, behind what is before them
-bodies-read : (ahead : List ℕ) (ps : List Piece) → map (pieceFor (ahead ++ bodies ps)) (entriesFor (length ahead) ps) ≡ ps
-unfolding bodies
+bodies-read : (ahead : List ℕ) (ps : List Piece) → map (pieceFor (ahead ++ bodyBytes ps)) (entriesFor (length ahead) ps) ≡ ps
+unfolding bodyBytes
 bodies-read ahead [] = refl
 bodies-read ahead (p ∷ ps) =
-    let later = rw (append-assoc ahead (p .body) (bodies ps), length-append ahead (p .body)) at (bodies-read (ahead ++ p .body) ps) in
-    rw (drop-append-seam ahead (p .body ++ bodies ps), take-append-seam (p .body) (bodies ps), later)
+    let later = rw (append-assoc ahead (p .body) (bodyBytes ps), length-append ahead (p .body)) at (bodies-read (ahead ++ p .body) ps) in
+    rw (drop-append-seam ahead (p .body ++ bodyBytes ps), take-append-seam (p .body) (bodyBytes ps), later)
 
 pub read-back : (ps : List Piece) → piecesIn (laid ps) ≡ ps
 unfolding laid
 read-back ps =
     let ahead = header ps ++ contents (front ps) ps in
     let l : length ahead ≡ front ps = omega (arith, length-append (header ps) (contents (front ps) ps), contents-length (front ps) ps) in
-    let e = rw (l, append-assoc (header ps) (contents (front ps) ps) (bodies ps)) at (bodies-read ahead ps) in
-    rw (entries-read (front ps) ps (bodies ps)) e
+    let e = rw (l, append-assoc (header ps) (contents (front ps) ps) (bodyBytes ps)) at (bodies-read ahead ps) in
+    rw (entries-read (front ps) ps (bodyBytes ps)) e

@@ -3,7 +3,7 @@ use Prim.Native.Nat.{ℕ, _+_, _-_, _*_, _≤_, _<_}
 use native.Mathlib.Nat.{sub-zero}
 use native.Mathlib.Omega.{arith}
 use mathlib.Core.Path.{_≡_, refl, sym, _∙_}
-use mathlib.Core.Bool.{Bool, true, false, _||_}
+use mathlib.Core.Bool.{Bool, true, false}
 use mathlib.Core.List.{List, _++_}
 use lib.ListN.{length, take, drop, length-take}
 use lib.Seq.{sets-eq, take-at, take-length}
@@ -15,7 +15,7 @@ use Rattle.octets.proofs.Sentences.{or-left, or-right}
 use Rattle.descriptors.specs.declared.limits.Limits.{Limits}
 use Rattle.sets.specs.Opening.{lent, opening}
 use Rattle.set_writer.specs.declared.pieces.Counted.the-variants.{Broken, Pieces}
-use Rattle.set_writer.specs.Writer.{ends, pieces, sorted, total, laid, setOf, tooLarge, Filled}
+use Rattle.set_writer.specs.Writer.{ends, pieces, sorted, laidLength, laid, setOf, tooLarge, Filled}
 use Rattle.sets.specs.Pieces.{Piece}
 use Rattle.set_writer.proofs.Laid.{laid-parts, laid-length}
 use Rattle.set_writer.proofs.Stream.{two-bytes}
@@ -47,7 +47,7 @@ module _ (stream : List ℕ) (n : ℕ) (e : n ≡ length (pieces stream)) (order
   pub few : n ≤ 64 → length (take (n - 0) order) < 256
   few h = rw length-take (omega arith)
 
-  pub aside : (size : ℕ) → size ≡ total (sorted (pieces stream)) → (zeros scratch : List ℕ) (end : ℕ) → size ≤ length zeros
+  pub aside : (size : ℕ) → size ≡ laidLength (sorted (pieces stream)) → (zeros scratch : List ℕ) (end : ℕ) → size ≤ length zeros
       → written.Wrote zeros 0 (laid (piecesAt stream (take (n - 0) order))) scratch end → take (size - 0) scratch ≡ setOf stream
   aside size q zeros scratch end h w =
       let set = setOf stream in
@@ -96,7 +96,7 @@ module _ (stream : List ℕ) where
 
 -- ---- the length of what was written
 pub laid-word : (ps : List Piece) (rest : List ℕ) → word (laid ps ++ rest) 0 ≡ length (laid ps)
-laid-word ps rest = rw (laid-parts ps) (two-bytes (total ps)) ∙ sym (laid-length ps)
+laid-word ps rest = rw (laid-parts ps) (two-bytes (laidLength ps)) ∙ sym (laid-length ps)
 
 pub counted : {buffer after : List ℕ} {asked n : ℕ} (ps : List Piece) → Filled (laid ps) buffer after asked n → lengthWritten n after ≡ pick (eqb n 0) (length (laid ps)) 0
 counted {buffer} {after} {n = n} ps w = rw (w .bytes) (go (eqb n 0))

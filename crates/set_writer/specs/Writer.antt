@@ -77,23 +77,23 @@ unfoldable pub contents : ℕ → List Piece → List ℕ
 contents start [] = []
 contents start (p ∷ ps) = entryBytes p start ++ contents (start + length (p .body)) ps
 
-unfoldable pub bodies : List Piece → List ℕ
-bodies [] = []
-bodies (p ∷ ps) = p .body ++ bodies ps
+unfoldable pub bodyBytes : List Piece → List ℕ
+bodyBytes [] = []
+bodyBytes (p ∷ ps) = p .body ++ bodyBytes ps
 
 -- where the bodies begin, and where they end
 abbrev pub front : List Piece → ℕ
 front ps = 4 + 8 * length ps
 
-abbrev pub total : List Piece → ℕ
-total ps = front ps + length (bodies ps)
+abbrev pub laidLength : List Piece → ℕ
+laidLength ps = front ps + length (bodyBytes ps)
 
 -- "Bytes 0–1 total length, byte 2 entry count n, byte 3 zero."
 abbrev pub header : List Piece → List ℕ
-header ps = total ps % 256 ∷ total ps / 256 ∷ length ps ∷ 0 ∷ []
+header ps = laidLength ps % 256 ∷ laidLength ps / 256 ∷ length ps ∷ 0 ∷ []
 
 unfoldable pub laid : List Piece → List ℕ
-laid ps = header ps ++ (contents (front ps) ps ++ bodies ps)
+laid ps = header ps ++ (contents (front ps) ps ++ bodyBytes ps)
 
 -- ---- the writer
 -- "have the set written .., sorted, with offsets filled in": the set of a stream of pieces

@@ -3,7 +3,7 @@ ghost use mathlib.Core.Path.{_≡_};
 ghost use Prim.Native.Nat.{_+_, _<_, _≤_};
 ghost use lib.ListN.{length};
 ghost use Rattle.buffers.specs.Written.{Room, Wrote};
-ghost use Rattle.set_writer.specs.Writer.{entryBytes, contents, bodies, front, total, laid};
+ghost use Rattle.set_writer.specs.Writer.{entryBytes, contents, bodyBytes, front, laidLength, laid};
 ghost use Rattle.set_writer.specs.Places.{pieceAt, piecesAt};
 
 // One entry of the contents, for the piece at a place of the stream, whose body is to begin at an offset.
@@ -36,7 +36,7 @@ fn put_entry(out: &mut [u8], at: usize, stream: &[u8], from: usize, offset: usiz
 // The entries of the pieces at these places; each body begins where the last one ends.
 fn put_contents(out: &mut [u8], at: usize, stream: &[u8], places: &[usize]) -> usize
     requires { ⌜ Room (now out) at (contents (front (piecesAt (now stream) (now places))) (piecesAt (now stream) (now places))) ⌝ }
-    requires { ⌜ total (piecesAt (now stream) (now places)) < 65536 ⌝ }
+    requires { ⌜ laidLength (piecesAt (now stream) (now places)) < 65536 ⌝ }
     ensures { λ r. ⌜ Wrote (now (out .entry)) at (contents (front (piecesAt (now (stream .entry)) (now (places .entry)))) (piecesAt (now (stream .entry)) (now (places .entry)))) (now (out .exit)) r ⌝ }
 {
     let mut next = at;
@@ -53,8 +53,8 @@ fn put_contents(out: &mut [u8], at: usize, stream: &[u8], places: &[usize]) -> u
 
 // The bodies of the pieces at these places.
 fn put_bodies(out: &mut [u8], at: usize, stream: &[u8], places: &[usize]) -> usize
-    requires { ⌜ Room (now out) at (bodies (piecesAt (now stream) (now places))) ⌝ }
-    ensures { λ r. ⌜ Wrote (now (out .entry)) at (bodies (piecesAt (now (stream .entry)) (now (places .entry)))) (now (out .exit)) r ⌝ }
+    requires { ⌜ Room (now out) at (bodyBytes (piecesAt (now stream) (now places))) ⌝ }
+    ensures { λ r. ⌜ Wrote (now (out .entry)) at (bodyBytes (piecesAt (now (stream .entry)) (now (places .entry)))) (now (out .exit)) r ⌝ }
 {
     let mut next = at;
     let mut i = 0;
@@ -67,7 +67,7 @@ fn put_bodies(out: &mut [u8], at: usize, stream: &[u8], places: &[usize]) -> usi
 
 // The whole set, of `size` bytes.
 pub fn lay(out: &mut [u8], stream: &[u8], places: &[usize], size: usize) -> usize
-    requires { ⌜ size ≡ total (piecesAt (now stream) (now places)) ⌝ }
+    requires { ⌜ size ≡ laidLength (piecesAt (now stream) (now places)) ⌝ }
     requires { ⌜ size ≤ length (now out) ⌝ }
     requires { ⌜ size < 65536 ⌝ }
     requires { ⌜ length (now places) < 256 ⌝ }

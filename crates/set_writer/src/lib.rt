@@ -5,12 +5,24 @@ ghost use mathlib.Core.Path.{_≡_};
 ghost use mathlib.Core.Bool.{true};
 ghost use Prim.Native.Nat.{_≤_};
 ghost use lib.ListN.{length};
-ghost use Rattle.set_writer.specs.Writer.{ends, pieces, total, sorted, setOf};
+ghost use Rattle.set_writer.specs.Writer.{ends, pieces, laidLength, sorted, setOf};
 ghost use Rattle.set_writer.specs.Reported.{lengthWritten, Handed, Reported};
 
 mod layout;
 pub mod pieces;
 mod sorting;
+
+// Why a set is not written, under the header's names.
+pub const PIECES_BROKEN: u8 = 20;
+
+pub const SET_REFUSED: u8 = 21;
+
+pub const BUFFER_TOO_SHORT: u8 = 22;
+
+// The most entries and bytes that a set has.
+pub const MOST_ENTRIES: usize = 64;
+
+pub const LONGEST_SET: usize = 16384;
 
 // What the writer answers: its number, and the opening number of the set that the pieces make, which says why 21; 0 where no set was made.
 pub struct Report {
@@ -30,10 +42,10 @@ fn hand_over(set: &[u8], serial: &[u8], limits: Limits, out: &mut [u8]) -> Repor
 {
     let opening = sets::opening::opening(set, serial, limits);
     if opening != 0 {
-        return answer(21, opening);
+        return answer(SET_REFUSED, opening);
     }
     if out.len() < set.len() {
-        return answer(22, opening);
+        return answer(BUFFER_TOO_SHORT, opening);
     }
     bytes::copy(set, out);
     answer(0, opening)
@@ -51,13 +63,13 @@ fn assemble(
     requires { ⌜ ends (now stream) ≡ true ⌝ }
     requires { ⌜ n ≡ length (pieces (now stream)) ⌝ }
     requires { ⌜ n ≤ 64 ⌝ }
-    requires { ⌜ size ≡ total (sorted (pieces (now stream))) ⌝ }
+    requires { ⌜ size ≡ laidLength (sorted (pieces (now stream))) ⌝ }
     requires { ⌜ size ≤ 16384 ⌝ }
     ensures { λ r. ⌜ Handed limits (setOf (now (stream .entry))) (now (serial .entry)) (now (out .entry)) (now (out .exit)) r ⌝ }
 {
-    let mut order = [0usize; 64];
+    let mut order = [0usize; MOST_ENTRIES];
     sorting::sort(stream, &mut order);
-    let mut scratch = [0u8; 16384];
+    let mut scratch = [0u8; LONGEST_SET];
     layout::lay(&mut scratch, stream, &order[0..n], size);
     hand_over(&scratch[0..size], serial, limits, out)
 }
@@ -66,18 +78,18 @@ fn assemble(
 pub fn write(stream: &[u8], serial: &[u8], limits: Limits, out: &mut [u8]) -> Report
     ensures { λ r. ⌜ Reported limits (now (stream .entry)) (now (serial .entry)) (now (out .entry)) (now (out .exit)) r ⌝ }
 {
-    match pieces::count(stream) {
-        Counted::Broken => answer(20, 0),
+    match pieces::count_pieces(stream) {
+        Counted::Broken => answer(PIECES_BROKEN, 0),
         Counted::Pieces(n) => {
-            if 64 < n {
-                return answer(21, 0);
+            if MOST_ENTRIES < n {
+                return answer(SET_REFUSED, 0);
             }
-            if 16384 < stream.len() {
-                return answer(21, 0);
+            if LONGEST_SET < stream.len() {
+                return answer(SET_REFUSED, 0);
             }
             let size = 4 + 2 * n + stream.len();
-            if 16384 < size {
-                return answer(21, 0);
+            if LONGEST_SET < size {
+                return answer(SET_REFUSED, 0);
             }
             assemble(stream, n, size, serial, limits, out)
         }

@@ -30,7 +30,7 @@ pub fn body_at(stream: &[u8], at: usize) -> &[u8]
 }
 
 // Whether the stream ends where its lengths say, and how many pieces it has.
-pub fn count(stream: &[u8]) -> Counted
+pub fn count_pieces(stream: &[u8]) -> Counted
     ensures { λ r. ⌜ r ≡ countOf (now (stream .entry)) ⌝ }
 {
     let mut n = 0;

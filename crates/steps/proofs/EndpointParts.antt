@@ -43,8 +43,7 @@ use Rattle.records.specs.Current.{setFor, setAt, boardFor}
 use Rattle.records.specs.Fits.{fits, fitsOn}
 use Rattle.records.proofs.InUse.{rowFor, opensFor}
 use Rattle.events.specs.declared.Answer.the-variants.{Refused}
-use Rattle.events.specs.Answer.{partOf}
-use Rattle.events.specs.Places.{InsideAt}
+use Rattle.events.specs.Answer.{partOf, InsideAt}
 use Rattle.steps.specs.Gathering.{configurationsIn, viewIn, endpointIn, endpointOnIn, bodyFound, selectedBody, standing, beginning}
 use Rattle.steps.proofs.Configurations.{selected-by-value}
 use Rattle.steps.specs.Endpoint.{selectedEntry, inSet, endpointsIn, endpointDescriptors, endpointPart, endpoint, endpointOn}
@@ -75,22 +74,22 @@ unfolding endpointOn endpoint viewOf
 endpoint-on-in b image k = refl
 
 -- by its order of refusals
-module _ (number : ℕ) (v : View) (set : List ℕ) (d : Device) (k : ℕ) where
-  pub set-refused : (number ≡ 0 → ⊥) → endpointIn number v set d k ≡ Refused 7
-  set-refused p = rw (ne-eqb number 0 p)
+module _ (opening : ℕ) (v : View) (set : List ℕ) (d : Device) (k : ℕ) where
+  pub set-refused : (opening ≡ 0 → ⊥) → endpointIn opening v set d k ≡ Refused 7
+  set-refused p = rw (ne-eqb opening 0 p)
 
-  module _ (p : number ≡ 0) where
-    pub record-refused : fits v d ≡ false → endpointIn number v set d k ≡ Refused 8
-    record-refused q = rw (eq-eqb number 0 p, q)
+  module _ (p : opening ≡ 0) where
+    pub record-refused : fits v d ≡ false → endpointIn opening v set d k ≡ Refused 8
+    record-refused q = rw (eq-eqb opening 0 p, q)
 
-    pub none-elsewhere : fits v d ≡ true → (d .state ≡ inConfigured → ⊥) → endpointIn number v set d k ≡ Refused 16
+    pub none-elsewhere : fits v d ≡ true → (d .state ≡ inConfigured → ⊥) → endpointIn opening v set d k ≡ Refused 16
     unfolding endpointDescriptors
-    none-elsewhere q n = rw (eq-eqb number 0 p, q, ne-eqb (d .state) inConfigured n)
+    none-elsewhere q n = rw (eq-eqb opening 0 p, q, ne-eqb (d .state) inConfigured n)
 
     pub answers : fits v d ≡ true → d .state ≡ inConfigured
-        → endpointIn number v set d k ≡ standing (found (selectedEntry set d)) (foundAt (getElem? (currentDescriptors (d .alternates) (selectedBody set (d .configuration))) k))
+        → endpointIn opening v set d k ≡ standing (found (selectedEntry set d)) (foundAt (getElem? (currentDescriptors (d .alternates) (selectedBody set (d .configuration))) k))
     unfolding endpointDescriptors
-    answers q n = rw (eq-eqb number 0 p, q, eq-eqb (d .state) inConfigured n) (stands-in set d k (selectedEntry set d))
+    answers q n = rw (eq-eqb opening 0 p, q, eq-eqb (d .state) inConfigured n) (stands-in set d k (selectedEntry set d))
 
 -- ---- a body of an accepted set is short
 module _ (alternates body : List ℕ) (well : wellCut (cut body) ≡ true) (k : ℕ) where

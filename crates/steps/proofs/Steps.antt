@@ -36,16 +36,16 @@ pub event-in : (b : Board) (image : List ℕ) (e : Event) → event b image e �
 unfolding event step viewOf
 event-in b image e = refl
 
-module _ (number : ℕ) (v : View) (d : Device) (e : Event) where
-  pub set-refused : (number ≡ 0 → ⊥) → stepIn number v d e ≡ refused 7 d
-  set-refused p = rw (ne-eqb number 0 p)
+module _ (opening : ℕ) (v : View) (d : Device) (e : Event) where
+  pub set-refused : (opening ≡ 0 → ⊥) → stepIn opening v d e ≡ refused 7 d
+  set-refused p = rw (ne-eqb opening 0 p)
 
-  module _ (p : number ≡ 0) where
-    pub record-refused : fits v d ≡ false → stepIn number v d e ≡ refused 8 d
-    record-refused q = rw (eq-eqb number 0 p, q)
+  module _ (p : opening ≡ 0) where
+    pub record-refused : fits v d ≡ false → stepIn opening v d e ≡ refused 8 d
+    record-refused q = rw (eq-eqb opening 0 p, q)
 
-    pub responds : fits v d ≡ true → stepIn number v d e ≡ respond v d e
-    responds q = rw (eq-eqb number 0 p, q)
+    pub responds : fits v d ≡ true → stepIn opening v d e ≡ respond v d e
+    responds q = rw (eq-eqb opening 0 p, q)
 
 -- the body that was looked up is, in Configured, the selected configuration's
 pub is-selected : (b : Board) (d : Device) {body : List ℕ} → eqb (d .state) inConfigured ≡ true → body ≡ selectedBody (b .set) (d .configuration) → configurationOf body ≡ selected (viewOf b) d

@@ -54,12 +54,12 @@ viewIn paired set serial = record {
 
 -- the step, from the number that opening gives and the view of the set in use
 abbrev pub stepIn : ℕ → View → Device → Event → Outcome
-stepIn number v d e = pick (eqb number 0) (pick (fits v d) (respond v d e) (refused 8 d)) (refused 7 d)
+stepIn opening v d e = pick (eqb opening 0) (pick (fits v d) (respond v d e) (refused 8 d)) (refused 7 d)
 
 -- on images of any length
 abbrev pub eventIn : ℕ → View → List ℕ → Event → Reply
-eventIn number v image e =
-    pick (eqb (length image) 32) (replyOf (stepIn number v (deviceOf image) e)) (record { answer = Refused (pick (eqb number 0) 8 7); image = image })
+eventIn opening v image e =
+    pick (eqb (length image) 32) (replyOf (stepIn opening v (deviceOf image) e)) (record { answer = Refused (pick (eqb opening 0) 8 7); image = image })
 
 -- the endpoint descriptor with a number
 abbrev pub endpointIn : ℕ → View → List ℕ → Device → ℕ → Answer

@@ -5,6 +5,7 @@ use descriptors::lookup::EndpointFound;
 use descriptors::survey;
 use descriptors::survey::Asked;
 use descriptors::survey::Survey;
+use descriptors::types;
 use events::Event;
 use events::facts::Facts;
 use events::facts::Located;
@@ -92,11 +93,11 @@ fn place(entry: EntryFound) -> Located
 }
 
 // Whether an interface is among those of a word; none has a number past 15.
-fn is_among(existing: u32, number: u16) -> bool
-    ensures { λ r. ⌜ r ≡ pick (ltb number 16) (bit existing number) false ⌝ }
+fn is_among(existing: u32, interface: u16) -> bool
+    ensures { λ r. ⌜ r ≡ pick (ltb interface 16) (bit existing interface) false ⌝ }
 {
-    if number < 16 {
-        return octets::test_bit(existing, number as u32);
+    if interface < 16 {
+        return octets::test_bit(existing, interface as u32);
     }
     false
 }
@@ -105,7 +106,7 @@ fn is_among(existing: u32, number: u16) -> bool
 fn has_asked(set: &[u8], setup: Setup) -> bool
     ensures { λ r. ⌜ (setup .bRequest ≡ 0x09 → setup .wValue < 256 → r ≡ hasValue (record { 0 = setup .wValue }) (configurationsIn (now (set .entry)))) ⌝ }
 {
-    if setup.bRequest == 0x09 {
+    if setup.bRequest == requests::SET_CONFIGURATION {
         let value = ConfigurationValue((setup.wValue % 256) as u8);
         return is_found(configuration::by_value(set, value));
     }
@@ -137,7 +138,7 @@ fn locate_string(set: &[u8], serial: &[u8], index: u8, language: u16) -> Located
         }
         return Located::Nowhere;
     }
-    place(contents::find_entry(set, 3, index, language))
+    place(contents::find_entry(set, types::STRING, index, language))
 }
 
 // Where the descriptor lies that GET_DESCRIPTOR asks for: a configuration by its index, another type by its entry. In a set that is lent alone there
@@ -147,16 +148,19 @@ fn locate(set: &[u8], serial: &[u8], setup: Setup) -> Located
 {
     let kind = (setup.wValue / 256) as u8;
     let index = (setup.wValue % 256) as u8;
-    if setup.bRequest != 0x06 {
+    if setup.bRequest != requests::GET_DESCRIPTOR {
         return Located::Nowhere;
     }
-    if kind == 3 {
+    if kind == types::STRING {
         return locate_string(set, serial, index, language_for(set, index, setup.wIndex));
     }
-    if kind == 2 {
+    if kind == types::CONFIGURATION {
         return place(configuration::by_index(set, ConfigurationIndex(index)));
     }
-    if (kind == 1) | (kind == 6) | (kind == 7) {
+    if (kind == types::DEVICE)
+        | (kind == types::DEVICE_QUALIFIER)
+        | (kind == types::OTHER_SPEED_CONFIGURATION)
+    {
         return place(contents::find_entry(set, kind, index, 0));
     }
     Located::Nowhere
@@ -216,11 +220,11 @@ fn look_up(set: &[u8], serial: &[u8], device: Device, event: Event) -> Selected
 }
 
 // What an event has to know of the configuration that the record selects; nothing where the set does not open. It is asked beside the reaction, to spare the stack.
-pub fn learn(number: u8, set: &[u8], serial: &[u8], image: &[u8], event: Event) -> Selected
-    requires { ⌜ (number ≡ 0 → Openable (now set) (now serial)) ⌝ }
-    ensures { λ r. ⌜ (number ≡ 0 → Knows (now (set .entry)) (recordIn (now (image .entry)) .configuration) (recordIn (now (image .entry)) .alternates) (askedBy (questionOf event)) r) ⌝ }
+pub fn learn(opening: u8, set: &[u8], serial: &[u8], image: &[u8], event: Event) -> Selected
+    requires { ⌜ (opening ≡ 0 → Openable (now set) (now serial)) ⌝ }
+    ensures { λ r. ⌜ (opening ≡ 0 → Knows (now (set .entry)) (recordIn (now (image .entry)) .configuration) (recordIn (now (image .entry)) .alternates) (askedBy (questionOf event)) r) ⌝ }
 {
-    if number != 0 {
+    if opening != 0 {
         return nothing_known();
     }
     look_up(set, serial, records::read(image), event)

@@ -5,6 +5,7 @@ use events::Event;
 use events::Outcome;
 use events::reaction;
 use events::reaction::Reaction;
+use events::refusals;
 use records::Device;
 use records::renewal;
 ghost use mathlib.Core.Path.{_≡_};
@@ -21,7 +22,7 @@ ghost use Rattle.events.specs.Step.{step};
 ghost use Rattle.steps.specs.Gathering.{Openable, viewIn, stepIn};
 ghost use Rattle.steps.specs.Selected.{Knows};
 
-pub mod endpoint;
+pub mod current;
 pub mod facts;
 
 // Opening, at base speed: 0, or the number of the first group that is broken.
@@ -37,16 +38,16 @@ pub fn in_use<'a>(full: &'a [u8], high: &'a [u8], speed: u8) -> &'a [u8]
     ensures block { λ r. ⌜ r .ptr .0 ≡ pick (eqb speed 0) ((full .entry) .ptr .0) ((high .entry) .ptr .0) ⌝ }
     ensures offset { λ r. ⌜ r .ptr .1 ≡ pick (eqb speed 0) ((full .entry) .ptr .1) ((high .entry) .ptr .1) ⌝ }
 {
-    if speed == 0 {
+    if speed == records::SPEED_FULL {
         return full;
     }
     high
 }
 
-// The reaction to an event on a board that was checked: `number` is what opening gives, `set` is the set in use, one of two if `paired`, and `known` what was collected or
+// The reaction to an event on a board that was checked: `opening` is what opening gives, `set` is the set in use, one of two if `paired`, and `known` what was collected or
 // learned of it for the record in the image. Opening and learning are asked before this frame stands, to spare the stack.
 pub fn react(
-    number: u8,
+    opening: u8,
     paired: bool,
     set: &[u8],
     serial: &[u8],
@@ -54,29 +55,29 @@ pub fn react(
     event: Event,
     known: Selected,
 ) -> Reaction
-    requires { ⌜ (number ≡ 0 → Openable (now set) (now serial) × Knows (now set) (recordIn (now image) .configuration) (recordIn (now image) .alternates) (askedBy (questionOf event)) known) ⌝ }
-    ensures { λ r. ⌜ outcomeOf r (recordIn (now (image .entry))) ≡ stepIn number (viewIn paired (now (set .entry)) (now (serial .entry))) (recordIn (now (image .entry))) event ⌝ }
+    requires { ⌜ (opening ≡ 0 → Openable (now set) (now serial) × Knows (now set) (recordIn (now image) .configuration) (recordIn (now image) .alternates) (askedBy (questionOf event)) known) ⌝ }
+    ensures { λ r. ⌜ outcomeOf r (recordIn (now (image .entry))) ≡ stepIn opening (viewIn paired (now (set .entry)) (now (serial .entry))) (recordIn (now (image .entry))) event ⌝ }
 {
-    if number != 0 {
-        return reaction::refused(7);
+    if opening != 0 {
+        return reaction::refused(refusals::SET_NOT_ACCEPTABLE);
     }
     let device = records::read(image);
     let facts = facts::gather(paired, set, serial, event, known);
     let survey = facts.survey;
     if !records::fits(survey, facts.configured, facts.waking, paired, device) {
-        return reaction::refused(8);
+        return reaction::refused(refusals::RECORD_DOES_NOT_FIT);
     }
     events::respond::respond(facts, device, event)
 }
 
 // The step on a board that lends one set and was checked.
-pub fn step_opened(number: u8, set: &[u8], serial: &[u8], device: Device, event: Event) -> Outcome
-    requires { ⌜ number ≡ openingOf (lent (now set) (now serial)) ⌝ }
+fn step_opened(opening: u8, set: &[u8], serial: &[u8], device: Device, event: Event) -> Outcome
+    requires { ⌜ opening ≡ openingOf (lent (now set) (now serial)) ⌝ }
     ensures { λ r. ⌜ r ≡ step (lent (now (set .entry)) (now (serial .entry))) device event ⌝ }
 {
     let mut image = [0u8; 32];
     records::store(device, &mut image[..]);
-    let answer = reply(number, set, serial, &mut image[..], event);
+    let answer = reply(opening, set, serial, &mut image[..], event);
     Outcome {
         answer,
         device: records::load(&image[..]),
@@ -87,25 +88,24 @@ pub fn step_opened(number: u8, set: &[u8], serial: &[u8], device: Device, event:
 pub fn step(set: &[u8], serial: &[u8], device: Device, event: Event) -> Outcome
     ensures { λ r. ⌜ r ≡ step (lent (now (set .entry)) (now (serial .entry))) device event ⌝ }
 {
-    let number = opening(set, serial);
-    step_opened(number, set, serial, device, event)
+    step_opened(opening(set, serial), set, serial, device, event)
 }
 
 // An event on the image of a record, 32 bytes, on a board that was checked; `paired`: `set` is one of two. It is a caller of `learn` beside the board's, so that `learn`
 // stays a function of its own on x86-64.
 pub fn reply_in(
-    number: u8,
+    opening: u8,
     paired: bool,
     set: &[u8],
     serial: &[u8],
     image: &mut [u8],
     event: Event,
 ) -> Answer
-    requires { ⌜ (number ≡ 0 → Openable (now set) (now serial)) × (length (now image) ≡ 32) ⌝ }
-    ensures { λ r. ⌜ gives r (deviceOf (now (image .exit))) ≡ stepIn number (viewIn paired (now (set .entry)) (now (serial .entry))) (deviceOf (now (image .entry))) event ⌝ }
+    requires { ⌜ (opening ≡ 0 → Openable (now set) (now serial)) × (length (now image) ≡ 32) ⌝ }
+    ensures { λ r. ⌜ gives r (deviceOf (now (image .exit))) ≡ stepIn opening (viewIn paired (now (set .entry)) (now (serial .entry))) (deviceOf (now (image .entry))) event ⌝ }
 {
-    if number != 0 {
-        return Answer::Refused(7);
+    if opening != 0 {
+        return Answer::Refused(refusals::SET_NOT_ACCEPTABLE);
     }
     let laid = &image[..];
     let known = facts::learn(0, set, serial, laid, event);
@@ -116,11 +116,11 @@ pub fn reply_in(
 }
 
 // The same, of a board that lends one set.
-fn reply(number: u8, set: &[u8], serial: &[u8], image: &mut [u8], event: Event) -> Answer
-    requires { ⌜ (number ≡ openingOf (lent (now set) (now serial))) × (length (now image) ≡ 32) ⌝ }
+fn reply(opening: u8, set: &[u8], serial: &[u8], image: &mut [u8], event: Event) -> Answer
+    requires { ⌜ (opening ≡ openingOf (lent (now set) (now serial))) × (length (now image) ≡ 32) ⌝ }
     ensures { λ r. ⌜ gives r (deviceOf (now (image .exit))) ≡ step (lent (now (set .entry)) (now (serial .entry))) (deviceOf (now (image .entry))) event ⌝ }
 {
-    reply_in(number, false, set, serial, image, event)
+    reply_in(opening, false, set, serial, image, event)
 }
 
 // The record becomes that of an image: a field that becomes another is stored where it stands, and of the settings each by itself.
@@ -163,13 +163,19 @@ pub fn keep(device: &mut Device, image: &[u8; 32])
 }
 
 // The step on a record that is lent, by its image.
-pub fn step_lent(number: u8, device: &mut Device, set: &[u8], serial: &[u8], event: Event) -> Answer
-    requires { ⌜ number ≡ openingOf (lent (now set) (now serial)) ⌝ }
+pub fn step_lent(
+    opening: u8,
+    device: &mut Device,
+    set: &[u8],
+    serial: &[u8],
+    event: Event,
+) -> Answer
+    requires { ⌜ opening ≡ openingOf (lent (now set) (now serial)) ⌝ }
     ensures { λ r. ⌜ gives r (now (device .exit)) ≡ step (lent (now (set .entry)) (now (serial .entry))) (now (device .entry)) event ⌝ }
 {
     let mut image = [0u8; 32];
     records::store(*device, &mut image[..]);
-    let answer = reply(number, set, serial, &mut image[..], event);
+    let answer = reply(opening, set, serial, &mut image[..], event);
     keep(device, &image);
     answer
 }

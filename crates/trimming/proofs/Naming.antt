@@ -25,7 +25,7 @@ use Rattle.sets.specs.Contents.{entries, bodies, bodyOf, isKind}
 use Rattle.sets.specs.Device.{deviceBody, iManufacturer, iProduct, iSerialNumber}
 use Rattle.sets.specs.Strings.{references}
 use Rattle.sets.proofs.Pieces.{bodies-of}
-use Rattle.trimming.specs.Trim.{named, namedString, zeroStays, kept}
+use Rattle.trimming.specs.Trim.{referenced, referencedString, zeroStays, kept}
 use Rattle.trimming.specs.Keeping.{deviceNames, entryNames, tableNames, keepsBy}
 
 turned : (m n : ℕ) → eqb m n ≡ eqb n m
@@ -92,7 +92,7 @@ three true b c d = refl
 three false true c d = refl
 three false false c d = refl
 
-pub named-by : (set : List ℕ) (j : ℕ) → named set j ≡ (deviceNames (deviceBody set) j || any (entryNames set j) (entries set))
+pub named-by : (set : List ℕ) (j : ℕ) → referenced set j ≡ (deviceNames (deviceBody set) j || any (entryNames set j) (entries set))
 unfolding references any
 named-by set j =
     rw (← bodies-of set 2, any-flat (eqb j) configurationReferences (bodies 2 set), any-map (λ b. member j (configurationReferences b)) (bodyOf set), any-only (λ e. member j (configurationReferences (bodyOf set e))) (isKind 2) (entries set))
@@ -122,9 +122,9 @@ may-walk set e es = go (isKind 2 e)
     go false p = (refl, p)
 
 -- ---- the table decides as the rule does
-module _ (set table : List ℕ) (h : (j : ℕ) → j < 256 → has table j ≡ named set j) (small : (e : Entry) → List·Memᴰ e (entries set) → e .index < 256) where
-  pub same-named : any (tableNames table) (entries set) ≡ any (namedString set) (entries set)
-  same-named = any-alike (tableNames table) (namedString set) (entries set) (λ e m. ap (λ b. isKind 3 e && leb 1 (e .index) && b) (h (e .index) (small e m)))
+module _ (set table : List ℕ) (h : (j : ℕ) → j < 256 → has table j ≡ referenced set j) (small : (e : Entry) → List·Memᴰ e (entries set) → e .index < 256) where
+  pub same-named : any (tableNames table) (entries set) ≡ any (referencedString set) (entries set)
+  same-named = any-alike (tableNames table) (referencedString set) (entries set) (λ e m. ap (λ b. isKind 3 e && leb 1 (e .index) && b) (h (e .index) (small e m)))
 
   pub same-kept : (zero : Bool) → zero ≡ zeroStays set → only (keepsBy table zero) (entries set) ≡ only (kept set) (entries set)
   same-kept zero z = only-alike (keepsBy table zero) (kept set) (entries set) (λ e m. rw (z, h (e .index) (small e m)))

@@ -17,12 +17,12 @@ use Rattle.sets.specs.Contents.{entryOf, entriesFrom, entries, count, total, bo
 use Rattle.sets.proofs.Entries.{only-here, only-later, only-empty}
 use Rattle.sets.specs.Pieces.{Piece, pieceFor}
 use Rattle.set_writer.specs.Writer as pieces
-use Rattle.set_writer.specs.Writer.{contents, bodies, front, header, laid}
+use Rattle.set_writer.specs.Writer.{contents, bodyBytes, front, header, laid}
 use Rattle.set_writer.proofs.Laid.{laid-parts, laid-length}
 use Rattle.buffers.specs.Written.{Room, Wrote}
 use Rattle.buffers.proofs.Written.{wrote-both}
 use Rattle.trimming.specs.Entries.{contentsWith, lengths, bodiesWith}
-use Rattle.trimming.specs.Trim.{padded}
+use Rattle.trimming.specs.Trim.{zeroFilled}
 use Rattle.trimming.proofs.Moving.{Next, next-body, bodies-here, bodies-fit, still}
 
 only-length : {A : Type 0} (f : A → Bool) (xs : List A) → length (only f xs) ≤ length xs
@@ -70,7 +70,7 @@ module _ (f : Entry → Bool) where
         (λ q. rw (only-later f x es q) (same-contents es (start + x .length) (n .later) o))
 
     same-lengths : (es : List Entry) (start : ℕ) → endToEnd start (length set) es ≡ true → length (bodiesWith set (only f es)) ≡ lengths (only f es)
-    unfolding bodies lengths
+    unfolding bodyBytes lengths
     same-lengths [] start p = rw (only-empty f)
     same-lengths (x ∷ es) start p =
         let n : Next start (length set) x es = next-body refl p in
@@ -154,7 +154,7 @@ module _ {set : List ℕ} {f : Entry → Bool} {all : List Entry} {k n : ℕ} (r
       pub end-small : end ≤ 16384
       end-small = omega (arith, end-in, long₂, small)
 
-      total-is : end ≡ pieces.total ps
+      total-is : end ≡ pieces.laidLength ps
       total-is = omega (arith, end-is, e, length-map es (pieceFor set))
 
       both-written : Wrote set 4 (contentsWith (4 + 8 * n) es ++ bodiesWith set es) out₂ end
@@ -201,12 +201,12 @@ module _ {set : List ℕ} {f : Entry → Bool} {all : List Entry} {k n : ℕ} (r
         laid-is : laid ps ≡ header ps ++ (contentsWith (4 + 8 * n) es ++ bodiesWith set es)
         laid-is =
             let s : contents (front ps) ps ≡ contentsWith (4 + 8 * n) es = ap (λ (k : ℕ). contents (4 + 8 * k) ps) (length-map es (pieceFor set) ∙ sym e) ∙ same-contents f set all k ends (4 + 8 * n) in
-            laid-parts ps ∙ ap (λ (l : List ℕ). header ps ++ (l ++ bodies ps)) s
+            laid-parts ps ∙ ap (λ (l : List ℕ). header ps ++ (l ++ bodyBytes ps)) s
 
         zeros-are : zeros ≡ replicate (length set - length (laid ps)) 0
         zeros-are = ap (λ (m : ℕ). replicate {A = ℕ} m 0) (let q : length out₂ - end ≡ length set - length (laid ps) = omega (arith, long₂, total-is, laid-length ps) in q)
 
-        pub rebuilt : {out₄ : List ℕ} {q : ℕ} → Wrote out₃ 0 (end % 256 ∷ end / 256 ∷ n ∷ 0 ∷ []) out₄ q → out₄ ≡ padded (laid ps) (length set)
+        pub rebuilt : {out₄ : List ℕ} {q : ℕ} → Wrote out₃ 0 (end % 256 ∷ end / 256 ∷ n ∷ 0 ∷ []) out₄ q → out₄ ≡ zeroFilled (laid ps) (length set)
         rebuilt h =
             h .bytes ∙ sets-eq (end % 256 ∷ end / 256 ∷ n ∷ 0 ∷ []) out₃ 0 header-room
             ∙ ap (λ (l : List ℕ). (end % 256 ∷ end / 256 ∷ n ∷ 0 ∷ []) ++ l) tail

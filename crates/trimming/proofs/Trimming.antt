@@ -25,7 +25,7 @@ use Rattle.set_writer.specs.Writer.{laid}
 use Rattle.sets.specs.Pieces.{pieceFor}
 use Rattle.trimming.specs.Trim as keeping
 use Rattle.trimming.specs.Keeping.{walkable, keepsBy, tableNames}
-use Rattle.trimming.specs.Trim.{zeroStays, padded, Trims}
+use Rattle.trimming.specs.Trim.{zeroStays, zeroFilled, Trims}
 use Rattle.trimming.proofs.Naming.{same-named, same-kept}
 
 module _ (limits : Limits) (set serial : List ℕ) (p : opening limits (lent set serial) ≡ 0) where
@@ -62,12 +62,12 @@ pub refused : (limits : Limits) (set serial : List ℕ) (n : ℕ) → n ≡ open
 refused limits set serial n e h = record { number = e; bytes = rw (ne-eqb n 0 h) }
 
 module _ (limits : Limits) (set serial : List ℕ) (small : Bytes set) (n : ℕ) (e : n ≡ opening limits (lent set serial)) (z : n ≡ 0) (table : List ℕ)
-    (names : (j : ℕ) → j < 256 → has table j ≡ keeping.named set j) (a : Bool) (first : a ≡ any (tableNames table) (entries set)) (s : ℕ) (serially : s ≡ iSerialNumber (deviceBody set)) where
+    (names : (j : ℕ) → j < 256 → has table j ≡ keeping.referenced set j) (a : Bool) (first : a ≡ any (tableNames table) (entries set)) (s : ℕ) (serially : s ≡ iSerialNumber (deviceBody set)) where
   stays : (a || leb 1 s) ≡ zeroStays set
   stays = rw (first ∙ same-named set table names (index-small set small), serially)
 
-  pub trims : {after : List ℕ} → after ≡ padded (laid (map (pieceFor set) (only (keepsBy table (a || leb 1 s)) (entries set)))) (length set) → Trims limits set serial after 0
+  pub trims : {after : List ℕ} → after ≡ zeroFilled (laid (map (pieceFor set) (only (keepsBy table (a || leb 1 s)) (entries set)))) (length set) → Trims limits set serial after 0
   trims h = record {
     number = sym z ∙ e;
-    bytes = h ∙ ap (λ (es : List Entry). padded (laid (map (pieceFor set) es)) (length set)) (same-kept set table names (index-small set small) (a || leb 1 s) stays);
+    bytes = h ∙ ap (λ (es : List Entry). zeroFilled (laid (map (pieceFor set) es)) (length set)) (same-kept set table names (index-small set small) (a || leb 1 s) stays);
   }

@@ -2,7 +2,7 @@
 use Prim.Native.Nat.{ℕ, _+_, _/_, _%_}
 use mathlib.Core.List.{List, [], _∷_, _++_, map}
 use Rattle.sets.specs.declared.Entry.{Entry}
-use Rattle.set_writer.specs.Writer.{bodies}
+use Rattle.set_writer.specs.Writer.{bodyBytes}
 use Rattle.sets.specs.Pieces.{pieceFor}
 
 abbrev pub entryWith : Entry → ℕ → List ℕ
@@ -18,4 +18,4 @@ lengths [] = 0
 lengths (e ∷ es) = e .length + lengths es
 
 abbrev pub bodiesWith : List ℕ → List Entry → List ℕ
-bodiesWith set es = bodies (map (pieceFor set) es)
+bodiesWith set es = bodyBytes (map (pieceFor set) es)

@@ -17,19 +17,19 @@ use Rattle.set_writer.specs.Writer.{laid}
 
 -- ---- which entries stay: "drop string entries with indices that none of the five reference fields names"
 -- iManufacturer, iProduct, iSerialNumber, an iConfiguration or an iInterface is this index
-abbrev pub named : List ℕ → ℕ → Bool
-named set j = member j (references set)
+abbrev pub referenced : List ℕ → ℕ → Bool
+referenced set j = member j (references set)
 
 -- a string entry that a reference names
-abbrev pub namedString : List ℕ → Entry → Bool
-namedString set e = isKind 3 e && leb 1 (e .index) && named set (e .index)
+abbrev pub referencedString : List ℕ → Entry → Bool
+referencedString set e = isKind 3 e && leb 1 (e .index) && referenced set (e .index)
 
 -- "String index 0 stays if another string entry does or iSerialNumber is nonzero"
 abbrev pub zeroStays : List ℕ → Bool
-zeroStays set = any (namedString set) (entries set) || leb 1 (iSerialNumber (deviceBody set))
+zeroStays set = any (referencedString set) (entries set) || leb 1 (iSerialNumber (deviceBody set))
 
 abbrev pub kept : List ℕ → Entry → Bool
-kept set e = not (isKind 3 e) || pick (eqb (e .index) 0) (zeroStays set) (named set (e .index))
+kept set e = not (isKind 3 e) || pick (eqb (e .index) 0) (zeroStays set) (referenced set (e .index))
 
 -- the entries that stay, with their bodies
 abbrev pub keptPieces : List ℕ → List Piece
@@ -40,10 +40,10 @@ abbrev pub trimmed : List ℕ → List ℕ
 trimmed set = laid (keptPieces set)
 
 -- "the freed bytes at the end become zero"
-abbrev pub padded : List ℕ → ℕ → List ℕ
-padded bytes size = bytes ++ replicate (size - length bytes) 0
+abbrev pub zeroFilled : List ℕ → ℕ → List ℕ
+zeroFilled bytes size = bytes ++ replicate (size - length bytes) 0
 
 -- "A refused set is left unchanged, under its opening number."
 pub record Trims (limits : Limits) (set serial after : List ℕ) (answer : ℕ) : Type 0 where
   pub number : answer ≡ opening limits (lent set serial)
-  pub bytes : after ≡ pick (eqb answer 0) (padded (trimmed set) (length set)) set
+  pub bytes : after ≡ pick (eqb answer 0) (zeroFilled (trimmed set) (length set)) set

@@ -1,4 +1,5 @@
 // Which strings a set's own references name, and whether string 0 has to stay.
+use descriptors::types;
 use descriptors::walk;
 use descriptors::walk::BEFORE_FIRST;
 use octets::table::holds;
@@ -15,7 +16,7 @@ ghost use Rattle.descriptors.specs.Cut.{cut, wellCut};
 ghost use Rattle.descriptors.specs.Descriptor.{isInterface, iInterface};
 ghost use Rattle.descriptors.specs.Configuration.{configurationReferences};
 ghost use Rattle.sets.specs.Contents.{entries, bodyOf, isKind};
-ghost use Rattle.trimming.specs.Trim.{named};
+ghost use Rattle.trimming.specs.Trim.{referenced};
 ghost use Rattle.trimming.specs.Keeping.{entryNames, tableNames, keepsBy, walkable};
 
 // A table with the reference of a descriptor, where that is an interface's.
@@ -23,7 +24,7 @@ fn with_interface(d: &[u8], names: [u32; 8]) -> [u32; 8]
     ensures { λ r. ⌜ r ≡ pick (isInterface (now (d .entry))) (with names (iInterface (now (d .entry)))) names ⌝ }
 {
     let mut table = names;
-    if octets::peek(d, 1) == 4 {
+    if octets::peek(d, 1) == types::INTERFACE {
         join(&mut table, octets::peek(d, 8));
     }
     table
@@ -53,7 +54,7 @@ fn with_entry(set: &[u8], e: Entry, names: [u32; 8]) -> [u32; 8]
     requires { ⌜ (isKind 2 e ⇒ wellCut (cut (bodyOf (now set) e))) ≡ true ⌝ }
     ensures { λ r. ⌜ ((j : ℕ) → j < 256 → has r j ≡ (has names j || entryNames (now (set .entry)) j e)) ⌝ }
 {
-    if e.kind == 2 {
+    if e.kind == types::CONFIGURATION {
         let body = body_of(set, e);
         return with_configuration(body, names);
     }
@@ -63,7 +64,7 @@ fn with_entry(set: &[u8], e: Entry, names: [u32; 8]) -> [u32; 8]
 // The table of all that is named.
 pub fn names_of(set: &[u8]) -> [u32; 8]
     requires { ⌜ walkable (now set) ≡ true ⌝ }
-    ensures { λ r. ⌜ ((j : ℕ) → j < 256 → has r j ≡ named (now (set .entry)) j) ⌝ }
+    ensures { λ r. ⌜ ((j : ℕ) → j < 256 → has r j ≡ referenced (now (set .entry)) j) ⌝ }
 {
     let device = sets::device::device_body(set);
     let mut table = [0u32; 8];
@@ -84,14 +85,14 @@ pub fn names_of(set: &[u8]) -> [u32; 8]
 fn table_names(e: Entry, names: &[u32; 8]) -> bool
     ensures { λ r. ⌜ r ≡ tableNames (now (names .entry)) e ⌝ }
 {
-    if (e.kind == 3) & (1 <= e.index) {
+    if (e.kind == types::STRING) & (1 <= e.index) {
         return holds(names, e.index);
     }
     false
 }
 
 // Whether some string entry is named.
-pub fn any_named(set: &[u8], names: &[u32; 8]) -> bool
+pub fn any_referenced(set: &[u8], names: &[u32; 8]) -> bool
     ensures { λ r. ⌜ r ≡ any (tableNames (now (names .entry))) (entries (now (set .entry))) ⌝ }
 {
     let count = octets::peek(set, 2);
@@ -110,7 +111,7 @@ pub fn any_named(set: &[u8], names: &[u32; 8]) -> bool
 pub fn keeps(e: Entry, names: &[u32; 8], zero: bool) -> bool
     ensures { λ r. ⌜ r ≡ keepsBy (now (names .entry)) zero e ⌝ }
 {
-    if e.kind != 3 {
+    if e.kind != types::STRING {
         return true;
     }
     if e.index == 0 {

@@ -15,10 +15,13 @@ ghost use Rattle.sets.specs.Pieces.{pieceFor};
 ghost use Rattle.buffers.specs.Written.{Room, Wrote};
 ghost use Rattle.trimming.specs.Keeping.{keepsBy};
 ghost use Rattle.trimming.specs.Entries.{entryWith, contentsWith, lengths, bodiesWith};
-ghost use Rattle.trimming.specs.Trim.{padded, Trims};
+ghost use Rattle.trimming.specs.Trim.{zeroFilled, Trims};
 
 mod keeping;
 mod sliding;
+
+// The bytes before the bodies of a set with the most entries.
+const LONGEST_FRONT: usize = 4 + 8 * set_writer::MOST_ENTRIES;
 
 // How many entries stay.
 fn count_kept(contents: &[u8], names: &[u32; 8], zero: bool) -> usize
@@ -129,10 +132,10 @@ fn put_zeros(out: &mut [u8], at: usize) -> usize
 fn rebuild(set: &mut [u8], names: &[u32; 8], zero: bool)
     requires { ⌜ goodFrame (now set) ≡ true ⌝ }
     requires { ⌜ endToEnd (bodiesAt (now set)) (length (now set)) (entries (now set)) ≡ true ⌝ }
-    ensures { λ _. ⌜ now (set .exit) ≡ padded (laid (map (pieceFor (now (set .entry))) (only (keepsBy (now (names .entry)) zero) (entries (now (set .entry)))))) (length (now (set .entry))) ⌝ }
+    ensures { λ _. ⌜ now (set .exit) ≡ zeroFilled (laid (map (pieceFor (now (set .entry))) (only (keepsBy (now (names .entry)) zero) (entries (now (set .entry)))))) (length (now (set .entry))) ⌝ }
 {
     let front = 4 + 8 * (octets::peek(set, 2) as usize);
-    let mut contents = [0u8; 516];
+    let mut contents = [0u8; LONGEST_FRONT];
     bytes::copy(&set[0..front], &mut contents);
     let count = count_kept(&contents, names, zero);
     let start = 4 + 8 * count;
@@ -150,12 +153,12 @@ fn rebuild(set: &mut [u8], names: &[u32; 8], zero: bool)
 pub fn trim(set: &mut [u8], serial: &[u8], limits: Limits) -> u8
     ensures { λ r. ⌜ Trims limits (now (set .entry)) (now (serial .entry)) (now (set .exit)) r ⌝ }
 {
-    let number = sets::opening::opening(set, serial, limits);
-    if number != 0 {
-        return number;
+    let opening = sets::opening::opening(set, serial, limits);
+    if opening != 0 {
+        return opening;
     }
     let names = keeping::names_of(set);
-    let zero = keeping::any_named(set, &names) | (1 <= sets::device::serial_index(set));
+    let zero = keeping::any_referenced(set, &names) | (1 <= sets::device::serial_index(set));
     rebuild(set, &names, zero);
     0
 }

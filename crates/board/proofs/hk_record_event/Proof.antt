@@ -46,8 +46,7 @@ use Rattle.records.proofs.Device as D
 use Rattle.events.specs.declared.Answer.{Answer}
 use Rattle.events.specs.declared.Event.{Event}
 use Rattle.events.specs.declared.Outcome.{Outcome}
-use Rattle.events.specs.Answer.{gives, partOf}
-use Rattle.events.specs.Places.{Inside}
+use Rattle.events.specs.Answer.{gives, partOf, Inside}
 use Rattle.events.specs.Step.{step}
 use Rattle.events.proofs.Answer as A
 use Rattle.events.proofs.Answer.Laws as A′

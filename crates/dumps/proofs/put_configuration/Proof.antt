@@ -20,20 +20,8 @@ Inv-loop out₀ from body behind last₀ at₀ out last at =
 abbrev μ-loop : tie.MeasureT-loop
 μ-loop out₀ from body behind last₀ at₀ out last at = length body - at
 
-put-bytes-requires : tie.Need-put-bytes-requires Inv-loop μ-loop
-put-bytes-requires c κs = search needs
-
-blank-requires : tie.Need-blank-requires Inv-loop μ-loop
-blank-requires c κs = search needs
-
 loop-holds : tie.Need-loop-holds Inv-loop μ-loop
 loop-holds c = (refl, λ start goal b. b)
-
-advance-requires : tie.Need-advance-requires Inv-loop μ-loop
-advance-requires c κs = search needs
-
-same-length : tie.Need-same-length Inv-loop μ-loop
-same-length c = search needs
 
 returns : tie.Need-returns Inv-loop μ-loop
 returns c =
@@ -50,23 +38,8 @@ inside c =
     let n = ap (λ (p : Pace). p .end) e in
     rw n (moved (c .before .before .before .before .before .before .before .before .before .before .before .before .before .before .args .body .now) (l .at) (standIn (l .last)) (c .before .before .loop-test .taken) (rw n at (c .if1 .left)) .inside)
 
-sub-has-name : tie.Need-sub-has-name Inv-loop μ-loop
-sub-has-name c = search needs
-
-part-has-name-start : tie.Need-part-has-name-start Inv-loop μ-loop
-part-has-name-start c = search needs
-
 part-has-name-end : tie.Need-part-has-name-end Inv-loop μ-loop
 part-has-name-end c = inside c
-
-has-name-requires : tie.Need-has-name-requires Inv-loop μ-loop
-has-name-requires c κs = search needs
-
-add-blank : tie.Need-add-blank Inv-loop μ-loop
-add-blank c = search needs
-
-blank-requires-2 : tie.Need-blank-requires-2 Inv-loop μ-loop
-blank-requires-2 c κs = search needs
 
 loop-less : tie.Need-loop-less Inv-loop μ-loop
 loop-less c = let w = c .before .before .before .before .before .before in omega (arith, inside w, w .if1 .left, w .before .before .loop-test .taken)
@@ -83,9 +56,6 @@ loop-again c =
       λ start goal b. rw (← s .ensures .apart) (one (l .at + 8) (named .result) (c .before .before .blank2 .ensures) (rw e at (l .inv .1 start goal b))),
     )
 
-same-length-2 : tie.Need-same-length-2 Inv-loop μ-loop
-same-length-2 c = search needs
-
 returns-2 : tie.Need-returns-2 Inv-loop μ-loop
 returns-2 c =
     let l = c .before .loop in
@@ -98,19 +68,19 @@ put-configuration-spec =
     (tie.spec
     Inv-loop
     μ-loop
-    put-bytes-requires
-    blank-requires
+    (λ c κs. search needs)
+    (λ c κs. search needs)
     loop-holds
-    advance-requires
-    same-length
+    (λ c κs. search needs)
+    (λ c. search needs)
     returns
-    sub-has-name
-    part-has-name-start
+    (λ c. search needs)
+    (λ c. search needs)
     part-has-name-end
-    has-name-requires
-    add-blank
-    blank-requires-2
+    (λ c κs. search needs)
+    (λ c. search needs)
+    (λ c κs. search needs)
     loop-less
     loop-again
-    same-length-2
+    (λ c. search needs)
     returns-2)

@@ -30,9 +30,6 @@ loop-holds c =
     let w = whole-splits (a .dump .now) (r .pre .0) in
     (omega (arith, w .0), w .1, omega (arith, r .pre .1 .0), begun (a .out .now) (a .at) _ (r .pre .1 .1))
 
-size-at-requires : tie.Need-size-at-requires Inv-loop μ-loop
-size-at-requires c κs = search needs
-
 put-head-requires : tie.Need-put-head-requires Inv-loop μ-loop
 put-head-requires c κs =
     let dump = c .before .before .before .before .before .before .args .dump .now in
@@ -42,12 +39,6 @@ put-head-requires c κs =
       room-for (s .inv .3) (headed 2 (s .index) _) _ (stream-here dump (s .from) h (s .inv .1) _ e (s .index)),
       c .before .size-at .ensures .1,
     )
-
-tail-requires : tie.Need-tail-requires Inv-loop μ-loop
-tail-requires c κs = search needs
-
-head-requires : tie.Need-head-requires Inv-loop μ-loop
-head-requires c κs = search needs
 
 put-configuration-requires : tie.Need-put-configuration-requires Inv-loop μ-loop
 put-configuration-requires c κs =
@@ -115,10 +106,10 @@ put-configurations-spec =
     Inv-loop
     μ-loop
     loop-holds
-    size-at-requires
+    (λ c κs. search needs)
     put-head-requires
-    tail-requires
-    head-requires
+    (λ c κs. search needs)
+    (λ c κs. search needs)
     put-configuration-requires
     add-from
     add-index

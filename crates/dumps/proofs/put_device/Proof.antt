@@ -6,21 +6,6 @@ use borrow.Author.Needs.{needs}
 use Rattle.dumps.proofs.put_device.Statement.{statement}
 use Rattle.dumps.proofs.put_device.Tie as tie
 
-put-bytes-requires : tie.Need-put-bytes-requires
-put-bytes-requires c κs = search needs
-
-blank-requires : tie.Need-blank-requires
-blank-requires c κs = search needs
-
-blank-requires-2 : tie.Need-blank-requires-2
-blank-requires-2 c κs = search needs
-
-blank-requires-3 : tie.Need-blank-requires-3
-blank-requires-3 c κs = search needs
-
-same-length : tie.Need-same-length
-same-length c = search needs
-
 returns : tie.Need-returns
 returns c =
     let b = begun (14 ∷ 15 ∷ 16 ∷ []) (c .before .before .before .before .before .before .before .before .before .before .before .before .before .before .put-bytes .ensures) in
@@ -29,4 +14,4 @@ returns c =
 pub put-device-spec : {M : Type 1} → statement M
 put-device-spec =
     tie.close
-    (tie.spec put-bytes-requires blank-requires blank-requires-2 blank-requires-3 same-length returns)
+    (tie.spec (λ c κs. search needs) (λ c κs. search needs) (λ c κs. search needs) (λ c κs. search needs) (λ c. search needs) returns)

@@ -18,9 +18,6 @@ put-head-requires c κs =
     let g = begun (r .args .out .now) 0 _ (r .pre .1 .1) in
     (room-for g (headed 1 0 18) _ (stream-parts dump (r .pre .0)), search needs)
 
-head-requires : tie.Need-head-requires
-head-requires c κs = search needs
-
 put-device-requires : tie.Need-put-device-requires
 put-device-requires c κs =
     let r = c .before .before .before .before .before .before .before .before in
@@ -38,9 +35,6 @@ put-configurations-requires c κs =
     let g3 = next g2 (zeroedDevice (deviceIn dump)) _ refl (rw (c .before .before .before .before .head .ensures) at (c .before .before .before .put-device .ensures)) in
     (r .pre .0, (r .pre .1 .0, g3 .room))
 
-same-length : tie.Need-same-length
-same-length c = search needs
-
 returns : tie.Need-returns
 returns c =
     let r = c .before .before .before .before .before .before .before .before .before .before .before .before .before .before .before in
@@ -55,8 +49,8 @@ put-stream-spec =
     tie.close
     (tie.spec
     put-head-requires
-    head-requires
+    (λ c κs. search needs)
     put-device-requires
     put-configurations-requires
-    same-length
+    (λ c. search needs)
     returns)

@@ -4,9 +4,6 @@ use borrow.Author.Needs.{needs}
 use Rattle.events.proofs.setup_event.Statement.{statement}
 use Rattle.events.proofs.setup_event.Tie as tie
 
-setup-of-requires : tie.Need-setup-of-requires
-setup-of-requires c κs = search needs
-
 returns : tie.Need-returns
 returns c = rw (eq-eqb _ _ (c .before .if1 .taken), c .setup-of .ensures)
 
@@ -14,4 +11,4 @@ returns-2 : tie.Need-returns-2
 returns-2 c = rw (ne-eqb _ _ (c .if1 .left))
 
 pub setup-event-spec : {M : Type 1} → statement M
-setup-event-spec = tie.close (tie.spec setup-of-requires returns returns-2)
+setup-event-spec = tie.close (tie.spec (λ c κs. search needs) returns returns-2)

@@ -5,32 +5,14 @@ use borrow.Author.Needs.{needs}
 use Rattle.listing.proofs.list.Statement.{statement}
 use Rattle.listing.proofs.list.Tie as tie
 
-opening-requires : tie.Need-opening-requires
-opening-requires c κs = search needs
-
-cast-number : tie.Need-cast-number
-cast-number c = search needs
-
-slice-aggregate-put-line : tie.Need-slice-aggregate-put-line
-slice-aggregate-put-line c = search needs
-
-slice-aggregate-put-line-2 : tie.Need-slice-aggregate-put-line-2
-slice-aggregate-put-line-2 c = search needs
-
 put-line-requires : tie.Need-put-line-requires
 put-line-requires c κs = let s = c .before .before .before .before .before .before .before .before in let b = lent (s .args .set .now) (s .args .serial .now) in enough (s .args .limits) b _ (refused (s .args .limits) b _ (c .before .before .before .before .opening .ensures) (c .before .before .before .if1 .taken)) (s .args .out .now) (s .pre)
-
-same-length : tie.Need-same-length
-same-length c = search needs
 
 returns : tie.Need-returns
 returns c = let s = c .before .before .before .before .before .before .before .before .before .before .before in let b = lent (s .args .set .now) (s .args .serial .now) in listed (s .args .limits) b _ (refused (s .args .limits) b _ (c .before .before .before .before .before .before .before .opening .ensures) (c .before .before .before .before .before .before .if1 .taken)) (s .args .out .now) (s .pre) (c .before .before .put-line .ensures)
 
 put-accepted-requires : tie.Need-put-accepted-requires
 put-accepted-requires c κs = let s = c .before .before .before .before .before .before in let b = lent (s .args .set .now) (s .args .serial .now) in let o = c .before .before .opening .ensures in let p = c .before .if1 .left in (good (s .args .limits) b _ o p, enough (s .args .limits) b _ (accepted (s .args .limits) b _ o p) (s .args .out .now) (s .pre))
-
-same-length-2 : tie.Need-same-length-2
-same-length-2 c = search needs
 
 returns-2 : tie.Need-returns-2
 returns-2 c = let s = c .before .before .before .before .before .before .before .before .before in let b = lent (s .args .set .now) (s .args .serial .now) in listed (s .args .limits) b _ (accepted (s .args .limits) b _ (c .before .before .before .before .before .opening .ensures) (c .before .before .before .before .if1 .left)) (s .args .out .now) (s .pre) (c .before .before .put-accepted .ensures)
@@ -39,13 +21,13 @@ pub list-spec : {M : Type 1} → statement M
 list-spec =
     tie.close
     (tie.spec
-    opening-requires
-    cast-number
-    slice-aggregate-put-line
-    slice-aggregate-put-line-2
+    (λ c κs. search needs)
+    (λ c. search needs)
+    (λ c. search needs)
+    (λ c. search needs)
     put-line-requires
-    same-length
+    (λ c. search needs)
     returns
     put-accepted-requires
-    same-length-2
+    (λ c. search needs)
     returns-2)

@@ -17,18 +17,6 @@ firstLine set = line acceptedWord (length (bodies 2 set) ∷ [])
 abbrev others : List ℕ → List ℕ
 others set = flatMap configurationLines (bodies 2 set)
 
-count-of-requires : tie.Need-count-of-requires
-count-of-requires c κs = search needs
-
-cast-configurations : tie.Need-cast-configurations
-cast-configurations c = search needs
-
-slice-aggregate-put-line : tie.Need-slice-aggregate-put-line
-slice-aggregate-put-line c = search needs
-
-slice-aggregate-put-line-2 : tie.Need-slice-aggregate-put-line-2
-slice-aggregate-put-line-2 c = search needs
-
 counted : (c : tie.After-count-of) → c .count-of .result ≡ length (bodies 2 (c .before .before .before .args .set .now))
 counted c = c .count-of .ensures ∙ sym (length-map (entriesOf 2 (c .before .before .before .args .set .now)) (bodyOf (c .before .before .before .args .set .now)))
 
@@ -42,9 +30,6 @@ headed c = rw (counted (c .before .before .before .before)) at (c .put-line .ens
 put-configurations-requires : tie.Need-put-configurations-requires
 put-configurations-requires c κs = let s = c .before .before .before .before .before .before .before .before .before .before in (s .pre .0, next (begun (s .args .out .now) _ _ (s .pre .1)) (firstLine (s .args .set .now)) (others (s .args .set .now)) refl (headed (c .before .before .before)) .room)
 
-same-length : tie.Need-same-length
-same-length c = search needs
-
 returns : tie.Need-returns
 returns c = wrote-both (headed (c .before .before .before .before .before .before)) (c .before .before .put-configurations .ensures)
 
@@ -52,11 +37,11 @@ pub put-accepted-spec : {M : Type 1} → statement M
 put-accepted-spec =
     tie.close
     (tie.spec
-    count-of-requires
-    cast-configurations
-    slice-aggregate-put-line
-    slice-aggregate-put-line-2
+    (λ c κs. search needs)
+    (λ c. search needs)
+    (λ c. search needs)
+    (λ c. search needs)
     put-line-requires
     put-configurations-requires
-    same-length
+    (λ c. search needs)
     returns)

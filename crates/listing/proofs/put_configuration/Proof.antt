@@ -8,24 +8,6 @@ use borrow.Author.Needs.{needs}
 use Rattle.listing.proofs.put_configuration.Statement.{statement}
 use Rattle.listing.proofs.put_configuration.Tie as tie
 
-peek-requires : tie.Need-peek-requires
-peek-requires c κs = search needs
-
-cast-value : tie.Need-cast-value
-cast-value c = search needs
-
-peek-requires-2 : tie.Need-peek-requires-2
-peek-requires-2 c κs = search needs
-
-cast-interfaces : tie.Need-cast-interfaces
-cast-interfaces c = search needs
-
-slice-aggregate-put-line : tie.Need-slice-aggregate-put-line
-slice-aggregate-put-line c = search needs
-
-slice-aggregate-put-line-2 : tie.Need-slice-aggregate-put-line-2
-slice-aggregate-put-line-2 c = search needs
-
 put-line-requires : tie.Need-put-line-requires
 put-line-requires c κs =
     let s = c .before .before .before .before .before .before .before in
@@ -43,9 +25,6 @@ put-descriptors-requires c κs =
       next (begun (s .args .out .now) _ _ (s .pre .1)) (headLine (s .args .body .now)) (descriptorLines (s .args .body .now)) (configuration-lines (s .pre .0 .0) (s .args .body .now) (s .pre .0 .1)) (headed (c .before .before .before)) .room,
     )
 
-same-length : tie.Need-same-length
-same-length c = search needs
-
 returns : tie.Need-returns
 returns c = let s = c .before .before .before .before .before .before .before .before .before .before .before .before .before .before in rw (configuration-lines (s .pre .0 .0) (s .args .body .now) (s .pre .0 .1)) (wrote-both (headed (c .before .before .before .before .before .before)) (c .before .before .put-descriptors .ensures))
 
@@ -53,13 +32,13 @@ pub put-configuration-spec : {M : Type 1} → statement M
 put-configuration-spec =
     tie.close
     (tie.spec
-    peek-requires
-    cast-value
-    peek-requires-2
-    cast-interfaces
-    slice-aggregate-put-line
-    slice-aggregate-put-line-2
+    (λ c κs. search needs)
+    (λ c. search needs)
+    (λ c κs. search needs)
+    (λ c. search needs)
+    (λ c. search needs)
+    (λ c. search needs)
     put-line-requires
     put-descriptors-requires
-    same-length
+    (λ c. search needs)
     returns)

@@ -22,14 +22,8 @@ Inv-loop out₀ at set count next₀ i₀ out next i =
 abbrev μ-loop : tie.MeasureT-loop
 μ-loop out₀ at set count next₀ i₀ out next i = count - i
 
-peek-requires : tie.Need-peek-requires Inv-loop μ-loop
-peek-requires c κs = search needs
-
 loop-holds : tie.Need-loop-holds Inv-loop μ-loop
 loop-holds c = let s = c .before .before .before in ((s .pre .0 .0, entries-good (s .pre .0 .0) (s .args .set .now) (s .pre .0 .1)), rw (sym (entry-lines (s .args .set .now))) (begun (s .args .out .now) _ _ (s .pre .1)))
-
-entry-at-requires : tie.Need-entry-at-requires Inv-loop μ-loop
-entry-at-requires c κs = search needs
 
 put-entry-requires : tie.Need-put-entry-requires Inv-loop μ-loop
 put-entry-requires c κs =
@@ -40,12 +34,6 @@ put-entry-requires c κs =
       (c .before .before .before .loop .inv .0 .0, next-good set _ p i (c .before .before .before .loop .inv .0 .0) h _ (c .entry-at .ensures) (c .before .before .before .loop .inv .0 .1) .0),
       room-for (c .before .before .before .loop .inv .1) (entryLines set (c .entry-at .result)) (flatMap (entryLines set) (rest set (i + 1))) (next-entry-lines set _ p i h _ (c .entry-at .ensures)),
     )
-
-add-i : tie.Need-add-i Inv-loop μ-loop
-add-i c = search needs
-
-loop-less : tie.Need-loop-less Inv-loop μ-loop
-loop-less c = search needs
 
 loop-again : tie.Need-loop-again Inv-loop μ-loop
 loop-again c =
@@ -70,12 +58,12 @@ put-configurations-spec =
     (tie.spec
     Inv-loop
     μ-loop
-    peek-requires
+    (λ c κs. search needs)
     loop-holds
-    entry-at-requires
+    (λ c κs. search needs)
     put-entry-requires
-    add-i
-    loop-less
+    (λ c. search needs)
+    (λ c. search needs)
     loop-again
     same-length
     returns)

@@ -38,17 +38,8 @@ after-4 : (c : tie.After-put-lead4)
     → Going (c .before .before .before .before .before .before .before .before .before .before .before .before .before .before .before .args .out .now) (c .before .before .before .before .before .before .before .before .before .before .before .before .before .before .before .args .at) (decimal (c .before .before .before .before .before .before .before .before .before .before .before .before .before .before .before .args .x)) (c .put-lead4 .last .0) (c .put-lead4 .result) (last (c .before .before .before .before .before .before .before .before .before .before .before .before .before .before .before .args .x))
 after-4 c = let x = c .before .before .before .before .before .before .before .before .before .before .before .before .before .before .before .args .x in next (after-3 (c .before .before .before .before)) (lead 10 x) (last x) refl (c .put-lead4 .ensures)
 
-cast-put : tie.Need-cast-put
-cast-put c = search needs
-
-add-put : tie.Need-add-put
-add-put c = search needs
-
 put-requires : tie.Need-put-requires
 put-requires c κs = let x = c .before .before .before .before .before .before .before .before .before .before .before .before .before .before .before .before .before .before .args .x in room-for (after-4 (c .before .before .before)) (last x) [] refl
-
-same-length : tie.Need-same-length
-same-length c = search needs
 
 returns : tie.Need-returns
 returns c = let x = c .before .before .before .before .before .before .before .before .before .before .before .before .before .before .before .before .before .before .before .before .before .args .x in done (next (after-4 (c .before .before .before .before .before .before)) (last x) [] refl (c .before .before .put .ensures)) refl
@@ -61,8 +52,8 @@ put-decimal-spec =
     put-lead-requires-2
     put-lead-requires-3
     put-lead-requires-4
-    cast-put
-    add-put
+    (λ c. search needs)
+    (λ c. search needs)
     put-requires
-    same-length
+    (λ c. search needs)
     returns)

@@ -6,23 +6,14 @@ use borrow.Author.Needs.{needs}
 use Rattle.listing.proofs.put_descriptor.Statement.{statement}
 use Rattle.listing.proofs.put_descriptor.Tie as tie
 
-peek-requires : tie.Need-peek-requires
-peek-requires c κs = search needs
-
 put-interface-requires : tie.Need-put-interface-requires
 put-interface-requires c κs = rw (eq-eqb _ 4 (sym (c .before .before .peek .ensures) ∙ c .before .if1 .taken)) at (c .before .before .before .before .before .pre)
-
-same-length : tie.Need-same-length
-same-length c = search needs
 
 returns : tie.Need-returns
 returns c = rw (eq-eqb _ 4 (sym (c .before .before .before .before .before .peek .ensures) ∙ c .before .before .before .before .if1 .taken)) (c .before .before .put-interface .ensures)
 
 put-endpoint-requires : tie.Need-put-endpoint-requires
 put-endpoint-requires c κs = rw (ne-eqb _ 4 (λ e. c .before .before .if1 .left (c .before .before .before .peek .ensures ∙ e)), eq-eqb _ 5 (sym (c .before .before .before .peek .ensures) ∙ c .before .if2 .taken)) at (c .before .before .before .before .before .before .pre)
-
-same-length-2 : tie.Need-same-length-2
-same-length-2 c = search needs
 
 returns-2 : tie.Need-returns-2
 returns-2 c = rw (ne-eqb _ 4 (λ e. c .before .before .before .before .before .if1 .left (c .before .before .before .before .before .before .peek .ensures ∙ e)), eq-eqb _ 5 (sym (c .before .before .before .before .before .before .peek .ensures) ∙ c .before .before .before .before .if2 .taken)) (c .before .before .put-endpoint .ensures)
@@ -34,11 +25,11 @@ pub put-descriptor-spec : {M : Type 1} → statement M
 put-descriptor-spec =
     tie.close
     (tie.spec
-    peek-requires
+    (λ c κs. search needs)
     put-interface-requires
-    same-length
+    (λ c. search needs)
     returns
     put-endpoint-requires
-    same-length-2
+    (λ c. search needs)
     returns-2
     returns-3)

@@ -19,12 +19,6 @@ Inv-loop out₀ at body last₀ next₀ from₀ out last next from = Place body 
 abbrev μ-loop : tie.MeasureT-loop
 μ-loop out₀ at body last₀ next₀ from₀ out last next from = length body - from
 
-peek-requires : tie.Need-peek-requires Inv-loop μ-loop
-peek-requires c κs = search needs
-
-cast-from : tie.Need-cast-from Inv-loop μ-loop
-cast-from c = search needs
-
 loop-holds : tie.Need-loop-holds Inv-loop μ-loop
 loop-holds c =
     let b = at-first (c .before .before .before .args .body .now) _ (c .before .before .before .pre .0) (c .peek .ensures) in
@@ -81,8 +75,8 @@ put-descriptors-spec =
     (tie.spec
     Inv-loop
     μ-loop
-    peek-requires
-    cast-from
+    (λ c κs. search needs)
+    (λ c. search needs)
     loop-holds
     step-over-requires
     sub-put-descriptor

@@ -8,18 +8,12 @@ use borrow.Author.Needs.{needs}
 use Rattle.listing.proofs.put_entry.Statement.{statement}
 use Rattle.listing.proofs.put_entry.Tie as tie
 
-body-of-requires : tie.Need-body-of-requires
-body-of-requires c κs = search needs
-
 put-configuration-requires : tie.Need-put-configuration-requires
 put-configuration-requires c κs =
     let s = c .before .before .before .before .before .before in
     let e = s .args .e in
     let k = eq-eqb (e .kind) 2 (c .before .before .if1 .taken) in
     ((s .pre .0 .0, rw (c .body-of .ensures) (if-then (isKind 2 e) (goodConfiguration (s .pre .0 .0) (bodyOf (s .args .set .now) e)) (s .pre .0 .1) k)), rw (c .body-of .ensures) (rw k at (s .pre .1)))
-
-same-length : tie.Need-same-length
-same-length c = search needs
 
 returns : tie.Need-returns
 returns c = rw (eq-eqb (c .before .before .before .before .before .before .before .before .before .args .e .kind) 2 (c .before .before .before .before .before .if1 .taken)) (rw (c .before .before .before .body-of .ensures) at (c .before .before .put-configuration .ensures))
@@ -29,4 +23,4 @@ returns-2 c = rw (ne-eqb (c .before .before .before .before .args .e .kind) 2 (c
 
 pub put-entry-spec : {M : Type 1} → statement M
 put-entry-spec =
-    tie.close (tie.spec body-of-requires put-configuration-requires same-length returns returns-2)
+    tie.close (tie.spec (λ c κs. search needs) put-configuration-requires (λ c. search needs) returns returns-2)

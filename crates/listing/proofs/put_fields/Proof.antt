@@ -31,23 +31,11 @@ spaced : (c : tie.After-put Inv-loop μ-loop)
     ++ fields (drop (c .before .before .before .loop .i + 1) (c .before .before .before .before .before .before .args .numbers .now)))
 spaced c = let s = c .before .before .before in next (s .loop .inv .1) (32 ∷ []) _ (next-field (s .before .before .before .args .numbers .now) (s .loop .i) (c .before .before .loop-test .taken)) (c .put .ensures)
 
-mul-put-decimal : tie.Need-mul-put-decimal Inv-loop μ-loop
-mul-put-decimal c = search needs
-
-shared-slice-read-put-decimal : tie.Need-shared-slice-read-put-decimal Inv-loop μ-loop
-shared-slice-read-put-decimal c = search needs
-
 put-decimal-requires : tie.Need-put-decimal-requires Inv-loop μ-loop
 put-decimal-requires c κs =
     let numbers = c .before .before .before .before .before .before .before .before .before .before .args .numbers .now in
     let i = c .before .before .before .before .before .before .before .loop .i in
     room-for (spaced (c .before .before .before .before)) (decimal (getD numbers i 0)) (fields (drop (i + 1) numbers)) refl
-
-add-i : tie.Need-add-i Inv-loop μ-loop
-add-i c = search needs
-
-loop-less : tie.Need-loop-less Inv-loop μ-loop
-loop-less c = search needs
 
 loop-again : tie.Need-loop-again Inv-loop μ-loop
 loop-again c =
@@ -76,11 +64,11 @@ put-fields-spec =
     μ-loop
     loop-holds
     put-requires
-    mul-put-decimal
-    shared-slice-read-put-decimal
+    (λ c. search needs)
+    (λ c. search needs)
     put-decimal-requires
-    add-i
-    loop-less
+    (λ c. search needs)
+    (λ c. search needs)
     loop-again
     put-requires-2
     same-length

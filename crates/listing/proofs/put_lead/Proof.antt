@@ -5,20 +5,8 @@ use Rattle.buffers.proofs.Written.{wrote-nothing}
 use Rattle.listing.proofs.put_lead.Statement.{statement}
 use Rattle.listing.proofs.put_lead.Tie as tie
 
-div-put : tie.Need-div-put
-div-put c = search needs
-
-cast-put : tie.Need-cast-put
-cast-put c = search needs
-
-add-put : tie.Need-add-put
-add-put c = search needs
-
 put-requires : tie.Need-put-requires
 put-requires c κs = rw (le-leb _ _ (c .before .if1 .taken)) at (c .before .before .before .pre .0)
-
-same-length : tie.Need-same-length
-same-length c = search needs
 
 returns : tie.Need-returns
 returns c = rw (le-leb _ _ (c .before .before .before .before .if1 .taken)) (c .before .before .put .ensures)
@@ -28,4 +16,4 @@ returns-2 c = rw (lt-leb _ _ (c .if1 .left)) (wrote-nothing _ _)
 
 pub put-lead-spec : {M : Type 1} → statement M
 put-lead-spec =
-    tie.close (tie.spec div-put cast-put add-put put-requires same-length returns returns-2)
+    tie.close (tie.spec (λ c. search needs) (λ c. search needs) (λ c. search needs) put-requires (λ c. search needs) returns returns-2)

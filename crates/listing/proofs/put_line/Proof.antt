@@ -12,11 +12,8 @@ put-bytes-requires c κs = let s = c .before .before .before .before in room-for
 put-fields-requires : tie.Need-put-fields-requires
 put-fields-requires c κs = let s = c .before .before .before .before .before .before .before .before in next (begun (s .args .out .now) _ _ (s .pre)) (s .args .word .now) (fields (s .args .numbers .now)) refl (c .before .before .before .put-bytes .ensures) .room
 
-same-length : tie.Need-same-length
-same-length c = search needs
-
 returns : tie.Need-returns
 returns c = wrote-both (c .before .before .before .before .before .before .put-bytes .ensures) (c .before .before .put-fields .ensures)
 
 pub put-line-spec : {M : Type 1} → statement M
-put-line-spec = tie.close (tie.spec put-bytes-requires put-fields-requires same-length returns)
+put-line-spec = tie.close (tie.spec put-bytes-requires put-fields-requires (λ c. search needs) returns)

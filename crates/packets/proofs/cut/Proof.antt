@@ -7,26 +7,17 @@ use borrow.Author.Needs.{needs}
 use Rattle.packets.proofs.cut.Statement.{statement}
 use Rattle.packets.proofs.cut.Tie as tie
 
-packet-of-requires : tie.Need-packet-of-requires
-packet-of-requires c κs = search needs
-
 add-end : tie.Need-add-end
 add-end c =
     let a = c .before .before .before .args in
     let e = c .before .packet-of .ensures in
-    rw e (omega (arith, inside (length (a .reply .now)) (a .asked) (a .size) (a .number)))
-
-sub-result : tie.Need-sub-result
-sub-result c = search needs
-
-part-result-start : tie.Need-part-result-start
-part-result-start c = search needs
+    rw e (omega (arith, inside (length (a .reply .now)) (a .asked) (a .size) (a .nth)))
 
 part-result-end : tie.Need-part-result-end
 part-result-end c =
     let a = c .before .before .before .args in
     let e = c .before .packet-of .ensures in
-    rw e (omega (arith, inside (length (a .reply .now)) (a .asked) (a .size) (a .number)))
+    rw e (omega (arith, inside (length (a .reply .now)) (a .asked) (a .size) (a .nth)))
 
 returns : tie.Need-returns
 returns c = (rw (add-sub-cancel-left, c .before .before .packet-of .ensures), (search needs, rw (c .before .before .packet-of .ensures) (add-comm _ _)))
@@ -34,4 +25,4 @@ returns c = (rw (add-sub-cancel-left, c .before .before .packet-of .ensures), (s
 pub cut-spec : {M : Type 1} → statement M
 cut-spec =
     tie.close
-    (tie.spec packet-of-requires add-end sub-result part-result-start part-result-end returns)
+    (tie.spec (λ c κs. search needs) add-end (λ c. search needs) (λ c. search needs) part-result-end returns)

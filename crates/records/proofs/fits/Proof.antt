@@ -7,24 +7,6 @@ use Rattle.records.proofs.Fitting.{fitting}
 use Rattle.records.proofs.fits.Statement.{statement}
 use Rattle.records.proofs.fits.Tie as tie
 
-in-range-requires : tie.Need-in-range-requires
-in-range-requires c κs = search needs
-
-good-waiting-requires : tie.Need-good-waiting-requires
-good-waiting-requires c κs = search needs
-
-good-state-requires : tie.Need-good-state-requires
-good-state-requires c κs = search needs
-
-alternates-exist-requires : tie.Need-alternates-exist-requires
-alternates-exist-requires c κs = search needs
-
-has-only-requires : tie.Need-has-only-requires
-has-only-requires c κs = search needs
-
-has-only-requires-2 : tie.Need-has-only-requires-2
-has-only-requires-2 c κs = search needs
-
 returns : tie.Need-returns
 returns c = λ v a t z q w p.
     let d = c .before .before .before .before .before .before .before .before .args .device in
@@ -34,10 +16,10 @@ pub fits-spec : {M : Type 1} → statement M
 fits-spec =
     tie.close
     (tie.spec
-    in-range-requires
-    good-waiting-requires
-    good-state-requires
-    alternates-exist-requires
-    has-only-requires
-    has-only-requires-2
+    (λ c κs. search needs)
+    (λ c κs. search needs)
+    (λ c κs. search needs)
+    (λ c κs. search needs)
+    (λ c κs. search needs)
+    (λ c κs. search needs)
     returns)

@@ -3,11 +3,8 @@ use borrow.Author.Needs.{needs}
 use Rattle.records.proofs.good_waiting.Statement.{statement}
 use Rattle.records.proofs.good_waiting.Tie as tie
 
-test-waits-requires : tie.Need-test-waits-requires
-test-waits-requires c κs = search needs
-
 returns : tie.Need-returns
 returns c = rw (c .before .test-waits .ensures)
 
 pub good-waiting-spec : {M : Type 1} → statement M
-good-waiting-spec = tie.close (tie.spec test-waits-requires returns)
+good-waiting-spec = tie.close (tie.spec (λ c κs. search needs) returns)

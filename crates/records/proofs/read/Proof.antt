@@ -4,17 +4,11 @@ use borrow.Author.Needs.{needs}
 use Rattle.records.proofs.read.Statement.{statement}
 use Rattle.records.proofs.read.Tie as tie
 
-load-requires : tie.Need-load-requires
-load-requires c κs = search needs
-
 returns : tie.Need-returns
 returns c = rw (eq-eqb _ _ (c .before .if1 .taken)) (c .load .ensures)
-
-misfit-requires : tie.Need-misfit-requires
-misfit-requires c κs = search needs
 
 returns-2 : tie.Need-returns-2
 returns-2 c = rw (ne-eqb _ _ (c .before .if1 .left)) (c .misfit .ensures)
 
 pub read-spec : {M : Type 1} → statement M
-read-spec = tie.close (tie.spec load-requires returns misfit-requires returns-2)
+read-spec = tie.close (tie.spec (λ c κs. search needs) returns (λ c κs. search needs) returns-2)

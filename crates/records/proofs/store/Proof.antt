@@ -28,33 +28,6 @@ stored : (d : Device) {f a h t : List ℕ} (image : List ℕ) → length (d .alt
 unfolding imageOf bytesOfFour
 stored d image sixteen long p q r s = rw (p, q, r, s) (all-put (front d) (d .alternates) (bytesOfFour (d .halts)) (bytesOfFour (d .toggles)) image refl sixteen refl long)
 
-slice-aggregate-copy : tie.Need-slice-aggregate-copy
-slice-aggregate-copy c = search needs
-
-sub-copy : tie.Need-sub-copy
-sub-copy c = search needs
-
-part-copy-start : tie.Need-part-copy-start
-part-copy-start c = search needs
-
-part-copy-end : tie.Need-part-copy-end
-part-copy-end c = search needs
-
-copy-requires : tie.Need-copy-requires
-copy-requires c κs = search needs
-
-slice-aggregate-copy-2 : tie.Need-slice-aggregate-copy-2
-slice-aggregate-copy-2 c = search needs
-
-sub-copy-2 : tie.Need-sub-copy-2
-sub-copy-2 c = search needs
-
-part-copy-start-2 : tie.Need-part-copy-start-2
-part-copy-start-2 c = search needs
-
-part-copy-end-2 : tie.Need-part-copy-end-2
-part-copy-end-2 c = search needs
-
 copy-requires-2 : tie.Need-copy-requires-2
 copy-requires-2 c κs =
     let start = c .before .before .before .before .before .before .before .before .before in
@@ -62,33 +35,6 @@ copy-requires-2 c κs =
     let image = start .args .image .now in
     let n : length (d .alternates) ≡ 16 = search needs in
     rw (c .before .before .before .before .copy .ensures .1 ∙ copied (front d) image 8 refl) (le-of-eq (n ∙ sym (alternates-length image (start .pre))))
-
-sub-store-four : tie.Need-sub-store-four
-sub-store-four c = search needs
-
-part-store-four-start : tie.Need-part-store-four-start
-part-store-four-start c = search needs
-
-part-store-four-end : tie.Need-part-store-four-end
-part-store-four-end c = search needs
-
-store-four-requires : tie.Need-store-four-requires
-store-four-requires c κs = search needs
-
-sub-store-four-2 : tie.Need-sub-store-four-2
-sub-store-four-2 c = search needs
-
-part-store-four-start-2 : tie.Need-part-store-four-start-2
-part-store-four-start-2 c = search needs
-
-part-store-four-end-2 : tie.Need-part-store-four-end-2
-part-store-four-end-2 c = search needs
-
-store-four-requires-2 : tie.Need-store-four-requires-2
-store-four-requires-2 c κs = search needs
-
-same-length : tie.Need-same-length
-same-length c = search needs
 
 returns : tie.Need-returns
 returns c =
@@ -109,23 +55,23 @@ pub store-spec : {M : Type 1} → statement M
 store-spec =
     tie.close
     (tie.spec
-    slice-aggregate-copy
-    sub-copy
-    part-copy-start
-    part-copy-end
-    copy-requires
-    slice-aggregate-copy-2
-    sub-copy-2
-    part-copy-start-2
-    part-copy-end-2
+    (λ c. search needs)
+    (λ c. search needs)
+    (λ c. search needs)
+    (λ c. search needs)
+    (λ c κs. search needs)
+    (λ c. search needs)
+    (λ c. search needs)
+    (λ c. search needs)
+    (λ c. search needs)
     copy-requires-2
-    sub-store-four
-    part-store-four-start
-    part-store-four-end
-    store-four-requires
-    sub-store-four-2
-    part-store-four-start-2
-    part-store-four-end-2
-    store-four-requires-2
-    same-length
+    (λ c. search needs)
+    (λ c. search needs)
+    (λ c. search needs)
+    (λ c κs. search needs)
+    (λ c. search needs)
+    (λ c. search needs)
+    (λ c. search needs)
+    (λ c κs. search needs)
+    (λ c. search needs)
     returns)

@@ -3,11 +3,8 @@ use borrow.Author.Needs.{needs}
 use Rattle.requests.proofs.fields_fit.Statement.{statement}
 use Rattle.requests.proofs.fields_fit.Tie as tie
 
-largest-index-requires : tie.Need-largest-index-requires
-largest-index-requires c κs = search needs
-
 returns : tie.Need-returns
 returns c = rw (c .before .before .before .before .before .before .before .largest-index .ensures)
 
 pub fields-fit-spec : {M : Type 1} → statement M
-fields-fit-spec = tie.close (tie.spec largest-index-requires returns)
+fields-fit-spec = tie.close (tie.spec (λ c κs. search needs) returns)

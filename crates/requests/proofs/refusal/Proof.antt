@@ -6,23 +6,8 @@ use borrow.Author.Tests.{not-true, not-false}
 use Rattle.requests.proofs.refusal.Statement.{statement}
 use Rattle.requests.proofs.refusal.Tie as tie
 
-find-row-requires : tie.Need-find-row-requires
-find-row-requires c κs = search needs
-
-enum-told : tie.Need-enum-told
-enum-told c = search needs
-
-enum-known-found : tie.Need-enum-known-found
-enum-known-found c = search needs
-
-in-state-requires : tie.Need-in-state-requires
-in-state-requires c κs = search needs
-
 returns : tie.Need-returns
 returns c = sym (wrong-state _ _ (is-some _ (sym (c .before .before .before .before .before .find-row .ensures) ∙ c .before .before .before .found .given .1)) (sym (c .before .in-state .ensures) ∙ not-true (c .before .in-state .result) (c .if1 .taken)))
-
-fields-fit-requires : tie.Need-fields-fit-requires
-fields-fit-requires c κs = search needs
 
 returns-2 : tie.Need-returns-2
 returns-2 c = sym (wrong-field _ _ (is-some _ (sym (c .before .before .before .before .before .before .before .find-row .ensures) ∙ c .before .before .before .before .before .found .given .1)) (sym (c .before .before .before .in-state .ensures) ∙ not-false (c .before .before .before .in-state .result) (c .before .before .if1 .left)) (sym (c .before .fields-fit .ensures) ∙ not-true (c .before .fields-fit .result) (c .if2 .taken)))
@@ -37,12 +22,12 @@ pub refusal-spec : {M : Type 1} → statement M
 refusal-spec =
     tie.close
     (tie.spec
-    find-row-requires
-    enum-told
-    enum-known-found
-    in-state-requires
+    (λ c κs. search needs)
+    (λ c. search needs)
+    (λ c. search needs)
+    (λ c κs. search needs)
     returns
-    fields-fit-requires
+    (λ c κs. search needs)
     returns-2
     returns-3
     returns-4)

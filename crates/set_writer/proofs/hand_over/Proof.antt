@@ -4,33 +4,15 @@ use borrow.Author.Needs.{needs}
 use Rattle.set_writer.proofs.hand_over.Statement.{statement}
 use Rattle.set_writer.proofs.hand_over.Tie as tie
 
-opening-requires : tie.Need-opening-requires
-opening-requires c κs = search needs
-
-answer-requires : tie.Need-answer-requires
-answer-requires c κs = search needs
-
 returns : tie.Need-returns
 returns c =
     let a = c .before .before .before .before .before .before .args in
     rw (c .answer .ensures) (refused (a .limits) (a .set .now) (a .serial .now) (a .out .now) _ (c .before .before .opening .ensures) (c .before .if1 .taken))
 
-answer-requires-2 : tie.Need-answer-requires-2
-answer-requires-2 c κs = search needs
-
 returns-2 : tie.Need-returns-2
 returns-2 c =
     let a = c .before .before .before .before .before .before .before .args in
     rw (c .answer2 .ensures) (short (a .limits) (a .set .now) (a .serial .now) (a .out .now) _ (c .before .before .before .opening .ensures) (c .before .before .if1 .left) (c .before .if2 .taken))
-
-copy-requires : tie.Need-copy-requires
-copy-requires c κs = search needs
-
-answer-requires-3 : tie.Need-answer-requires-3
-answer-requires-3 c κs = search needs
-
-same-length : tie.Need-same-length
-same-length c = search needs
 
 returns-3 : tie.Need-returns-3
 returns-3 c =
@@ -42,12 +24,12 @@ pub hand-over-spec : {M : Type 1} → statement M
 hand-over-spec =
     tie.close
     (tie.spec
-    opening-requires
-    answer-requires
+    (λ c κs. search needs)
+    (λ c κs. search needs)
     returns
-    answer-requires-2
+    (λ c κs. search needs)
     returns-2
-    copy-requires
-    answer-requires-3
-    same-length
+    (λ c κs. search needs)
+    (λ c κs. search needs)
+    (λ c. search needs)
     returns-3)

@@ -7,92 +7,59 @@ use borrow.Author.Needs.{needs}
 use Rattle.set_writer.proofs.write.Statement.{statement}
 use Rattle.set_writer.proofs.write.Tie as tie
 
-count-requires : tie.Need-count-requires
-count-requires c κs = search needs
-
-enum-told : tie.Need-enum-told
-enum-told c = search needs
-
-answer-requires : tie.Need-answer-requires
-answer-requires c κs = search needs
-
-enum-known-n : tie.Need-enum-known-n
-enum-known-n c = search needs
-
-answer-requires-2 : tie.Need-answer-requires-2
-answer-requires-2 c κs = search needs
-
 returns : tie.Need-returns
 returns c =
     let a = c .before .before .before .before .before .before .before .before .before .args in
-    let w = whole (a .stream .now) _ (sym (c .before .before .before .before .before .count .ensures) ∙ c .before .before .before .n .given .1) in
+    let w = whole (a .stream .now) _ (sym (c .before .before .before .before .before .count-pieces .ensures) ∙ c .before .before .before .n .given .1) in
     rw (c .answer2 .ensures) (many (a .stream .now) (a .limits) (a .serial .now) (a .out .now) (w .0) (omega (arith, w .1)))
-
-answer-requires-3 : tie.Need-answer-requires-3
-answer-requires-3 c κs = search needs
 
 returns-2 : tie.Need-returns-2
 returns-2 c =
     let a = c .before .before .before .before .before .before .before .before .before .before .args in
-    let w = whole (a .stream .now) _ (sym (c .before .before .before .before .before .before .count .ensures) ∙ c .before .before .before .before .n .given .1) in
+    let w = whole (a .stream .now) _ (sym (c .before .before .before .before .before .before .count-pieces .ensures) ∙ c .before .before .before .before .n .given .1) in
     rw (c .answer3 .ensures) (large (a .stream .now) (a .limits) (a .serial .now) (a .out .now) (w .0) (omega (arith, w .1, set-length (a .stream .now) (w .0))))
-
-mul-size : tie.Need-mul-size
-mul-size c = search needs
-
-add-size : tie.Need-add-size
-add-size c = search needs
-
-add-size-2 : tie.Need-add-size-2
-add-size-2 c = search needs
-
-answer-requires-4 : tie.Need-answer-requires-4
-answer-requires-4 c κs = search needs
 
 returns-3 : tie.Need-returns-3
 returns-3 c =
     let a = c .before .before .before .before .before .before .before .before .before .before .before .args in
-    let w = whole (a .stream .now) _ (sym (c .before .before .before .before .before .before .before .count .ensures) ∙ c .before .before .before .before .before .n .given .1) in
+    let w = whole (a .stream .now) _ (sym (c .before .before .before .before .before .before .before .count-pieces .ensures) ∙ c .before .before .before .before .before .n .given .1) in
     rw (c .answer4 .ensures) (large (a .stream .now) (a .limits) (a .serial .now) (a .out .now) (w .0) (omega (arith, w .1, set-length (a .stream .now) (w .0))))
 
 assemble-requires : tie.Need-assemble-requires
 assemble-requires c κs =
     let a = c .before .before .before .before .before .before .before .before .before .before .before .args in
-    let w = whole (a .stream .now) _ (sym (c .before .before .before .before .before .before .before .count .ensures) ∙ c .before .before .before .before .before .n .given .1) in
+    let w = whole (a .stream .now) _ (sym (c .before .before .before .before .before .before .before .count-pieces .ensures) ∙ c .before .before .before .before .before .n .given .1) in
     (w .0, (w .1, (omega arith, (omega (arith, w .1, set-size (a .stream .now) (w .0)), omega arith))))
 
 returns-4 : tie.Need-returns-4
 returns-4 c =
     let a = c .before .before .before .before .before .before .before .args in
-    rw (c .answer .ensures) (not-whole (a .stream .now) (a .limits) (a .serial .now) (a .out .now) (broken (a .stream .now) (sym (c .before .before .before .count .ensures) ∙ c .before .enum-told .given .1)))
-
-same-length : tie.Need-same-length
-same-length c = search needs
+    rw (c .answer .ensures) (not-whole (a .stream .now) (a .limits) (a .serial .now) (a .out .now) (broken (a .stream .now) (sym (c .before .before .before .count-pieces .ensures) ∙ c .before .enum-told .given .1)))
 
 returns-5 : tie.Need-returns-5
 returns-5 c =
     let a = c .before .before .before .before .before .before .before .before .before .before .before .before .before .before .args in
-    let w = whole (a .stream .now) _ (sym (c .before .before .before .before .before .before .before .before .before .before .count .ensures) ∙ c .before .before .before .before .before .before .before .before .n .given .1) in
+    let w = whole (a .stream .now) _ (sym (c .before .before .before .before .before .before .before .before .before .before .count-pieces .ensures) ∙ c .before .before .before .before .before .before .before .before .n .given .1) in
     fitting (a .stream .now) (a .limits) (a .serial .now) (a .out .now) (w .0) (omega (arith, w .1)) (omega (arith, w .1, set-length (a .stream .now) (w .0))) (c .before .before .assemble .ensures)
 
 pub write-spec : {M : Type 1} → statement M
 write-spec =
     tie.close
     (tie.spec
-    count-requires
-    enum-told
-    answer-requires
-    enum-known-n
-    answer-requires-2
+    (λ c κs. search needs)
+    (λ c. search needs)
+    (λ c κs. search needs)
+    (λ c. search needs)
+    (λ c κs. search needs)
     returns
-    answer-requires-3
+    (λ c κs. search needs)
     returns-2
-    mul-size
-    add-size
-    add-size-2
-    answer-requires-4
+    (λ c. search needs)
+    (λ c. search needs)
+    (λ c. search needs)
+    (λ c κs. search needs)
     returns-3
     assemble-requires
     returns-4
-    same-length
+    (λ c. search needs)
     returns-5)

@@ -6,14 +6,8 @@ use Rattle.sets.specs.Opening.{lent, opening}
 use Rattle.steps.proofs.opening.Statement.{statement}
 use Rattle.steps.proofs.opening.Tie as tie
 
-full-speed-requires : tie.Need-full-speed-requires
-full-speed-requires c κs = search needs
-
-opening-requires : tie.Need-opening-requires
-opening-requires c κs = search needs
-
 returns : tie.Need-returns
 returns c = c .opening .ensures ∙ ap (λ (l : Limits). opening l (lent (c .before .before .before .before .args .set .now) (c .before .before .before .before .args .serial .now))) (c .before .full-speed .ensures)
 
 pub opening-spec : {M : Type 1} → statement M
-opening-spec = tie.close (tie.spec full-speed-requires opening-requires returns)
+opening-spec = tie.close (tie.spec (λ c κs. search needs) (λ c κs. search needs) returns)

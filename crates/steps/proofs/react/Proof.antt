@@ -11,24 +11,12 @@ use Rattle.steps.proofs.Steps.{set-refused, record-refused, responds, t
 use Rattle.steps.proofs.react.Tie as tie
 use Rattle.steps.proofs.react.Statement.{statement}
 
-refused-requires : tie.Need-refused-requires
-refused-requires c κs = search needs
-
 returns : tie.Need-returns
 returns c = let a = c .before .before .before .before .before .args in
-    rw (c .refused .ensures) (sym (set-refused (a .number) (viewIn (a .paired) (a .set .now) (a .serial .now)) (recordIn (a .image .now)) (a .event) (c .before .if1 .taken)))
-
-read-requires : tie.Need-read-requires
-read-requires c κs = search needs
+    rw (c .refused .ensures) (sym (set-refused (a .opening) (viewIn (a .paired) (a .set .now) (a .serial .now)) (recordIn (a .image .now)) (a .event) (c .before .if1 .taken)))
 
 gather-requires : tie.Need-gather-requires
 gather-requires c κs = c .before .before .before .before .before .pre (c .before .if1 .left) .0
-
-fits-requires : tie.Need-fits-requires
-fits-requires c κs = search needs
-
-refused-requires-2 : tie.Need-refused-requires-2
-refused-requires-2 c κs = search needs
 
 returns-2 : tie.Need-returns-2
 returns-2 c = let start = c .before .before .before .before .before .before .before .before .before .before in
@@ -38,7 +26,7 @@ returns-2 c = let start = c .before .before .before .before .before .before .bef
     let zero = c .before .before .before .before .before .before .if1 .left in
     let t = c .before .before .before .before .gather .ensures d (rw (c .before .before .before .before .before .read .ensures) (start .pre zero .1)) in
     let fit = c .before .before .fits2 .ensures v (askedBy (questionOf (a .event))) (t .surveyed) (no-zero (start .pre zero .0 .0) (lent (a .set .now) (a .serial .now)) (start .pre zero .0 .1)) (t .configured) (t .waking) refl in
-    rw (c .refused2 .ensures, ← c .before .before .before .before .before .read .ensures) (sym (record-refused (a .number) v d (a .event) zero (sym fit ∙ not-true _ (c .before .if2 .taken))))
+    rw (c .refused2 .ensures, ← c .before .before .before .before .before .read .ensures) (sym (record-refused (a .opening) v d (a .event) zero (sym fit ∙ not-true _ (c .before .if2 .taken))))
 
 respond-requires : tie.Need-respond-requires
 respond-requires c κs = let start = c .before .before .before .before .before .before .before .before .before in
@@ -59,18 +47,18 @@ returns-3 c = let start = c .before .before .before .before .before .before .bef
     let t = c .before .before .before .before .gather .ensures d (rw (c .before .before .before .before .before .read .ensures) (start .pre zero .1)) in
     let nonzero = no-zero (start .pre zero .0 .0) (lent (a .set .now) (a .serial .now)) (start .pre zero .0 .1) in
     let fit = c .before .before .fits2 .ensures v (askedBy (questionOf (a .event))) (t .surveyed) nonzero (t .configured) (t .waking) refl in
-    rw (c .before .before .before .before .before .read .ensures) at (c .respond .ensures v (told v d (questionOf (a .event)) nonzero (sym fit ∙ not-false _ (c .before .if2 .left)) t) ∙ sym (responds (a .number) v d (a .event) zero (sym fit ∙ not-false _ (c .before .if2 .left))))
+    rw (c .before .before .before .before .before .read .ensures) at (c .respond .ensures v (told v d (questionOf (a .event)) nonzero (sym fit ∙ not-false _ (c .before .if2 .left)) t) ∙ sym (responds (a .opening) v d (a .event) zero (sym fit ∙ not-false _ (c .before .if2 .left))))
 
 pub react-spec : {M : Type 1} → statement M
 react-spec =
     tie.close
     (tie.spec
-    refused-requires
+    (λ c κs. search needs)
     returns
-    read-requires
+    (λ c κs. search needs)
     gather-requires
-    fits-requires
-    refused-requires-2
+    (λ c κs. search needs)
+    (λ c κs. search needs)
     returns-2
     respond-requires
     returns-3)

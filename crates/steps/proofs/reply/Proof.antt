@@ -14,9 +14,6 @@ use Rattle.steps.proofs.reply.Tie as tie
 reply-in-requires : tie.Need-reply-in-requires
 reply-in-requires c κs = (λ z. (fullSpeed, sym (c .before .before .before .before .pre .0) ∙ z), c .before .before .before .before .pre .1)
 
-same-length : tie.Need-same-length
-same-length c = search needs
-
 returns : tie.Need-returns
 returns c =
     let start = c .before .before .before .before .before .before .before in
@@ -25,4 +22,4 @@ returns c =
     c .before .before .reply-in .ensures ∙ ap (λ (n : ℕ). stepIn n (viewIn false (a .set .now) (a .serial .now)) d (a .event)) (start .pre .0) ∙ sym (step-in (lent (a .set .now) (a .serial .now)) d (a .event))
 
 pub reply-spec : {M : Type 1} → statement M
-reply-spec = tie.close (tie.spec reply-in-requires same-length returns)
+reply-spec = tie.close (tie.spec reply-in-requires (λ c. search needs) returns)

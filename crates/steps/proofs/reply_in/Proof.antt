@@ -15,19 +15,13 @@ returns : tie.Need-returns
 returns c =
     let start = c .before .before .before .before in
     let a = start .args in
-    sym (set-refused (a .number) (viewIn (a .paired) (a .set .now) (a .serial .now)) (deviceOf (a .image .now)) (a .event) (c .if1 .taken))
+    sym (set-refused (a .opening) (viewIn (a .paired) (a .set .now) (a .serial .now)) (deviceOf (a .image .now)) (a .event) (c .if1 .taken))
 
 learn-requires : tie.Need-learn-requires
 learn-requires c κs = λ _. c .before .before .before .before .before .pre .0 (c .before .if1 .left)
 
 react-requires : tie.Need-react-requires
 react-requires c κs = λ _. (c .before .before .before .before .before .before .pre .0 (c .before .before .if1 .left), c .learn .ensures refl)
-
-renew-requires : tie.Need-renew-requires
-renew-requires c κs = search needs
-
-same-length : tie.Need-same-length
-same-length c = search needs
 
 returns-2 : tie.Need-returns-2
 returns-2 c =
@@ -42,4 +36,4 @@ returns-2 c =
     rw (c .before .before .renew .ensures) (replied 0 v (a .image .now) (a .event) (r .result) (start .pre .1) sized (r .ensures) ∙ ap (λ (n : ℕ). stepIn n v d (a .event)) (sym zero))
 
 pub reply-in-spec : {M : Type 1} → statement M
-reply-in-spec = tie.close (tie.spec returns learn-requires react-requires renew-requires same-length returns-2)
+reply-in-spec = tie.close (tie.spec returns learn-requires react-requires (λ c κs. search needs) (λ c. search needs) returns-2)

@@ -5,24 +5,6 @@ use Rattle.steps.proofs.Images.{is-sized}
 use Rattle.steps.proofs.step_opened.Statement.{statement}
 use Rattle.steps.proofs.step_opened.Tie as tie
 
-slice-aggregate-store : tie.Need-slice-aggregate-store
-slice-aggregate-store c = search needs
-
-store-requires : tie.Need-store-requires
-store-requires c κs = search needs
-
-slice-aggregate-reply : tie.Need-slice-aggregate-reply
-slice-aggregate-reply c = search needs
-
-reply-requires : tie.Need-reply-requires
-reply-requires c κs = search needs
-
-slice-aggregate-load : tie.Need-slice-aggregate-load
-slice-aggregate-load c = search needs
-
-load-requires : tie.Need-load-requires
-load-requires c κs = search needs
-
 returns : tie.Need-returns
 returns c =
     let start = c .before .before .before .before .before .before .before .before .before .before in
@@ -34,10 +16,10 @@ pub step-opened-spec : {M : Type 1} → statement M
 step-opened-spec =
     tie.close
     (tie.spec
-    slice-aggregate-store
-    store-requires
-    slice-aggregate-reply
-    reply-requires
-    slice-aggregate-load
-    load-requires
+    (λ c. search needs)
+    (λ c κs. search needs)
+    (λ c. search needs)
+    (λ c κs. search needs)
+    (λ c. search needs)
+    (λ c κs. search needs)
     returns)

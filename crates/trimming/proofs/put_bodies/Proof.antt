@@ -39,30 +39,12 @@ end : (c : tie.After-loop Inv-loop μ-loop) → rest (c .before .before .before 
 end c =
     no-entry (c .before .before .before .before .before .args .contents .now) (c .before .before .peek .result) (c .before .before .peek .ensures) (c .before .loop .i) (c .loop-test .left)
 
-peek-requires : tie.Need-peek-requires Inv-loop μ-loop
-peek-requires c κs = search needs
-
-cast-from : tie.Need-cast-from Inv-loop μ-loop
-cast-from c = search needs
-
-mul-from : tie.Need-mul-from Inv-loop μ-loop
-mul-from c = search needs
-
-add-from : tie.Need-add-from Inv-loop μ-loop
-add-from c = search needs
-
 loop-holds : tie.Need-loop-holds Inv-loop μ-loop
 loop-holds c =
     let a = c .before .before .before .args in
     let e = rest-start (a .contents .now) in
     let p = c .peek .ensures in
     (rw p (c .before .before .before .pre .0), rw (p, ← e) (c .before .before .before .pre .1), refl, rw (← e) (begun (a .out .now) (a .at) _ (room-bodies (a .out .now) (keepsBy (a .names .now) (a .zero)) _ (c .before .before .before .pre .0) (c .before .before .before .pre .1))))
-
-entry-at-requires : tie.Need-entry-at-requires Inv-loop μ-loop
-entry-at-requires c κs = search needs
-
-cast-size : tie.Need-cast-size Inv-loop μ-loop
-cast-size c = search needs
 
 add-from-2 : tie.Need-add-from-2 Inv-loop μ-loop
 add-from-2 c =
@@ -71,12 +53,6 @@ add-from-2 c =
     let l = s .before .before .loop in
     let n = next-body (turn s) (l .inv .1) in
     omega (arith, n .inside)
-
-add-i : tie.Need-add-i Inv-loop μ-loop
-add-i c = search needs
-
-keeps-requires : tie.Need-keeps-requires Inv-loop μ-loop
-keeps-requires c κs = search needs
 
 moved-requires : tie.Need-moved-requires Inv-loop μ-loop
 moved-requires c κs =
@@ -91,9 +67,6 @@ add-next c =
     let l = s .before .before .loop in
     let n = next-body (turn s) (l .inv .1) in
     omega (arith, n .inside, l .inv .0)
-
-loop-less : tie.Need-loop-less Inv-loop μ-loop
-loop-less c = search needs
 
 loop-again : tie.Need-loop-again Inv-loop μ-loop
 loop-again c =
@@ -110,9 +83,6 @@ loop-again c =
       moved-behind (a .out .now) (l .out) (l .next) (l .from) size (l .inv .2) (l .inv .0) h m,
       next (l .inv .3) (part (a .out .now) (l .from) size) _ q (moved-text (a .out .now) (l .out) (l .next) (l .from) size (l .inv .2) (l .inv .0) h m),
     )
-
-loop-less-2 : tie.Need-loop-less-2 Inv-loop μ-loop
-loop-less-2 c = search needs
 
 loop-again-2 : tie.Need-loop-again-2 Inv-loop μ-loop
 loop-again-2 c =
@@ -138,21 +108,21 @@ put-bodies-spec =
     (tie.spec
     Inv-loop
     μ-loop
-    peek-requires
-    cast-from
-    mul-from
-    add-from
+    (λ c κs. search needs)
+    (λ c. search needs)
+    (λ c. search needs)
+    (λ c. search needs)
     loop-holds
-    entry-at-requires
-    cast-size
+    (λ c κs. search needs)
+    (λ c. search needs)
     add-from-2
-    add-i
-    keeps-requires
+    (λ c. search needs)
+    (λ c κs. search needs)
     moved-requires
     add-next
-    loop-less
+    (λ c. search needs)
     loop-again
-    loop-less-2
+    (λ c. search needs)
     loop-again-2
     same-length
     returns)

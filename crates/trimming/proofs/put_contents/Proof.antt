@@ -34,23 +34,11 @@ end : (c : tie.After-loop Inv-loop μ-loop) → rest (c .before .before .before 
 end c =
     no-entry (c .before .before .before .before .before .args .contents .now) (c .before .before .peek .result) (c .before .before .peek .ensures) (c .before .loop .i) (c .loop-test .left)
 
-peek-requires : tie.Need-peek-requires Inv-loop μ-loop
-peek-requires c κs = search needs
-
 loop-holds : tie.Need-loop-holds Inv-loop μ-loop
 loop-holds c =
     let a = c .before .before .before .args in
     let e = rest-start (a .contents .now) in
     (rw (← e) (c .before .before .before .pre .1), rw (← e) (begun (a .out .now) (a .at) _ (c .before .before .before .pre .0)))
-
-entry-at-requires : tie.Need-entry-at-requires Inv-loop μ-loop
-entry-at-requires c κs = search needs
-
-add-i : tie.Need-add-i Inv-loop μ-loop
-add-i c = search needs
-
-keeps-requires : tie.Need-keeps-requires Inv-loop μ-loop
-keeps-requires c κs = search needs
 
 put-entry-requires : tie.Need-put-entry-requires Inv-loop μ-loop
 put-entry-requires c κs =
@@ -60,18 +48,12 @@ put-entry-requires c κs =
     let q = stays (keepsBy (a .names .now) (a .zero)) (turn s) (sym (c .before .before .keeps .ensures) ∙ c .before .if1 .taken) in
     (room-for (l .inv .1) (entryWith (s .entry-at .result) (l .offset)) _ (contents-more (l .offset) q), omega (arith, l .inv .0))
 
-cast-offset : tie.Need-cast-offset Inv-loop μ-loop
-cast-offset c = search needs
-
 add-offset : tie.Need-add-offset Inv-loop μ-loop
 add-offset c =
     let s = c .before .before .before .before .before .before .before in
     let a = s .before .before .before .before .before .before .args in
     let l = s .before .before .loop in
     omega (arith, l .inv .0, lengths-more (stays (keepsBy (a .names .now) (a .zero)) (turn s) (sym (c .before .before .before .before .before .before .keeps .ensures) ∙ c .before .before .before .before .before .if1 .taken)))
-
-loop-less : tie.Need-loop-less Inv-loop μ-loop
-loop-less c = search needs
 
 loop-again : tie.Need-loop-again Inv-loop μ-loop
 loop-again c =
@@ -80,9 +62,6 @@ loop-again c =
     let l = s .before .before .loop in
     let q = stays (keepsBy (a .names .now) (a .zero)) (turn s) (sym (c .before .before .before .before .before .before .keeps .ensures) ∙ c .before .before .before .before .before .if1 .taken) in
     (omega (arith, l .inv .0, lengths-more q), next (l .inv .1) (entryWith (s .entry-at .result) (l .offset)) _ (contents-more (l .offset) q) (c .before .before .before .put-entry .ensures))
-
-loop-less-2 : tie.Need-loop-less-2 Inv-loop μ-loop
-loop-less-2 c = search needs
 
 loop-again-2 : tie.Need-loop-again-2 Inv-loop μ-loop
 loop-again-2 c =
@@ -107,17 +86,17 @@ put-contents-spec =
     (tie.spec
     Inv-loop
     μ-loop
-    peek-requires
+    (λ c κs. search needs)
     loop-holds
-    entry-at-requires
-    add-i
-    keeps-requires
+    (λ c κs. search needs)
+    (λ c. search needs)
+    (λ c κs. search needs)
     put-entry-requires
-    cast-offset
+    (λ c. search needs)
     add-offset
-    loop-less
+    (λ c. search needs)
     loop-again
-    loop-less-2
+    (λ c. search needs)
     loop-again-2
     same-length
     returns)

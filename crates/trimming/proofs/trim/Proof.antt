@@ -9,23 +9,11 @@ use Rattle.trimming.proofs.trim.Tie as tie
 zeroed : (c : tie.Else1) → c .before .opening .result ≡ 0
 zeroed c = search needs
 
-opening-requires : tie.Need-opening-requires
-opening-requires c κs = search needs
-
-same-length : tie.Need-same-length
-same-length c = search needs
-
 returns : tie.Need-returns
 returns c = let a = c .before .before .before .before .before .args in refused (a .limits) (a .set .now) (a .serial .now) _ (c .before .opening .ensures) (c .if1 .taken)
 
 names-of-requires : tie.Need-names-of-requires
 names-of-requires c κs = let a = c .before .before .before .before .before .before .args in walks (a .limits) (a .set .now) (a .serial .now) (sym (c .before .before .opening .ensures) ∙ zeroed (c .before))
-
-any-named-requires : tie.Need-any-named-requires
-any-named-requires c κs = search needs
-
-serial-index-requires : tie.Need-serial-index-requires
-serial-index-requires c κs = search needs
 
 rebuild-requires : tie.Need-rebuild-requires
 rebuild-requires c κs =
@@ -33,24 +21,21 @@ rebuild-requires c κs =
     let p = sym (c .before .before .before .before .before .before .before .before .before .before .opening .ensures) ∙ zeroed (c .before .before .before .before .before .before .before .before .before) in
     (framing (a .limits) (a .set .now) (a .serial .now) p, lies (a .limits) (a .set .now) (a .serial .now) p)
 
-same-length-2 : tie.Need-same-length-2
-same-length-2 c = search needs
-
 returns-2 : tie.Need-returns-2
 returns-2 c =
     let a = c .before .before .before .before .before .before .before .before .before .before .before .before .before .before .before .before .before .args in
-    trims (a .limits) (a .set .now) (a .serial .now) (λ k. c .before .before .before .before .before .before .before .before .before .before .before .before .before .before .before .before .slice-known .given k .fits) _ (c .before .before .before .before .before .before .before .before .before .before .before .before .before .opening .ensures) (zeroed (c .before .before .before .before .before .before .before .before .before .before .before .before)) (c .before .before .before .before .before .before .before .before .before .before .names-of .result) (c .before .before .before .before .before .before .before .before .before .before .names-of .ensures) _ (c .before .before .before .before .before .before .before .any-named .ensures) _ (c .before .before .before .before .before .serial-index .ensures) (c .before .before .rebuild .ensures)
+    trims (a .limits) (a .set .now) (a .serial .now) (λ k. c .before .before .before .before .before .before .before .before .before .before .before .before .before .before .before .before .slice-known .given k .fits) _ (c .before .before .before .before .before .before .before .before .before .before .before .before .before .opening .ensures) (zeroed (c .before .before .before .before .before .before .before .before .before .before .before .before)) (c .before .before .before .before .before .before .before .before .before .before .names-of .result) (c .before .before .before .before .before .before .before .before .before .before .names-of .ensures) _ (c .before .before .before .before .before .before .before .any-referenced .ensures) _ (c .before .before .before .before .before .serial-index .ensures) (c .before .before .rebuild .ensures)
 
 pub trim-spec : {M : Type 1} → statement M
 trim-spec =
     tie.close
     (tie.spec
-    opening-requires
-    same-length
+    (λ c κs. search needs)
+    (λ c. search needs)
     returns
     names-of-requires
-    any-named-requires
-    serial-index-requires
+    (λ c κs. search needs)
+    (λ c κs. search needs)
     rebuild-requires
-    same-length-2
+    (λ c. search needs)
     returns-2)

@@ -5,45 +5,15 @@ use borrow.Author.Needs.{needs}
 use Rattle.dumps.proofs.export.export.Statement.{statement}
 use Rattle.dumps.proofs.export.export.Tie as tie
 
-full-speed-requires : tie.Need-full-speed-requires
-full-speed-requires c κs = search needs
-
-opening-requires : tie.Need-opening-requires
-opening-requires c κs = search needs
-
 returns : tie.Need-returns
 returns c =
     let a = c .before .before .before .before .before .before .args in
     refused (a .set .now) (a .serial .now) (a .out .now) _ (rw (c .before .before .full-speed .ensures) at (c .before .opening .ensures)) (c .if1 .taken)
 
-peek-requires : tie.Need-peek-requires
-peek-requires c κs = search needs
-
-cast-start : tie.Need-cast-start
-cast-start c = search needs
-
-mul-start : tie.Need-mul-start
-mul-start c = search needs
-
-add-start : tie.Need-add-start
-add-start c = search needs
-
-size-of-requires : tie.Need-size-of-requires
-size-of-requires c κs = search needs
-
 returns-2 : tie.Need-returns-2
 returns-2 c =
     let a = c .before .before .before .before .before .before .before .before .before .args in
     short (a .set .now) (a .serial .now) (a .out .now) _ (rw (c .before .before .before .before .before .full-speed .ensures) at (c .before .before .before .before .opening .ensures)) (c .before .before .before .if1 .left) _ (c .before .before .peek .ensures) _ (c .before .size-of .ensures) (c .if2 .taken)
-
-add-copy : tie.Need-add-copy
-add-copy c = search needs
-
-sub-copy : tie.Need-sub-copy
-sub-copy c = search needs
-
-part-copy-start : tie.Need-part-copy-start
-part-copy-start c = search needs
 
 part-copy-end : tie.Need-part-copy-end
 part-copy-end c =
@@ -51,18 +21,12 @@ part-copy-end c =
     let h = fits (a .set .now) (a .serial .now) (a .out .now) _ (rw (c .before .before .before .before .before .full-speed .ensures) at (c .before .before .before .before .opening .ensures)) (c .before .before .before .if1 .left) _ (c .before .before .peek .ensures) _ (c .before .size-of .ensures) in
     omega (arith, h)
 
-copy-requires : tie.Need-copy-requires
-copy-requires c κs = search needs
-
 cast-written : tie.Need-cast-written
 cast-written c =
     let a = c .before .before .before .before .before .before .before .before .before .before .before .before .before .before .args in
     let opened = rw (c .before .before .before .before .before .before .before .before .before .before .full-speed .ensures) at (c .before .before .before .before .before .before .before .before .before .opening .ensures) in
     let h = small (a .set .now) (a .serial .now) (a .out .now) _ opened (c .before .before .before .before .before .before .before .before .if1 .left) _ (c .before .before .before .before .before .before .before .peek .ensures) _ (c .before .before .before .before .before .before .size-of .ensures) in
     omega (arith, h)
-
-same-length : tie.Need-same-length
-same-length c = search needs
 
 returns-3 : tie.Need-returns-3
 returns-3 c =
@@ -73,20 +37,20 @@ pub export-spec : {M : Type 1} → statement M
 export-spec =
     tie.close
     (tie.spec
-    full-speed-requires
-    opening-requires
+    (λ c κs. search needs)
+    (λ c κs. search needs)
     returns
-    peek-requires
-    cast-start
-    mul-start
-    add-start
-    size-of-requires
+    (λ c κs. search needs)
+    (λ c. search needs)
+    (λ c. search needs)
+    (λ c. search needs)
+    (λ c κs. search needs)
     returns-2
-    add-copy
-    sub-copy
-    part-copy-start
+    (λ c. search needs)
+    (λ c. search needs)
+    (λ c. search needs)
     part-copy-end
-    copy-requires
+    (λ c κs. search needs)
     cast-written
-    same-length
+    (λ c. search needs)
     returns-3)

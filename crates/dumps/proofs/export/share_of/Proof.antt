@@ -5,9 +5,6 @@ use borrow.Author.Needs.{needs}
 use Rattle.dumps.proofs.export.share_of.Statement.{statement}
 use Rattle.dumps.proofs.export.share_of.Tie as tie
 
-cast-result : tie.Need-cast-result
-cast-result c = search needs
-
 returns : tie.Need-returns
 returns c = (sym (rw (le-leb _ _ (c .before .if1 .taken))), search needs)
 
@@ -15,4 +12,4 @@ returns-2 : tie.Need-returns-2
 returns-2 c = (sym (rw (lt-leb _ _ (c .if1 .left))), search needs)
 
 pub share-of-spec : {M : Type 1} → statement M
-share-of-spec = tie.close (tie.spec cast-result returns returns-2)
+share-of-spec = tie.close (tie.spec (λ c. search needs) returns returns-2)

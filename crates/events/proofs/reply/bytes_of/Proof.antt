@@ -3,42 +3,6 @@ use borrow.Author.Needs.{needs}
 use Rattle.events.proofs.reply.bytes_of.Statement.{statement}
 use Rattle.events.proofs.reply.bytes_of.Tie as tie
 
-enum-told : tie.Need-enum-told
-enum-told c = search needs
-
-hands-requires : tie.Need-hands-requires
-hands-requires c κs = search needs
-
-enum-known-answer : tie.Need-enum-known-answer
-enum-known-answer c = search needs
-
-hands-requires-2 : tie.Need-hands-requires-2
-hands-requires-2 c κs = search needs
-
-enum-known-answer-2 : tie.Need-enum-known-answer-2
-enum-known-answer-2 c = search needs
-
-hands-requires-3 : tie.Need-hands-requires-3
-hands-requires-3 c κs = search needs
-
-enum-told-2 : tie.Need-enum-told-2
-enum-told-2 c = search needs
-
-hands-requires-4 : tie.Need-hands-requires-4
-hands-requires-4 c κs = search needs
-
-enum-told-3 : tie.Need-enum-told-3
-enum-told-3 c = search needs
-
-hands-requires-5 : tie.Need-hands-requires-5
-hands-requires-5 c κs = search needs
-
-enum-told-4 : tie.Need-enum-told-4
-enum-told-4 c = search needs
-
-hands-requires-6 : tie.Need-hands-requires-6
-hands-requires-6 c κs = search needs
-
 returns : tie.Need-returns
 returns c = rw (c .hands .ensures, c .before .enum-told .given .1)
 
@@ -61,18 +25,18 @@ pub bytes-of-spec : {M : Type 1} → statement M
 bytes-of-spec =
     tie.close
     (tie.spec
-    enum-told
-    hands-requires
-    enum-known-answer
-    hands-requires-2
-    enum-known-answer-2
-    hands-requires-3
-    enum-told-2
-    hands-requires-4
-    enum-told-3
-    hands-requires-5
-    enum-told-4
-    hands-requires-6
+    (λ c. search needs)
+    (λ c κs. search needs)
+    (λ c. search needs)
+    (λ c κs. search needs)
+    (λ c. search needs)
+    (λ c κs. search needs)
+    (λ c. search needs)
+    (λ c κs. search needs)
+    (λ c. search needs)
+    (λ c κs. search needs)
+    (λ c. search needs)
+    (λ c κs. search needs)
     returns
     returns-2
     returns-3

@@ -8,21 +8,9 @@ use Rattle.events.proofs.Lookups.{settles, settling}
 use Rattle.events.proofs.respond.answer_setup.Statement.{statement}
 use Rattle.events.proofs.respond.answer_setup.Tie as tie
 
-refused-requires : tie.Need-refused-requires
-refused-requires c κs = search needs
-
-settling-requires : tie.Need-settling-requires
-settling-requires c κs = search needs
-
 returns : tie.Need-returns
 unfolding answerSetup
 returns c = λ v t. rw (le-leb _ _ (c .before .before .if1 .taken), c .settling .ensures, c .before .refused .ensures)
-
-refusal-for-requires : tie.Need-refusal-for-requires
-refusal-for-requires c κs = search needs
-
-settled-requires : tie.Need-settled-requires
-settled-requires c κs = search needs
 
 request-requires : tie.Need-request-requires
 request-requires c κs =
@@ -30,21 +18,12 @@ request-requires c κs =
     let a = start .args in
     rw (c .settled .ensures) (start .pre .0, (start .pre .1, one-byte-for (a .facts .paired) (a .device) (a .setup) (sym (c .before .before .refusal-for .ensures) ∙ c .before .if2 .taken)))
 
-settling-requires-2 : tie.Need-settling-requires-2
-settling-requires-2 c κs = search needs
-
 returns-2 : tie.Need-returns-2
 unfolding answerSetup
 returns-2 c = λ v t.
     let a = c .before .before .before .before .before .before .before .args in
     rw (lt-leb _ _ (c .before .before .before .before .before .if1 .left), ← (c .before .before .before .before .refusal-for .ensures ∙ ap (λ x. refusalFor x (a .device) (a .setup)) (t .paired)), eq-eqb _ _ (c .before .before .before .if2 .taken), c .settling2 .ensures)
     (settling (a .device) (c .before .request .result) (rw (c .before .before .settled .ensures) at (c .before .request .ensures v (rw (c .before .before .settled .ensures) (settles t)))))
-
-refused-requires-2 : tie.Need-refused-requires-2
-refused-requires-2 c κs = search needs
-
-settling-requires-3 : tie.Need-settling-requires-3
-settling-requires-3 c κs = search needs
 
 returns-3 : tie.Need-returns-3
 unfolding answerSetup
@@ -56,14 +35,14 @@ pub answer-setup-spec : {M : Type 1} → statement M
 answer-setup-spec =
     tie.close
     (tie.spec
-    refused-requires
-    settling-requires
+    (λ c κs. search needs)
+    (λ c κs. search needs)
     returns
-    refusal-for-requires
-    settled-requires
+    (λ c κs. search needs)
+    (λ c κs. search needs)
     request-requires
-    settling-requires-2
+    (λ c κs. search needs)
     returns-2
-    refused-requires-2
-    settling-requires-3
+    (λ c κs. search needs)
+    (λ c κs. search needs)
     returns-3)

@@ -3,17 +3,8 @@ use borrow.Author.Needs.{needs}
 use Rattle.events.proofs.respond.refusal_for.Statement.{statement}
 use Rattle.events.proofs.respond.refusal_for.Tie as tie
 
-asks-test-mode-requires : tie.Need-asks-test-mode-requires
-asks-test-mode-requires c κs = search needs
-
-test-mode-refusal-requires : tie.Need-test-mode-refusal-requires
-test-mode-refusal-requires c κs = search needs
-
 returns : tie.Need-returns
 returns c = rw (← c .before .before .asks-test-mode .ensures, c .before .if1 .taken) (c .test-mode-refusal .ensures)
-
-refusal-requires : tie.Need-refusal-requires
-refusal-requires c κs = search needs
 
 returns-2 : tie.Need-returns-2
 returns-2 c = rw (← c .before .before .asks-test-mode .ensures, c .before .if1 .left) (c .refusal .ensures)
@@ -22,8 +13,8 @@ pub refusal-for-spec : {M : Type 1} → statement M
 refusal-for-spec =
     tie.close
     (tie.spec
-    asks-test-mode-requires
-    test-mode-refusal-requires
+    (λ c κs. search needs)
+    (λ c κs. search needs)
     returns
-    refusal-requires
+    (λ c κs. search needs)
     returns-2)

@@ -13,32 +13,11 @@ use Rattle.events.proofs.respond.request.Statement.{statement}
 tests : {n k : ℕ} → n ≡ k → (j : ℕ) → eqb n j ≡ eqb k j
 tests e j = ap (λ (m : ℕ). eqb m j) e
 
-get-status-requires : tie.Need-get-status-requires
-get-status-requires c κs = search needs
-
-clear-feature-requires : tie.Need-clear-feature-requires
-clear-feature-requires c κs = search needs
-
-set-feature-requires : tie.Need-set-feature-requires
-set-feature-requires c κs = search needs
-
 set-address-requires : tie.Need-set-address-requires
 set-address-requires c κs = c .before .pre .1 .1 (or-left _ (eq-eqb _ _ (c .match .keys4)))
 
-get-descriptor-requires : tie.Need-get-descriptor-requires
-get-descriptor-requires c κs = search needs
-
-get-configuration-requires : tie.Need-get-configuration-requires
-get-configuration-requires c κs = search needs
-
 set-configuration-requires : tie.Need-set-configuration-requires
 set-configuration-requires c κs = c .before .pre .1 .1 (or-right (eqb (c .before .args .setup .bRequest) 5) (eq-eqb _ _ (c .match .keys7)))
-
-get-interface-requires : tie.Need-get-interface-requires
-get-interface-requires c κs = search needs
-
-set-interface-requires : tie.Need-set-interface-requires
-set-interface-requires c κs = search needs
 
 returns : tie.Need-returns
 unfolding request
@@ -80,15 +59,15 @@ pub request-spec : {M : Type 1} → statement M
 request-spec =
     tie.close
     (tie.spec
-    get-status-requires
-    clear-feature-requires
-    set-feature-requires
+    (λ c κs. search needs)
+    (λ c κs. search needs)
+    (λ c κs. search needs)
     set-address-requires
-    get-descriptor-requires
-    get-configuration-requires
+    (λ c κs. search needs)
+    (λ c κs. search needs)
     set-configuration-requires
-    get-interface-requires
-    set-interface-requires
+    (λ c κs. search needs)
+    (λ c κs. search needs)
     returns
     returns-2
     returns-3

@@ -3,66 +3,6 @@ use borrow.Author.Needs.{needs}
 use Rattle.events.proofs.respond.respond.Statement.{statement}
 use Rattle.events.proofs.respond.respond.Tie as tie
 
-enum-known-event : tie.Need-enum-known-event
-enum-known-event c = search needs
-
-answer-setup-requires : tie.Need-answer-setup-requires
-answer-setup-requires c κs = search needs
-
-enum-told : tie.Need-enum-told
-enum-told c = search needs
-
-refused-requires : tie.Need-refused-requires
-refused-requires c κs = search needs
-
-enum-told-2 : tie.Need-enum-told-2
-enum-told-2 c = search needs
-
-status-end-requires : tie.Need-status-end-requires
-status-end-requires c κs = search needs
-
-enum-known-event-2 : tie.Need-enum-known-event-2
-enum-known-event-2 c = search needs
-
-bus-reset-requires : tie.Need-bus-reset-requires
-bus-reset-requires c κs = search needs
-
-enum-told-3 : tie.Need-enum-told-3
-enum-told-3 c = search needs
-
-halt-requires : tie.Need-halt-requires
-halt-requires c κs = search needs
-
-enum-told-4 : tie.Need-enum-told-4
-enum-told-4 c = search needs
-
-packet-passed-requires : tie.Need-packet-passed-requires
-packet-passed-requires c κs = search needs
-
-enum-known-event-3 : tie.Need-enum-known-event-3
-enum-known-event-3 c = search needs
-
-power-requires : tie.Need-power-requires
-power-requires c κs = search needs
-
-enum-told-5 : tie.Need-enum-told-5
-enum-told-5 c = search needs
-
-suspended-requires : tie.Need-suspended-requires
-suspended-requires c κs = search needs
-
-enum-told-6 : tie.Need-enum-told-6
-enum-told-6 c = search needs
-
-suspended-requires-2 : tie.Need-suspended-requires-2
-suspended-requires-2 c κs = search needs
-
-enum-told-7 : tie.Need-enum-told-7
-enum-told-7 c = search needs
-
-wake-requires : tie.Need-wake-requires
-wake-requires c κs = search needs
-
 returns : tie.Need-returns
 returns c = λ v t. rw (c .before .before .event .given .1) (c .answer-setup .ensures v (rw (c .before .before .event .given .1) at t))
 
@@ -97,26 +37,26 @@ pub respond-spec : {M : Type 1} → statement M
 respond-spec =
     tie.close
     (tie.spec
-    enum-known-event
-    answer-setup-requires
-    enum-told
-    refused-requires
-    enum-told-2
-    status-end-requires
-    enum-known-event-2
-    bus-reset-requires
-    enum-told-3
-    halt-requires
-    enum-told-4
-    packet-passed-requires
-    enum-known-event-3
-    power-requires
-    enum-told-5
-    suspended-requires
-    enum-told-6
-    suspended-requires-2
-    enum-told-7
-    wake-requires
+    (λ c. search needs)
+    (λ c κs. search needs)
+    (λ c. search needs)
+    (λ c κs. search needs)
+    (λ c. search needs)
+    (λ c κs. search needs)
+    (λ c. search needs)
+    (λ c κs. search needs)
+    (λ c. search needs)
+    (λ c κs. search needs)
+    (λ c. search needs)
+    (λ c κs. search needs)
+    (λ c. search needs)
+    (λ c κs. search needs)
+    (λ c. search needs)
+    (λ c κs. search needs)
+    (λ c. search needs)
+    (λ c κs. search needs)
+    (λ c. search needs)
+    (λ c κs. search needs)
     returns
     returns-2
     returns-3

@@ -8,15 +8,9 @@ use Rattle.events.proofs.Lookups.{state-of, test-small}
 use Rattle.events.proofs.respond.status_end.Tie as tie
 use Rattle.events.proofs.respond.status_end.Statement.{statement}
 
-done-requires : tie.Need-done-requires
-done-requires c κs = search needs
-
 returns : tie.Need-returns
 unfolding statusEnd
 returns c = rw (c .done .ensures, eq-eqb _ _ (c .before .if1 .taken))
-
-test-waits-requires : tie.Need-test-waits-requires
-test-waits-requires c κs = search needs
 
 sub-speed : tie.Need-sub-speed
 sub-speed c = omega (arith, test-small (c .before .before .before .args .device) (sym (c .before .test-waits .ensures) ∙ c .if2 .taken))
@@ -27,18 +21,9 @@ mul-speed c = omega (arith, test-small (c .before .before .before .args .device)
 add-speed : tie.Need-add-speed
 add-speed c = omega (arith, test-small (c .before .before .before .args .device) (sym (c .before .test-waits .ensures) ∙ c .if2 .taken))
 
-done-requires-2 : tie.Need-done-requires-2
-done-requires-2 c κs = search needs
-
 returns-2 : tie.Need-returns-2
 unfolding statusEnd
 returns-2 c = rw (c .done2 .ensures, ne-eqb _ _ (c .before .before .before .if1 .left), ← c .before .before .test-waits .ensures, c .before .if2 .taken)
-
-cast-t10 : tie.Need-cast-t10
-cast-t10 c = search needs
-
-done-requires-3 : tie.Need-done-requires-3
-done-requires-3 c κs = search needs
 
 returns-3 : tie.Need-returns-3
 unfolding statusEnd
@@ -48,14 +33,14 @@ pub status-end-spec : {M : Type 1} → statement M
 status-end-spec =
     tie.close
     (tie.spec
-    done-requires
+    (λ c κs. search needs)
     returns
-    test-waits-requires
+    (λ c κs. search needs)
     sub-speed
     mul-speed
     add-speed
-    done-requires-2
+    (λ c κs. search needs)
     returns-2
-    cast-t10
-    done-requires-3
+    (λ c. search needs)
+    (λ c κs. search needs)
     returns-3)

@@ -3,14 +3,8 @@ use borrow.Author.Needs.{needs}
 use Rattle.events.proofs.respond.suspended.Statement.{statement}
 use Rattle.events.proofs.respond.suspended.Tie as tie
 
-cast-t2 : tie.Need-cast-t2
-cast-t2 c = search needs
-
-done-requires : tie.Need-done-requires
-done-requires c κs = search needs
-
 returns : tie.Need-returns
 returns c = λ d. rw (c .done .ensures)
 
 pub suspended-spec : {M : Type 1} → statement M
-suspended-spec = tie.close (tie.spec cast-t2 done-requires returns)
+suspended-spec = tie.close (tie.spec (λ c. search needs) (λ c κs. search needs) returns)

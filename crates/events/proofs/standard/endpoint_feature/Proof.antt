@@ -6,38 +6,11 @@ use Rattle.events.proofs.Lookups.{is-there, is-nowhere}
 use Rattle.events.proofs.standard.endpoint_feature.Statement.{statement}
 use Rattle.events.proofs.standard.endpoint_feature.Tie as tie
 
-is-zero-requires : tie.Need-is-zero-requires
-is-zero-requires c κs = search needs
-
-refused-requires : tie.Need-refused-requires
-refused-requires c κs = search needs
-
 returns : tie.Need-returns
 returns c = λ v t. rw (c .refused .ensures, sym (c .before .before .is-zero .ensures) ∙ c .before .if1 .taken)
 
-enum-told : tie.Need-enum-told
-enum-told c = search needs
-
-refused-requires-2 : tie.Need-refused-requires-2
-refused-requires-2 c κs = search needs
-
-enum-known-asked : tie.Need-enum-known-asked
-enum-known-asked c = search needs
-
-can-halt-requires : tie.Need-can-halt-requires
-can-halt-requires c κs = search needs
-
-with-halt-requires : tie.Need-with-halt-requires
-with-halt-requires c κs = search needs
-
-done-requires : tie.Need-done-requires
-done-requires c κs = search needs
-
 returns-2 : tie.Need-returns-2
 returns-2 c = λ v t. rw (c .done .ensures, c .before .with-halt .ensures, sym (c .before .before .before .before .before .before .before .before .before .before .is-zero .ensures) ∙ c .before .before .before .before .before .before .before .before .before .if1 .left, is-there (endpointAt v (c .before .before .before .before .before .before .before .before .before .before .before .args .device) (c .before .before .before .before .before .before .before .before .before .before .before .args .setup .wIndex)) (sym (t .surveyed .asked) ∙ c .before .before .before .before .before .before .asked .given .1), ← c .before .before .before .can-halt .ensures, c .before .before .if2 .taken)
-
-refused-requires-3 : tie.Need-refused-requires-3
-refused-requires-3 c κs = search needs
 
 returns-3 : tie.Need-returns-3
 returns-3 c = λ v t. rw (c .refused2 .ensures, sym (c .before .before .before .before .before .is-zero .ensures) ∙ c .before .before .before .before .if1 .left, is-nowhere (endpointAt v (c .before .before .before .before .before .before .args .device) (c .before .before .before .before .before .before .args .setup .wIndex)) (sym (t .surveyed .asked) ∙ c .before .enum-told .given .1))
@@ -49,16 +22,16 @@ pub endpoint-feature-spec : {M : Type 1} → statement M
 endpoint-feature-spec =
     tie.close
     (tie.spec
-    is-zero-requires
-    refused-requires
+    (λ c κs. search needs)
+    (λ c κs. search needs)
     returns
-    enum-told
-    refused-requires-2
-    enum-known-asked
-    can-halt-requires
-    with-halt-requires
-    done-requires
+    (λ c. search needs)
+    (λ c κs. search needs)
+    (λ c. search needs)
+    (λ c κs. search needs)
+    (λ c κs. search needs)
+    (λ c κs. search needs)
     returns-2
-    refused-requires-3
+    (λ c κs. search needs)
     returns-3
     returns-4)

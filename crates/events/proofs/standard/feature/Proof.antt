@@ -4,32 +4,17 @@ use borrow.Author.Tests.{eq-eqb, ne-eqb}
 use Rattle.events.proofs.standard.feature.Tie as tie
 use Rattle.events.proofs.standard.feature.Statement.{statement}
 
-set-test-mode-requires : tie.Need-set-test-mode-requires
-set-test-mode-requires c κs = search needs
-
 returns : tie.Need-returns
 returns c = λ v t. rw (eq-eqb _ _ (c .before .before .before .before .if1 .taken), ← t .paired, c .before .if2 .taken) (c .set-test-mode .ensures)
-
-device-feature-requires : tie.Need-device-feature-requires
-device-feature-requires c κs = search needs
 
 returns-2 : tie.Need-returns-2
 returns-2 c = λ v t. rw (eq-eqb _ _ (c .before .before .before .before .if1 .taken), ← t .paired, c .before .if2 .left) (c .device-feature .ensures v _ (t .waking))
 
-refused-requires : tie.Need-refused-requires
-refused-requires c κs = search needs
-
 returns-3 : tie.Need-returns-3
 returns-3 c = λ v t. rw (c .refused .ensures, ne-eqb _ _ (c .before .before .before .if1 .left), eq-eqb _ _ (c .before .before .if3 .taken), ← t .interface, c .before .if4 .taken)
 
-refused-requires-2 : tie.Need-refused-requires-2
-refused-requires-2 c κs = search needs
-
 returns-4 : tie.Need-returns-4
 returns-4 c = λ v t. rw (c .refused2 .ensures, ne-eqb _ _ (c .before .before .before .if1 .left), eq-eqb _ _ (c .before .before .if3 .taken), ← t .interface, c .before .if4 .left)
-
-endpoint-feature-requires : tie.Need-endpoint-feature-requires
-endpoint-feature-requires c κs = search needs
 
 returns-5 : tie.Need-returns-5
 returns-5 c = λ v t. rw (ne-eqb _ _ (c .before .before .if1 .left), ne-eqb _ _ (c .before .if3 .left)) (c .endpoint-feature .ensures v t)
@@ -38,13 +23,13 @@ pub feature-spec : {M : Type 1} → statement M
 feature-spec =
     tie.close
     (tie.spec
-    set-test-mode-requires
+    (λ c κs. search needs)
     returns
-    device-feature-requires
+    (λ c κs. search needs)
     returns-2
-    refused-requires
+    (λ c κs. search needs)
     returns-3
-    refused-requires-2
+    (λ c κs. search needs)
     returns-4
-    endpoint-feature-requires
+    (λ c κs. search needs)
     returns-5)

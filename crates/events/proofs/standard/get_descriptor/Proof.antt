@@ -4,30 +4,6 @@ use Rattle.events.specs.Requests.{getDescriptor}
 use Rattle.events.proofs.standard.get_descriptor.Statement.{statement}
 use Rattle.events.proofs.standard.get_descriptor.Tie as tie
 
-enum-known-located : tie.Need-enum-known-located
-enum-known-located c = search needs
-
-least-requires : tie.Need-least-requires
-least-requires c κs = search needs
-
-gives-requires : tie.Need-gives-requires
-gives-requires c κs = search needs
-
-enum-known-located-2 : tie.Need-enum-known-located-2
-enum-known-located-2 c = search needs
-
-least-requires-2 : tie.Need-least-requires-2
-least-requires-2 c κs = search needs
-
-gives-requires-2 : tie.Need-gives-requires-2
-gives-requires-2 c κs = search needs
-
-enum-told : tie.Need-enum-told
-enum-told c = search needs
-
-refused-requires : tie.Need-refused-requires
-refused-requires c κs = search needs
-
 returns : tie.Need-returns
 unfolding getDescriptor
 returns c = λ v d e. rw (c .gives .ensures, c .before .least .ensures, ← e, c .before .before .before .located .given .1)
@@ -44,14 +20,14 @@ pub get-descriptor-spec : {M : Type 1} → statement M
 get-descriptor-spec =
     tie.close
     (tie.spec
-    enum-known-located
-    least-requires
-    gives-requires
-    enum-known-located-2
-    least-requires-2
-    gives-requires-2
-    enum-told
-    refused-requires
+    (λ c. search needs)
+    (λ c κs. search needs)
+    (λ c κs. search needs)
+    (λ c. search needs)
+    (λ c κs. search needs)
+    (λ c κs. search needs)
+    (λ c. search needs)
+    (λ c κs. search needs)
     returns
     returns-2
     returns-3)

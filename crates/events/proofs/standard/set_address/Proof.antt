@@ -4,15 +4,9 @@ use Rattle.events.specs.Requests.{setAddress}
 use Rattle.events.proofs.standard.set_address.Statement.{statement}
 use Rattle.events.proofs.standard.set_address.Tie as tie
 
-cast-t2 : tie.Need-cast-t2
-cast-t2 c = search needs
-
-done-requires : tie.Need-done-requires
-done-requires c κs = search needs
-
 returns : tie.Need-returns
 unfolding setAddress
 returns c = λ v d. rw (c .done .ensures)
 
 pub set-address-spec : {M : Type 1} → statement M
-set-address-spec = tie.close (tie.spec cast-t2 done-requires returns)
+set-address-spec = tie.close (tie.spec (λ c. search needs) (λ c κs. search needs) returns)

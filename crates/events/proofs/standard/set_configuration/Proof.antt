@@ -5,25 +5,13 @@ use Rattle.events.specs.Requests.{setConfiguration}
 use Rattle.events.proofs.standard.set_configuration.Tie as tie
 use Rattle.events.proofs.standard.set_configuration.Statement.{statement}
 
-cast-value : tie.Need-cast-value
-cast-value c = search needs
-
-done-requires : tie.Need-done-requires
-done-requires c κs = search needs
-
 returns : tie.Need-returns
 unfolding setConfiguration
 returns c = λ v d e. rw (c .done .ensures, eq-eqb _ _ (c .before .if1 .taken))
 
-done-requires-2 : tie.Need-done-requires-2
-done-requires-2 c κs = search needs
-
 returns-2 : tie.Need-returns-2
 unfolding setConfiguration
 returns-2 c = λ v d e. rw (c .done2 .ensures, ne-eqb _ _ (c .before .before .if1 .left), ← e, c .before .if2 .taken)
-
-refused-requires : tie.Need-refused-requires
-refused-requires c κs = search needs
 
 returns-3 : tie.Need-returns-3
 unfolding setConfiguration
@@ -33,10 +21,10 @@ pub set-configuration-spec : {M : Type 1} → statement M
 set-configuration-spec =
     tie.close
     (tie.spec
-    cast-value
-    done-requires
+    (λ c. search needs)
+    (λ c κs. search needs)
     returns
-    done-requires-2
+    (λ c κs. search needs)
     returns-2
-    refused-requires
+    (λ c κs. search needs)
     returns-3)

@@ -11,21 +11,6 @@ use Rattle.events.proofs.Lookups.{small-mod}
 use Rattle.events.proofs.standard.set_interface.Tie as tie
 use Rattle.events.proofs.standard.set_interface.Statement.{statement}
 
-cast-t7 : tie.Need-cast-t7
-cast-t7 c = search needs
-
-cast-t9 : tie.Need-cast-t9
-cast-t9 c = search needs
-
-without-requires : tie.Need-without-requires
-without-requires c κs = search needs
-
-without-requires-2 : tie.Need-without-requires-2
-without-requires-2 c κs = search needs
-
-done-requires : tie.Need-done-requires
-done-requires c κs = search needs
-
 returns : tie.Need-returns
 unfolding setInterface
 returns c = λ v t.
@@ -33,9 +18,6 @@ returns c = λ v t.
     let (j, n) = t .small (sym (t .surveyed .there) ∙ c .before .before .before .before .before .if1 .taken) in
     let es = only (ofEither (a .setup .wIndex) (getD (a .device .alternates) (a .setup .wIndex) 0) (a .setup .wValue)) (selected v (a .device) .endpoints) in
     rw (c .done .ensures, c .before .before .without .ensures es (t .surveyed .bits), c .before .without2 .ensures es (t .surveyed .bits), ← t .surveyed .there, c .before .before .before .before .before .if1 .taken, small-mod j, small-mod n, lt-ltb _ _ j)
-
-refused-requires : tie.Need-refused-requires
-refused-requires c κs = search needs
 
 returns-2 : tie.Need-returns-2
 unfolding setInterface
@@ -45,11 +27,11 @@ pub set-interface-spec : {M : Type 1} → statement M
 set-interface-spec =
     tie.close
     (tie.spec
-    cast-t7
-    cast-t9
-    without-requires
-    without-requires-2
-    done-requires
+    (λ c. search needs)
+    (λ c. search needs)
+    (λ c κs. search needs)
+    (λ c κs. search needs)
+    (λ c κs. search needs)
     returns
-    refused-requires
+    (λ c κs. search needs)
     returns-2)

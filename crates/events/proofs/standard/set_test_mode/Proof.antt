@@ -9,9 +9,6 @@ use Rattle.octets.proofs.Sentences.{both}
 use Rattle.events.proofs.standard.set_test_mode.Statement.{statement}
 use Rattle.events.proofs.standard.set_test_mode.Tie as tie
 
-cast-waiting : tie.Need-cast-waiting
-cast-waiting c = search needs
-
 add-waiting : tie.Need-add-waiting
 add-waiting c =
     let w = c .before .before .before .args .setup .wIndex in
@@ -19,14 +16,8 @@ add-waiting c =
     let small = leb-true (w / 256) 5 (both (eqb d 1 && leb 1 (w / 256)) (leb (w / 256) 5) (c .if1 .taken) .1) in
     omega (arith, small)
 
-done-requires : tie.Need-done-requires
-done-requires c κs = search needs
-
 returns : tie.Need-returns
 returns c = rw (c .done .ensures, c .before .if1 .taken)
-
-refused-requires : tie.Need-refused-requires
-refused-requires c κs = search needs
 
 returns-2 : tie.Need-returns-2
 returns-2 c = rw (c .refused .ensures, c .before .if1 .left)
@@ -34,4 +25,4 @@ returns-2 c = rw (c .refused .ensures, c .before .if1 .left)
 pub set-test-mode-spec : {M : Type 1} → statement M
 set-test-mode-spec =
     tie.close
-    (tie.spec cast-waiting add-waiting done-requires returns refused-requires returns-2)
+    (tie.spec (λ c. search needs) add-waiting (λ c κs. search needs) returns (λ c κs. search needs) returns-2)

@@ -23,9 +23,6 @@ loop-holds c = (omega arith, (refl, fill-none _ 0))
 put-requires : tie.Need-put-requires Inv-loop μ-loop
 put-requires c κs = c .before .loop-test .taken
 
-add-k : tie.Need-add-k Inv-loop μ-loop
-add-k c = search needs
-
 loop-less : tie.Need-loop-less Inv-loop μ-loop
 loop-less c =
     let turn = c .before .before .before .before in
@@ -61,7 +58,7 @@ clear-spec =
     μ-loop
     loop-holds
     put-requires
-    add-k
+    (λ c. search needs)
     loop-less
     loop-again
     same-length

@@ -5,18 +5,6 @@ use borrow.Author.Needs.{needs}
 use Rattle.records.proofs.renewal.put_address.Statement.{statement}
 use Rattle.records.proofs.renewal.put_address.Tie as tie
 
-put-requires : tie.Need-put-requires
-put-requires c κs = search needs
-
-put-requires-2 : tie.Need-put-requires-2
-put-requires-2 c κs = search needs
-
-put-requires-3 : tie.Need-put-requires-3
-put-requires-3 c κs = search needs
-
-same-length : tie.Need-same-length
-same-length c = search needs
-
 returns : tie.Need-returns
 unfolding imageOf
 returns c = λ d e.
@@ -27,4 +15,4 @@ returns c = λ d e.
 
 pub put-address-spec : {M : Type 1} → statement M
 put-address-spec =
-    tie.close (tie.spec put-requires put-requires-2 put-requires-3 same-length returns)
+    tie.close (tie.spec (λ c κs. search needs) (λ c κs. search needs) (λ c κs. search needs) (λ c. search needs) returns)

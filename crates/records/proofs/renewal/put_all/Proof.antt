@@ -27,9 +27,6 @@ shared-slice-read-put c =
 put-requires : tie.Need-put-requires Inv-loop μ-loop
 put-requires c κs = c .before .before .loop-test .taken
 
-add-k : tie.Need-add-k Inv-loop μ-loop
-add-k c = search needs
-
 loop-less : tie.Need-loop-less Inv-loop μ-loop
 loop-less c =
     let turn = c .before .before .before .before .before in
@@ -69,7 +66,7 @@ put-all-spec =
     loop-holds
     shared-slice-read-put
     put-requires
-    add-k
+    (λ c. search needs)
     loop-less
     loop-again
     same-length

@@ -6,27 +6,6 @@ use borrow.Author.Needs.{needs}
 use Rattle.records.proofs.renewal.put_configuration.Statement.{statement}
 use Rattle.records.proofs.renewal.put_configuration.Tie as tie
 
-put-requires : tie.Need-put-requires
-put-requires c κs = search needs
-
-put-requires-2 : tie.Need-put-requires-2
-put-requires-2 c κs = search needs
-
-sub-clear : tie.Need-sub-clear
-sub-clear c = search needs
-
-part-clear-start : tie.Need-part-clear-start
-part-clear-start c = search needs
-
-part-clear-end : tie.Need-part-clear-end
-part-clear-end c = search needs
-
-clear-requires : tie.Need-clear-requires
-clear-requires c κs = search needs
-
-same-length : tie.Need-same-length
-same-length c = search needs
-
 returns : tie.Need-returns
 returns c = λ d e.
     let second = c .before .before .before .before in
@@ -40,11 +19,11 @@ pub put-configuration-spec : {M : Type 1} → statement M
 put-configuration-spec =
     tie.close
     (tie.spec
-    put-requires
-    put-requires-2
-    sub-clear
-    part-clear-start
-    part-clear-end
-    clear-requires
-    same-length
+    (λ c κs. search needs)
+    (λ c κs. search needs)
+    (λ c. search needs)
+    (λ c. search needs)
+    (λ c. search needs)
+    (λ c κs. search needs)
+    (λ c. search needs)
     returns)

@@ -5,33 +5,6 @@ use borrow.Author.Needs.{needs}
 use Rattle.records.proofs.renewal.put_endpoints.Statement.{statement}
 use Rattle.records.proofs.renewal.put_endpoints.Tie as tie
 
-sub-put-four : tie.Need-sub-put-four
-sub-put-four c = search needs
-
-part-put-four-start : tie.Need-part-put-four-start
-part-put-four-start c = search needs
-
-part-put-four-end : tie.Need-part-put-four-end
-part-put-four-end c = search needs
-
-put-four-requires : tie.Need-put-four-requires
-put-four-requires c κs = search needs
-
-sub-put-four-2 : tie.Need-sub-put-four-2
-sub-put-four-2 c = search needs
-
-part-put-four-start-2 : tie.Need-part-put-four-start-2
-part-put-four-start-2 c = search needs
-
-part-put-four-end-2 : tie.Need-part-put-four-end-2
-part-put-four-end-2 c = search needs
-
-put-four-requires-2 : tie.Need-put-four-requires-2
-put-four-requires-2 c κs = search needs
-
-same-length : tie.Need-same-length
-same-length c = search needs
-
 returns : tie.Need-returns
 returns c = λ d n e.
     let first = c .before .before .before .before in
@@ -42,13 +15,13 @@ pub put-endpoints-spec : {M : Type 1} → statement M
 put-endpoints-spec =
     tie.close
     (tie.spec
-    sub-put-four
-    part-put-four-start
-    part-put-four-end
-    put-four-requires
-    sub-put-four-2
-    part-put-four-start-2
-    part-put-four-end-2
-    put-four-requires-2
-    same-length
+    (λ c. search needs)
+    (λ c. search needs)
+    (λ c. search needs)
+    (λ c κs. search needs)
+    (λ c. search needs)
+    (λ c. search needs)
+    (λ c. search needs)
+    (λ c κs. search needs)
+    (λ c. search needs)
     returns)

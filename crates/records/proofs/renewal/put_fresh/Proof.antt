@@ -6,27 +6,6 @@ use borrow.Author.Needs.{needs}
 use Rattle.records.proofs.renewal.put_fresh.Statement.{statement}
 use Rattle.records.proofs.renewal.put_fresh.Tie as tie
 
-put-address-requires : tie.Need-put-address-requires
-put-address-requires c κs = search needs
-
-put-configuration-requires : tie.Need-put-configuration-requires
-put-configuration-requires c κs = search needs
-
-put-requires : tie.Need-put-requires
-put-requires c κs = search needs
-
-put-requires-2 : tie.Need-put-requires-2
-put-requires-2 c κs = search needs
-
-put-requires-3 : tie.Need-put-requires-3
-put-requires-3 c κs = search needs
-
-put-requires-4 : tie.Need-put-requires-4
-put-requires-4 c κs = search needs
-
-same-length : tie.Need-same-length
-same-length c = search needs
-
 returns : tie.Need-returns
 unfolding imageOf
 returns c = λ d e.
@@ -43,11 +22,11 @@ pub put-fresh-spec : {M : Type 1} → statement M
 put-fresh-spec =
     tie.close
     (tie.spec
-    put-address-requires
-    put-configuration-requires
-    put-requires
-    put-requires-2
-    put-requires-3
-    put-requires-4
-    same-length
+    (λ c κs. search needs)
+    (λ c κs. search needs)
+    (λ c κs. search needs)
+    (λ c κs. search needs)
+    (λ c κs. search needs)
+    (λ c κs. search needs)
+    (λ c. search needs)
     returns)

@@ -6,21 +6,6 @@ use borrow.Author.Needs.{needs}
 use Rattle.records.proofs.renewal.put_setting.Statement.{statement}
 use Rattle.records.proofs.renewal.put_setting.Tie as tie
 
-sub-put : tie.Need-sub-put
-sub-put c = search needs
-
-part-put-start : tie.Need-part-put-start
-part-put-start c = search needs
-
-part-put-end : tie.Need-part-put-end
-part-put-end c = search needs
-
-put-requires : tie.Need-put-requires
-put-requires c κs = search needs
-
-same-length : tie.Need-same-length
-same-length c = search needs
-
 returns : tie.Need-returns
 returns c = λ d n e. setting-put d n _ _ (c .before .before .before .before .if1 .taken) e (c .before .before .put .ensures)
 
@@ -31,4 +16,4 @@ returns-2 c = λ d n e. rw (le-ltb _ _ (c .if1 .left)) e
 pub put-setting-spec : {M : Type 1} → statement M
 put-setting-spec =
     tie.close
-    (tie.spec sub-put part-put-start part-put-end put-requires same-length returns returns-2)
+    (tie.spec (λ c. search needs) (λ c. search needs) (λ c. search needs) (λ c κs. search needs) (λ c. search needs) returns returns-2)

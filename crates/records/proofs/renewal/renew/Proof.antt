@@ -11,18 +11,6 @@ use borrow.Author.Needs.{needs}
 use Rattle.records.proofs.renewal.renew.Statement.{statement}
 use Rattle.records.proofs.renewal.renew.Tie as tie
 
-waits-after-requires : tie.Need-waits-after-requires
-waits-after-requires c κs = search needs
-
-settle-requires : tie.Need-settle-requires
-settle-requires c κs = search needs
-
-apply-requires : tie.Need-apply-requires
-apply-requires c κs = search needs
-
-same-length : tie.Need-same-length
-same-length c = search needs
-
 returns : tie.Need-returns
 unfolding renewed
 returns c =
@@ -44,4 +32,4 @@ returns-2 c = rw (ne-eqb _ _ (c .if1 .left))
 
 pub renew-spec : {M : Type 1} → statement M
 renew-spec =
-    tie.close (tie.spec waits-after-requires settle-requires apply-requires same-length returns returns-2)
+    tie.close (tie.spec (λ c κs. search needs) (λ c κs. search needs) (λ c κs. search needs) (λ c. search needs) returns returns-2)

@@ -5,15 +5,6 @@ use borrow.Author.Needs.{needs}
 use Rattle.records.proofs.renewal.settle.Statement.{statement}
 use Rattle.records.proofs.renewal.settle.Tie as tie
 
-put-requires : tie.Need-put-requires
-put-requires c κs = search needs
-
-put-requires-2 : tie.Need-put-requires-2
-put-requires-2 c κs = search needs
-
-same-length : tie.Need-same-length
-same-length c = search needs
-
 returns : tie.Need-returns
 unfolding imageOf
 returns c = λ d e.
@@ -24,4 +15,4 @@ returns-2 : tie.Need-returns-2
 returns-2 c = λ d e. rw (c .if1 .left) e
 
 pub settle-spec : {M : Type 1} → statement M
-settle-spec = tie.close (tie.spec put-requires put-requires-2 same-length returns returns-2)
+settle-spec = tie.close (tie.spec (λ c κs. search needs) (λ c κs. search needs) (λ c. search needs) returns returns-2)

@@ -2,27 +2,12 @@
 use native.Mathlib.Omega.{arith}
 use mathlib.Core.Path.{refl}
 use Rattle.buffers.proofs.Written.{room-for, next}
-use Rattle.set_writer.specs.Writer.{contents, bodies, front}
+use Rattle.set_writer.specs.Writer.{contents, bodyBytes, front}
 use Rattle.set_writer.specs.Places.{piecesAt}
 use Rattle.set_writer.proofs.Laying.{headed}
 use borrow.Author.Needs.{needs}
 use Rattle.set_writer.proofs.layout.lay.Statement.{statement}
 use Rattle.set_writer.proofs.layout.lay.Tie as tie
-
-cast-t11 : tie.Need-cast-t11
-cast-t11 c = search needs
-
-cast-t13 : tie.Need-cast-t13
-cast-t13 c = search needs
-
-cast-t15 : tie.Need-cast-t15
-cast-t15 c = search needs
-
-slice-aggregate-put-bytes : tie.Need-slice-aggregate-put-bytes
-slice-aggregate-put-bytes c = search needs
-
-put-bytes-requires : tie.Need-put-bytes-requires
-put-bytes-requires c κs = search needs
 
 put-contents-requires : tie.Need-put-contents-requires
 put-contents-requires c κs =
@@ -30,7 +15,7 @@ put-contents-requires c κs =
     let a = s .args in
     let ps = piecesAt (a .stream .now) (a .places .now) in
     let g = headed (a .stream .now) (a .places .now) (a .out .now) (a .size) (s .pre .0) (s .pre .1 .0) (c .before .before .before .put-bytes .ensures) in
-    (room-for g (contents (front ps) ps) (bodies ps) refl, omega (arith, s .pre .0, s .pre .1 .1 .0))
+    (room-for g (contents (front ps) ps) (bodyBytes ps) refl, omega (arith, s .pre .0, s .pre .1 .1 .0))
 
 put-bodies-requires : tie.Need-put-bodies-requires
 put-bodies-requires c κs =
@@ -38,10 +23,7 @@ put-bodies-requires c κs =
     let a = s .args in
     let ps = piecesAt (a .stream .now) (a .places .now) in
     let g = headed (a .stream .now) (a .places .now) (a .out .now) (a .size) (s .pre .0) (s .pre .1 .0) (c .before .before .before .before .before .before .before .put-bytes .ensures) in
-    next g (contents (front ps) ps) (bodies ps) refl (c .before .before .before .put-contents .ensures) .room
-
-same-length : tie.Need-same-length
-same-length c = search needs
+    next g (contents (front ps) ps) (bodyBytes ps) refl (c .before .before .before .put-contents .ensures) .room
 
 returns : tie.Need-returns
 returns c =
@@ -49,18 +31,18 @@ returns c =
     let a = s .args in
     let ps = piecesAt (a .stream .now) (a .places .now) in
     let g = headed (a .stream .now) (a .places .now) (a .out .now) (a .size) (s .pre .0) (s .pre .1 .0) (c .before .before .before .before .before .before .before .before .before .before .put-bytes .ensures) in
-    next g (contents (front ps) ps) (bodies ps) refl (c .before .before .before .before .before .before .put-contents .ensures) .onward _ _ (c .before .before .put-bodies .ensures)
+    next g (contents (front ps) ps) (bodyBytes ps) refl (c .before .before .before .before .before .before .put-contents .ensures) .onward _ _ (c .before .before .put-bodies .ensures)
 
 pub lay-spec : {M : Type 1} → statement M
 lay-spec =
     tie.close
     (tie.spec
-    cast-t11
-    cast-t13
-    cast-t15
-    slice-aggregate-put-bytes
-    put-bytes-requires
+    (λ c. search needs)
+    (λ c. search needs)
+    (λ c. search needs)
+    (λ c. search needs)
+    (λ c κs. search needs)
     put-contents-requires
     put-bodies-requires
-    same-length
+    (λ c. search needs)
     returns)

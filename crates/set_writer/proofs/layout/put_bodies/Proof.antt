@@ -4,7 +4,7 @@ use native.Mathlib.Omega.{arith}
 use lib.ListN.{length}
 use borrow.Author.Needs.{needs}
 use Rattle.buffers.proofs.Written.{Going, begun, room-for, next, done, same}
-use Rattle.set_writer.specs.Writer.{bodies}
+use Rattle.set_writer.specs.Writer.{bodyBytes}
 use Rattle.set_writer.specs.Places.{piecesAt}
 use Rattle.set_writer.proofs.Laying.{left, here, behind, bodies-left, no-bodies}
 use Rattle.set_writer.proofs.layout.put_bodies.Statement.{statement}
@@ -13,22 +13,13 @@ use Rattle.set_writer.proofs.layout.put_bodies.Tie as tie
 abbrev Inv-loop : tie.InvT-loop
 Inv-loop out₀ at stream places next₀ i₀ out next i =
     (i ≤ length places) ×
-    Going out₀ at (bodies (piecesAt stream places)) out next (bodies (left stream places i))
+    Going out₀ at (bodyBytes (piecesAt stream places)) out next (bodyBytes (left stream places i))
 
 abbrev μ-loop : tie.MeasureT-loop
 μ-loop out₀ at stream places next₀ i₀ out next i = length places - i
 
 loop-holds : tie.Need-loop-holds Inv-loop μ-loop
 loop-holds c = let a = c .before .before .before .args in (omega arith, begun (a .out .now) (a .at) _ (c .before .before .before .pre))
-
-mul-body-at : tie.Need-mul-body-at Inv-loop μ-loop
-mul-body-at c = search needs
-
-shared-slice-read-body-at : tie.Need-shared-slice-read-body-at Inv-loop μ-loop
-shared-slice-read-body-at c = search needs
-
-body-at-requires : tie.Need-body-at-requires Inv-loop μ-loop
-body-at-requires c κs = search needs
 
 put-bytes-requires : tie.Need-put-bytes-requires Inv-loop μ-loop
 put-bytes-requires c κs =
@@ -37,13 +28,7 @@ put-bytes-requires c κs =
     let stream = a .stream .now in
     let places = a .places .now in
     let i = s .loop .i in
-    rw (c .body-at .ensures) (room-for (s .loop .inv .1) (here stream places i .body) (bodies (behind stream places i)) (bodies-left stream places i (c .before .before .before .loop-test .taken)))
-
-add-i : tie.Need-add-i Inv-loop μ-loop
-add-i c = search needs
-
-loop-less : tie.Need-loop-less Inv-loop μ-loop
-loop-less c = search needs
+    rw (c .body-at .ensures) (room-for (s .loop .inv .1) (here stream places i .body) (bodyBytes (behind stream places i)) (bodies-left stream places i (c .before .before .before .loop-test .taken)))
 
 loop-again : tie.Need-loop-again Inv-loop μ-loop
 loop-again c =
@@ -53,7 +38,7 @@ loop-again c =
     let places = a .places .now in
     let i = s .loop .i in (
       omega arith,
-      next (s .loop .inv .1) (here stream places i .body) (bodies (behind stream places i)) (bodies-left stream places i (c .before .before .before .before .before .before .loop-test .taken)) (rw (c .before .before .before .body-at .ensures) at (c .before .before .put-bytes .ensures)),
+      next (s .loop .inv .1) (here stream places i .body) (bodyBytes (behind stream places i)) (bodies-left stream places i (c .before .before .before .before .before .before .loop-test .taken)) (rw (c .before .before .before .body-at .ensures) at (c .before .before .put-bytes .ensures)),
     )
 
 same-length : tie.Need-same-length Inv-loop μ-loop
@@ -75,12 +60,12 @@ put-bodies-spec =
     Inv-loop
     μ-loop
     loop-holds
-    mul-body-at
-    shared-slice-read-body-at
-    body-at-requires
+    (λ c. search needs)
+    (λ c. search needs)
+    (λ c κs. search needs)
     put-bytes-requires
-    add-i
-    loop-less
+    (λ c. search needs)
+    (λ c. search needs)
     loop-again
     same-length
     returns)

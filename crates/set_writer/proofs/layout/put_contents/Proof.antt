@@ -5,7 +5,7 @@ use mathlib.Core.Path.{ap, _∙_}
 use lib.ListN.{length, length-append, length-map}
 use borrow.Author.Needs.{needs}
 use Rattle.buffers.proofs.Written.{Going, begun, room-for, next, done, same}
-use Rattle.set_writer.specs.Writer.{entryBytes, contents, bodies, front}
+use Rattle.set_writer.specs.Writer.{entryBytes, contents, bodyBytes, front}
 use Rattle.set_writer.specs.Places.{pieceAt, piecesAt}
 use Rattle.set_writer.proofs.Laying.{left, here, behind, entries-left, bodies-left, no-entries}
 use Rattle.set_writer.proofs.layout.put_contents.Statement.{statement}
@@ -14,7 +14,7 @@ use Rattle.set_writer.proofs.layout.put_contents.Tie as tie
 abbrev Inv-loop : tie.InvT-loop
 Inv-loop out₀ at stream places next₀ offset₀ i₀ out next offset i =
     (i ≤ length places) ×
-    (offset + length (bodies (left stream places i)) < 65536) ×
+    (offset + length (bodyBytes (left stream places i)) < 65536) ×
     Going out₀ at (contents (front (piecesAt stream places)) (piecesAt stream places)) out next (contents offset (left stream places i))
 
 abbrev μ-loop : tie.MeasureT-loop
@@ -39,12 +39,6 @@ loop-holds c =
       rw (← e) (begun (a .out .now) (a .at) _ (c .before .before .before .pre .0)),
     )
 
-mul-from : tie.Need-mul-from Inv-loop μ-loop
-mul-from c = search needs
-
-shared-slice-read-from : tie.Need-shared-slice-read-from Inv-loop μ-loop
-shared-slice-read-from c = search needs
-
 put-entry-requires : tie.Need-put-entry-requires Inv-loop μ-loop
 put-entry-requires c κs =
     let s = c .before .before .before in
@@ -54,11 +48,8 @@ put-entry-requires c κs =
     let i = s .loop .i in
     let h = c .before .before .loop-test .taken in (
       room-for (s .loop .inv .2) (entryBytes (here stream places i) (s .loop .offset)) _ (entries-left stream places i h (s .loop .offset)),
-      omega (arith, s .loop .inv .1, ap length (bodies-left stream places i h) ∙ length-append (here stream places i .body) (bodies (behind stream places i))),
+      omega (arith, s .loop .inv .1, ap length (bodies-left stream places i h) ∙ length-append (here stream places i .body) (bodyBytes (behind stream places i))),
     )
-
-body-at-requires : tie.Need-body-at-requires Inv-loop μ-loop
-body-at-requires c κs = search needs
 
 add-offset-2 : tie.Need-add-offset-2 Inv-loop μ-loop
 add-offset-2 c =
@@ -68,13 +59,7 @@ add-offset-2 c =
     let places = a .places .now in
     let i = s .loop .i in
     let h = c .before .before .before .before .before .before .loop-test .taken in
-    omega (arith, s .loop .inv .1, ap length (c .body-at .ensures), ap length (bodies-left stream places i h) ∙ length-append (here stream places i .body) (bodies (behind stream places i)))
-
-add-i : tie.Need-add-i Inv-loop μ-loop
-add-i c = search needs
-
-loop-less : tie.Need-loop-less Inv-loop μ-loop
-loop-less c = search needs
+    omega (arith, s .loop .inv .1, ap length (c .body-at .ensures), ap length (bodies-left stream places i h) ∙ length-append (here stream places i .body) (bodyBytes (behind stream places i)))
 
 loop-again : tie.Need-loop-again Inv-loop μ-loop
 loop-again c =
@@ -86,7 +71,7 @@ loop-again c =
     let h = c .before .before .before .before .before .before .loop-test .taken in
     let l = ap length (c .body-at .ensures) in (
       omega arith,
-      omega (arith, s .loop .inv .1, l, ap length (bodies-left stream places i h) ∙ length-append (here stream places i .body) (bodies (behind stream places i))),
+      omega (arith, s .loop .inv .1, l, ap length (bodies-left stream places i h) ∙ length-append (here stream places i .body) (bodyBytes (behind stream places i))),
       rw l (next (s .loop .inv .2) (entryBytes (here stream places i) (s .loop .offset)) _ (entries-left stream places i h (s .loop .offset)) (c .before .before .before .put-entry .ensures)),
     )
 
@@ -111,13 +96,13 @@ put-contents-spec =
     mul-offset
     add-offset
     loop-holds
-    mul-from
-    shared-slice-read-from
+    (λ c. search needs)
+    (λ c. search needs)
     put-entry-requires
-    body-at-requires
+    (λ c κs. search needs)
     add-offset-2
-    add-i
-    loop-less
+    (λ c. search needs)
+    (λ c. search needs)
     loop-again
     same-length
     returns)

@@ -5,11 +5,8 @@ use Rattle.events.specs.Facts.{askedBy}
 use Rattle.steps.proofs.facts.asked_of.Statement.{statement}
 use Rattle.steps.proofs.facts.asked_of.Tie as tie
 
-question-of-requires : tie.Need-question-of-requires
-question-of-requires c κs = search needs
-
 returns : tie.Need-returns
 returns c = ap askedBy (c .question-of .ensures)
 
 pub asked-of-spec : {M : Type 1} → statement M
-asked-of-spec = tie.close (tie.spec question-of-requires returns)
+asked-of-spec = tie.close (tie.spec (λ c κs. search needs) returns)

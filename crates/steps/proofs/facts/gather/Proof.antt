@@ -9,18 +9,6 @@ use Rattle.steps.proofs.Configurations.{usable, among, selected-by-valu
 use Rattle.steps.proofs.facts.gather.Tie as tie
 use Rattle.steps.proofs.facts.gather.Statement.{statement}
 
-question-of-requires : tie.Need-question-of-requires
-question-of-requires c κs = search needs
-
-is-among-requires : tie.Need-is-among-requires
-is-among-requires c κs = search needs
-
-has-asked-requires : tie.Need-has-asked-requires
-has-asked-requires c κs = search needs
-
-locate-requires : tie.Need-locate-requires
-locate-requires c κs = search needs
-
 returns : tie.Need-returns
 returns c = λ d k. let start = c .before .before .before .before .before .before .before in
     let a = start .args in
@@ -42,4 +30,4 @@ returns c = λ d k. let start = c .before .before .before .before .before .befor
 pub gather-spec : {M : Type 1} → statement M
 gather-spec =
     tie.close
-    (tie.spec question-of-requires is-among-requires has-asked-requires locate-requires returns)
+    (tie.spec (λ c κs. search needs) (λ c κs. search needs) (λ c κs. search needs) (λ c κs. search needs) returns)

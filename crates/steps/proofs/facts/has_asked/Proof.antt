@@ -5,15 +5,6 @@ use Rattle.steps.proofs.Configurations.{byte-mod}
 use Rattle.steps.proofs.facts.has_asked.Statement.{statement}
 use Rattle.steps.proofs.facts.has_asked.Tie as tie
 
-cast-t6 : tie.Need-cast-t6
-cast-t6 c = search needs
-
-by-value-requires : tie.Need-by-value-requires
-by-value-requires c κs = search needs
-
-is-found-requires : tie.Need-is-found-requires
-is-found-requires c κs = search needs
-
 returns : tie.Need-returns
 returns c = λ p small. rw (c .is-found .ensures, c .before .by-value .ensures, value-there (c .before .before .before .before .before .before .args .set .now) (c .before .before .before .before .before .before .args .setup .wValue), byte-mod small)
 
@@ -21,4 +12,4 @@ returns-2 : tie.Need-returns-2
 returns-2 c = λ p small. absurd (c .if1 .left p)
 
 pub has-asked-spec : {M : Type 1} → statement M
-has-asked-spec = tie.close (tie.spec cast-t6 by-value-requires is-found-requires returns returns-2)
+has-asked-spec = tie.close (tie.spec (λ c. search needs) (λ c κs. search needs) (λ c κs. search needs) returns returns-2)

@@ -3,14 +3,8 @@ use borrow.Author.Needs.{needs}
 use Rattle.steps.proofs.facts.learn.Statement.{statement}
 use Rattle.steps.proofs.facts.learn.Tie as tie
 
-nothing-known-requires : tie.Need-nothing-known-requires
-nothing-known-requires c κs = search needs
-
 returns : tie.Need-returns
 returns c = λ z. absurd (c .before .if1 .taken z)
-
-read-requires : tie.Need-read-requires
-read-requires c κs = search needs
 
 look-up-requires : tie.Need-look-up-requires
 look-up-requires c κs = c .before .before .before .before .before .pre (c .before .if1 .left)
@@ -20,4 +14,4 @@ returns-2 c = λ z. rw (c .before .read .ensures) at (c .look-up .ensures)
 
 pub learn-spec : {M : Type 1} → statement M
 learn-spec =
-    tie.close (tie.spec nothing-known-requires returns read-requires look-up-requires returns-2)
+    tie.close (tie.spec (λ c κs. search needs) returns (λ c κs. search needs) look-up-requires returns-2)

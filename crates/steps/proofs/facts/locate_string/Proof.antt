@@ -7,23 +7,11 @@ use Rattle.steps.proofs.Configurations.{located-found}
 use Rattle.steps.proofs.facts.locate_string.Tie as tie
 use Rattle.steps.proofs.facts.locate_string.Statement.{statement}
 
-serial-index-requires : tie.Need-serial-index-requires
-serial-index-requires c κs = search needs
-
-language-listed-requires : tie.Need-language-listed-requires
-language-listed-requires c κs = search needs
-
 returns : tie.Need-returns
 returns c = λ paired. rw (← c .before .before .before .serial-index .ensures, c .before .before .if1 .taken, ← c .before .language-listed .ensures, c .if2 .taken)
 
 returns-2 : tie.Need-returns-2
 returns-2 c = λ paired. rw (← c .before .before .before .serial-index .ensures, c .before .before .if1 .taken, ← c .before .language-listed .ensures, c .if2 .left)
-
-find-entry-requires : tie.Need-find-entry-requires
-find-entry-requires c κs = search needs
-
-place-requires : tie.Need-place-requires
-place-requires c κs = search needs
 
 returns-3 : tie.Need-returns-3
 returns-3 c = let a = c .before .before .before .before .before .before .args in
@@ -33,10 +21,10 @@ pub locate-string-spec : {M : Type 1} → statement M
 locate-string-spec =
     tie.close
     (tie.spec
-    serial-index-requires
-    language-listed-requires
+    (λ c κs. search needs)
+    (λ c κs. search needs)
     returns
     returns-2
-    find-entry-requires
-    place-requires
+    (λ c κs. search needs)
+    (λ c κs. search needs)
     returns-3)

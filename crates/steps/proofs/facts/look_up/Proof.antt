@@ -9,26 +9,11 @@ use Rattle.steps.proofs.Configurations.{usable}
 use Rattle.steps.proofs.facts.look_up.Tie as tie
 use Rattle.steps.proofs.facts.look_up.Statement.{statement}
 
-by-value-requires : tie.Need-by-value-requires
-by-value-requires c κs = search needs
-
-body-found-requires : tie.Need-body-found-requires
-body-found-requires c κs = search needs
-
-asked-of-requires : tie.Need-asked-of-requires
-asked-of-requires c κs = search needs
-
 walk-requires : tie.Need-walk-requires
 walk-requires c κs = let start = c .before .before .before .before .before .before in
     let a = start .args in
     let o = start .pre in
     rw (c .before .before .body-found .ensures, c .before .before .before .by-value .ensures) (usable (o .0) (lent (a .set .now) (a .serial .now)) (λ i. omega (arith, c .before .before .before .before .before .shared-slice-known .given i)) (o .1) (a .device .configuration) .whole)
-
-is-found-requires : tie.Need-is-found-requires
-is-found-requires c κs = search needs
-
-wakes-requires : tie.Need-wakes-requires
-wakes-requires c κs = search needs
 
 returns : tie.Need-returns
 returns c = let a = c .before .before .before .before .before .before .before .before .before .args in
@@ -43,10 +28,10 @@ pub look-up-spec : {M : Type 1} → statement M
 look-up-spec =
     tie.close
     (tie.spec
-    by-value-requires
-    body-found-requires
-    asked-of-requires
+    (λ c κs. search needs)
+    (λ c κs. search needs)
+    (λ c κs. search needs)
     walk-requires
-    is-found-requires
-    wakes-requires
+    (λ c κs. search needs)
+    (λ c κs. search needs)
     returns)

@@ -38,48 +38,15 @@ end : (c : tie.After-loop Inv-loop μ-loop) → rest (c .before .before .before 
 end c =
     no-entry (c .before .before .before .before .before .before .before .before .before .before .before .before .before .before .args .set .now) (c .before .before .peek4 .result) (c .before .before .peek4 .ensures) (c .before .loop .i) (c .loop-test .left)
 
-device-body-requires : tie.Need-device-body-requires Inv-loop μ-loop
-device-body-requires c κs = search needs
-
-peek-requires : tie.Need-peek-requires Inv-loop μ-loop
-peek-requires c κs = search needs
-
-join-requires : tie.Need-join-requires Inv-loop μ-loop
-join-requires c κs = search needs
-
-peek-requires-2 : tie.Need-peek-requires-2 Inv-loop μ-loop
-peek-requires-2 c κs = search needs
-
-join-requires-2 : tie.Need-join-requires-2 Inv-loop μ-loop
-join-requires-2 c κs = search needs
-
-peek-requires-3 : tie.Need-peek-requires-3 Inv-loop μ-loop
-peek-requires-3 c κs = search needs
-
-join-requires-3 : tie.Need-join-requires-3 Inv-loop μ-loop
-join-requires-3 c κs = search needs
-
-peek-requires-4 : tie.Need-peek-requires-4 Inv-loop μ-loop
-peek-requires-4 c κs = search needs
-
 loop-holds : tie.Need-loop-holds Inv-loop μ-loop
 loop-holds c =
     let a = c .before .before .before .before .before .before .before .before .before .before .before .before .args in
     (long-with (c .before .before .before .before .join2 .last .0) (c .before .before .peek3 .result) (c .before .join3 .ensures) (long-with (c .before .before .before .before .before .before .before .join .last .0) (c .before .before .before .before .before .peek2 .result) (c .before .before .before .before .join2 .ensures) (long-with (allOf 0) (c .before .before .before .before .before .before .before .before .peek .result) (c .before .before .before .before .before .before .before .join .ensures) refl)), rw (← rest-start (a .set .now)) (c .before .before .before .before .before .before .before .before .before .before .before .before .pre), λ j h. ap (λ es. has (c .before .join3 .last .0) j || any (entryNames (a .set .now) j) es) (rest-start (a .set .now)))
 
-entry-at-requires : tie.Need-entry-at-requires Inv-loop μ-loop
-entry-at-requires c κs = search needs
-
-add-i : tie.Need-add-i Inv-loop μ-loop
-add-i c = search needs
-
 with-entry-requires : tie.Need-with-entry-requires Inv-loop μ-loop
 with-entry-requires c κs =
     let a = c .before .before .before .before .before .before .before .before .before .before .before .before .before .before .before .args in
     may-walk (a .set .now) (c .entry-at .result) _ (rw (turn c) at (c .before .before .loop .inv .1)) .0
-
-loop-less : tie.Need-loop-less Inv-loop μ-loop
-loop-less c = search needs
 
 loop-again : tie.Need-loop-again Inv-loop μ-loop
 loop-again c =
@@ -108,18 +75,18 @@ names-of-spec =
     (tie.spec
     Inv-loop
     μ-loop
-    device-body-requires
-    peek-requires
-    join-requires
-    peek-requires-2
-    join-requires-2
-    peek-requires-3
-    join-requires-3
-    peek-requires-4
+    (λ c κs. search needs)
+    (λ c κs. search needs)
+    (λ c κs. search needs)
+    (λ c κs. search needs)
+    (λ c κs. search needs)
+    (λ c κs. search needs)
+    (λ c κs. search needs)
+    (λ c κs. search needs)
     loop-holds
-    entry-at-requires
-    add-i
+    (λ c κs. search needs)
+    (λ c. search needs)
     with-entry-requires
-    loop-less
+    (λ c. search needs)
     loop-again
     returns)

@@ -4,7 +4,6 @@ use native.Mathlib.Omega.{arith}
 use mathlib.Core.Bool.{_||_}
 use mathlib.Core.Path.{_≡_, refl, sym, ap, _∙_}
 use lib.ListN.{length}
-use Rattle.octets.specs.Octets.{byte}
 use Rattle.octets.specs.Sentences.{member}
 use Rattle.octets.specs.Table.{has, with}
 use Rattle.octets.proofs.Tables.{with-long}
@@ -24,18 +23,6 @@ Inv-loop body last₀ table₀ at₀ last table at =
 
 abbrev μ-loop : tie.MeasureT-loop
 μ-loop body last₀ table₀ at₀ last table at = length body - at
-
-peek-requires : tie.Need-peek-requires Inv-loop μ-loop
-peek-requires c κs = search needs
-
-join-requires : tie.Need-join-requires Inv-loop μ-loop
-join-requires c κs = search needs
-
-peek-requires-2 : tie.Need-peek-requires-2 Inv-loop μ-loop
-peek-requires-2 c κs = search needs
-
-cast-at : tie.Need-cast-at Inv-loop μ-loop
-cast-at c = search needs
 
 loop-holds : tie.Need-loop-holds Inv-loop μ-loop
 loop-holds c =
@@ -57,9 +44,6 @@ part-with-interface-start c = let t = turned c in omega (arith, t .on)
 
 part-with-interface-end : tie.Need-part-with-interface-end Inv-loop μ-loop
 part-with-interface-end c = turned c .place .inside
-
-with-interface-requires : tie.Need-with-interface-requires Inv-loop μ-loop
-with-interface-requires c κs = search needs
 
 loop-less : tie.Need-loop-less Inv-loop μ-loop
 loop-less c = let t = turned (c .before .before) in omega (arith, t .on, t .place .inside)
@@ -94,16 +78,16 @@ with-configuration-spec =
     (tie.spec
     Inv-loop
     μ-loop
-    peek-requires
-    join-requires
-    peek-requires-2
-    cast-at
+    (λ c κs. search needs)
+    (λ c κs. search needs)
+    (λ c κs. search needs)
+    (λ c. search needs)
     loop-holds
     step-over-requires
     sub-with-interface
     part-with-interface-start
     part-with-interface-end
-    with-interface-requires
+    (λ c κs. search needs)
     loop-less
     loop-again
     returns)

@@ -8,9 +8,6 @@ use borrow.Author.Needs.{needs}
 use Rattle.trimming.proofs.keeping.with_entry.Statement.{statement}
 use Rattle.trimming.proofs.keeping.with_entry.Tie as tie
 
-body-of-requires : tie.Need-body-of-requires
-body-of-requires c κs = search needs
-
 with-configuration-requires : tie.Need-with-configuration-requires
 with-configuration-requires c κs = rw (c .body-of .ensures) (if-then (isKind 2 (c .before .before .before .before .args .e)) _ (c .before .before .before .before .pre) (eq-eqb _ 2 (c .before .if1 .taken)))
 
@@ -22,4 +19,4 @@ returns-2 c = λ j h. rw (ne-eqb (c .before .before .before .args .e .kind) 2 (c
 
 pub with-entry-spec : {M : Type 1} → statement M
 with-entry-spec =
-    tie.close (tie.spec body-of-requires with-configuration-requires returns returns-2)
+    tie.close (tie.spec (λ c κs. search needs) with-configuration-requires returns returns-2)

@@ -4,15 +4,6 @@ use borrow.Author.Needs.{needs}
 use Rattle.trimming.proofs.keeping.with_interface.Statement.{statement}
 use Rattle.trimming.proofs.keeping.with_interface.Tie as tie
 
-peek-requires : tie.Need-peek-requires
-peek-requires c κs = search needs
-
-peek-requires-2 : tie.Need-peek-requires-2
-peek-requires-2 c κs = search needs
-
-join-requires : tie.Need-join-requires
-join-requires c κs = search needs
-
 returns : tie.Need-returns
 returns c = rw (c .join .ensures, c .before .peek2 .ensures, ← c .before .before .before .before .peek .ensures, eq-eqb (c .before .before .before .before .peek .result) 4 (c .before .before .before .if1 .taken))
 
@@ -21,4 +12,4 @@ returns-2 c = rw (← c .before .peek .ensures, ne-eqb (c .before .peek .result)
 
 pub with-interface-spec : {M : Type 1} → statement M
 with-interface-spec =
-    tie.close (tie.spec peek-requires peek-requires-2 join-requires returns returns-2)
+    tie.close (tie.spec (λ c κs. search needs) (λ c κs. search needs) (λ c κs. search needs) returns returns-2)

@@ -40,9 +40,6 @@ abbrev μ-loop : tie.MeasureT-loop
 loop-holds : tie.Need-loop-holds Inv-loop μ-loop
 loop-holds c = (omega arith, paste-zero (c .args .set .now) (c .args .to) (drop (c .args .from) (c .args .set .now)))
 
-add-set : tie.Need-add-set Inv-loop μ-loop
-add-set c = search needs
-
 slice-read-set : tie.Need-slice-read-set Inv-loop μ-loop
 slice-read-set c =
     let a = c .before .before .before .args in
@@ -52,9 +49,6 @@ slice-read-set c =
     let e : length (l .set) ≡ length (a .set .now) = ap length (l .inv .1) ∙ keeps (a .set .now) (a .to) (a .from) (l .i) p (omega (arith, q, l .inv .0)) in
     omega (arith, q, e, c .before .loop-test .taken)
 
-add-set-2 : tie.Need-add-set-2 Inv-loop μ-loop
-add-set-2 c = search needs
-
 slice-write-set : tie.Need-slice-write-set Inv-loop μ-loop
 slice-write-set c =
     let a = c .before .before .before .args in
@@ -63,12 +57,6 @@ slice-write-set c =
     let q : a .from + a .count ≤ length (a .set .now) = c .before .before .before .pre .1 in
     let e : length (l .set) ≡ length (a .set .now) = ap length (l .inv .1) ∙ keeps (a .set .now) (a .to) (a .from) (l .i) p (omega (arith, q, l .inv .0)) in
     omega (arith, p, q, e, c .before .loop-test .taken)
-
-add-i : tie.Need-add-i Inv-loop μ-loop
-add-i c = search needs
-
-loop-less : tie.Need-loop-less Inv-loop μ-loop
-loop-less c = search needs
 
 loop-again : tie.Need-loop-again Inv-loop μ-loop
 loop-again c =
@@ -97,4 +85,4 @@ returns c =
 pub moved-spec : {M : Type 1} → statement M
 moved-spec =
     tie.close
-    (tie.spec Inv-loop μ-loop loop-holds add-set slice-read-set add-set-2 slice-write-set add-i loop-less loop-again same-length returns)
+    (tie.spec Inv-loop μ-loop loop-holds (λ c. search needs) slice-read-set (λ c. search needs) slice-write-set (λ c. search needs) (λ c. search needs) loop-again same-length returns)

@@ -1,4 +1,4 @@
--- `set_writer::pieces::count` meets its contract: the stream ends as what is left of it does, and has as many pieces more. No axiom.
+-- `set_writer::pieces::count_pieces` meets its contract: the stream ends as what is left of it does, and has as many pieces more. No axiom.
 use Prim.Native.Nat.{_+_, _-_, _≤_}
 use native.Mathlib.Omega.{arith}
 use mathlib.Core.Path.{_≡_, refl, sym, ap, _∙_}
@@ -6,8 +6,8 @@ use lib.ListN.{length, drop}
 use borrow.Author.Needs.{needs}
 use Rattle.set_writer.specs.Writer.{ends, pieces}
 use Rattle.set_writer.proofs.Stream.{stream-broken, stream-ends, stream-pieces, stream-over, stream-none}
-use Rattle.set_writer.proofs.pieces.count.Statement.{statement}
-use Rattle.set_writer.proofs.pieces.count.Tie as tie
+use Rattle.set_writer.proofs.pieces.count_pieces.Statement.{statement}
+use Rattle.set_writer.proofs.pieces.count_pieces.Tie as tie
 
 abbrev Inv-loop : tie.InvT-loop
 Inv-loop stream n₀ at₀ n at =
@@ -22,23 +22,11 @@ abbrev μ-loop : tie.MeasureT-loop
 loop-holds : tie.Need-loop-holds Inv-loop μ-loop
 loop-holds c = (omega arith, omega arith, refl, omega arith)
 
-size-at-requires : tie.Need-size-at-requires Inv-loop μ-loop
-size-at-requires c κs = search needs
-
-sub-if1 : tie.Need-sub-if1 Inv-loop μ-loop
-sub-if1 c = search needs
-
 returns : tie.Need-returns Inv-loop μ-loop
 returns c =
     let s = c .before .before .before in
     let stream = s .before .before .args .stream .now in
     sym (rw (s .loop .inv .2 ∙ stream-broken stream (s .loop .at) (c .before .before .loop-test .taken) _ (c .before .size-at .ensures) (c .if1 .taken)))
-
-add-at : tie.Need-add-at Inv-loop μ-loop
-add-at c = omega arith
-
-add-n : tie.Need-add-n Inv-loop μ-loop
-add-n c = omega arith
 
 loop-less : tie.Need-loop-less Inv-loop μ-loop
 loop-less c = omega (arith, c .before .size-at .ensures)
@@ -63,18 +51,18 @@ returns-2 c =
     let m : length (pieces stream) ≡ s .loop .n = omega (arith, s .loop .inv .3, ap length (stream-none stream (s .loop .at) l)) in
     sym (rw (s .loop .inv .2 ∙ stream-over stream (s .loop .at) l, m))
 
-pub count-spec : {M : Type 1} → statement M
-count-spec =
+pub count-pieces-spec : {M : Type 1} → statement M
+count-pieces-spec =
     tie.close
     (tie.spec
     Inv-loop
     μ-loop
     loop-holds
-    size-at-requires
-    sub-if1
+    (λ c κs. search needs)
+    (λ c. search needs)
     returns
-    add-at
-    add-n
+    (λ c. omega arith)
+    (λ c. omega arith)
     loop-less
     loop-again
     returns-2)

@@ -2,6 +2,7 @@
 use crate::reaction::Reaction;
 use crate::reaction::done;
 use crate::reaction::refused;
+use crate::refusals::ENDPOINT_UNFIT;
 use descriptors::Endpoint;
 use descriptors::lookup::EndpointFound;
 use descriptors::lookup::bit_of;
@@ -23,18 +24,26 @@ ghost use Rattle.events.specs.Requests.{isEndpointZero};
 ghost use Rattle.events.specs.Step.{halt, packetPassed};
 ghost use Rattle.events.specs.Facts.{withHalt, outcomeOf};
 
+// The addresses of endpoint zero.
+const ZERO_OUT: u16 = 0x00;
+
+const ZERO_IN: u16 = 0x80;
+
+// The transfer types in bits 1-0 of bmAttributes, from this one on: bulk, interrupt.
+const BULK: u8 = 2;
+
 // Endpoint zero, by either of its addresses.
 pub fn is_zero(index: u16) -> bool
     ensures { λ r. ⌜ r ≡ isEndpointZero index ⌝ }
 {
-    (index == 0) | (index == 128)
+    (index == ZERO_OUT) | (index == ZERO_IN)
 }
 
 // Bulk or interrupt.
 pub fn can_halt(endpoint: Endpoint) -> bool
     ensures { λ r. ⌜ r ≡ canHalt endpoint ⌝ }
 {
-    2 <= endpoint.attributes % 4
+    BULK <= endpoint.attributes % 4
 }
 
 // Whether an endpoint is halted: one that cannot halt is not.
@@ -84,12 +93,12 @@ pub fn halt(endpoint: EndpointFound, device: Device) -> Reaction
     ensures { λ r. ⌜ ((v : View) (a : ℕ) → endpoint ≡ found (endpointAt v device a) → outcomeOf r device ≡ halt v device a) ⌝ }
 {
     match endpoint {
-        EndpointFound::Nothing => refused(16),
+        EndpointFound::Nothing => refused(ENDPOINT_UNFIT),
         EndpointFound::At(e) => {
             if can_halt(e) {
                 return done(with_halt(true, device, e));
             }
-            refused(16)
+            refused(ENDPOINT_UNFIT)
         }
     }
 }
@@ -99,14 +108,14 @@ pub fn packet_passed(endpoint: EndpointFound, device: Device) -> Reaction
     ensures { λ r. ⌜ ((v : View) (a : ℕ) → endpoint ≡ found (endpointAt v device a) → outcomeOf r device ≡ packetPassed v device a) ⌝ }
 {
     match endpoint {
-        EndpointFound::Nothing => refused(16),
+        EndpointFound::Nothing => refused(ENDPOINT_UNFIT),
         EndpointFound::At(e) => {
             let fit = can_halt(e);
             let halted = is_halted(device, e);
             if fit & !halted {
                 return done(with_toggle(device, e));
             }
-            refused(16)
+            refused(ENDPOINT_UNFIT)
         }
     }
 }

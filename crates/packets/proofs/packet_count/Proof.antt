@@ -1,14 +1,11 @@
--- `packets::count_of` meets its contract. No axiom.
+-- `packets::packet_count` meets its contract. No axiom.
 use native.Mathlib.Nat.{div-le-self}
 use native.Mathlib.Omega.{arith}
 use borrow.Author.Tests.{eq-eqb, ne-eqb}
 use Rattle.packets.proofs.Sizes.{bounded, not-longer}
 use borrow.Author.Needs.{needs}
-use Rattle.packets.proofs.count_of.Statement.{statement}
-use Rattle.packets.proofs.count_of.Tie as tie
-
-add-result : tie.Need-add-result
-add-result c = search needs
+use Rattle.packets.proofs.packet_count.Statement.{statement}
+use Rattle.packets.proofs.packet_count.Tie as tie
 
 sub-result : tie.Need-sub-result
 sub-result c = let a = c .before .args in omega (arith, bounded (a .reply) (a .asked) (a .size) (c .before .pre))
@@ -28,7 +25,7 @@ add-result-2 c = let a = c .before .args in omega (arith, not-longer (a .reply) 
 returns-2 : tie.Need-returns-2
 returns-2 c = simp (ne-eqb _ _ (c .if1 .left))
 
-pub count-of-spec : {M : Type 1} → statement M
-count-of-spec =
+pub packet-count-spec : {M : Type 1} → statement M
+packet-count-spec =
     tie.close
-    (tie.spec add-result sub-result div-result returns div-result-2 add-result-2 returns-2)
+    (tie.spec (λ c. search needs) sub-result div-result returns div-result-2 add-result-2 returns-2)

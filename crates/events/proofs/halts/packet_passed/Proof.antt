@@ -1,4 +1,4 @@
--- `events::endpoint::packet_passed` meets its contract: by the endpoint that is there, or none. No axiom.
+-- `events::halts::packet_passed` meets its contract: by the endpoint that is there, or none. No axiom.
 use borrow.Author.Needs.{needs}
 use mathlib.Core.Path.{sym, _∙_}
 use Rattle.events.specs.Step.{packetPassed}
@@ -6,29 +6,8 @@ use Rattle.octets.specs.Bit.{bit}
 use Rattle.descriptors.specs.Configuration.{canHalt, bitOf}
 use Rattle.records.specs.Current.{endpointAt}
 use Rattle.events.proofs.Lookups.{is-there, is-nowhere, unhalted}
-use Rattle.events.proofs.endpoint.packet_passed.Tie as tie
-use Rattle.events.proofs.endpoint.packet_passed.Statement.{statement}
-
-enum-told : tie.Need-enum-told
-enum-told c = search needs
-
-refused-requires : tie.Need-refused-requires
-refused-requires c κs = search needs
-
-enum-known-endpoint : tie.Need-enum-known-endpoint
-enum-known-endpoint c = search needs
-
-can-halt-requires : tie.Need-can-halt-requires
-can-halt-requires c κs = search needs
-
-is-halted-requires : tie.Need-is-halted-requires
-is-halted-requires c κs = search needs
-
-with-toggle-requires : tie.Need-with-toggle-requires
-with-toggle-requires c κs = search needs
-
-done-requires : tie.Need-done-requires
-done-requires c κs = search needs
+use Rattle.events.proofs.halts.packet_passed.Tie as tie
+use Rattle.events.proofs.halts.packet_passed.Statement.{statement}
 
 returns : tie.Need-returns
 unfolding packetPassed
@@ -36,9 +15,6 @@ returns c = λ v a e.
     let d = c .before .before .before .before .before .before .before .before .args .device in
     let x = c .before .before .before .before .before .before .endpoint .given .0 .0 in
     rw (c .done .ensures, c .before .with-toggle .ensures, is-there (endpointAt v d a) (sym e ∙ c .before .before .before .before .before .before .endpoint .given .1), unhalted (canHalt x) (bit (d .halts) (bitOf (x .address))) (c .before .before .before .before .can-halt .ensures) (c .before .before .before .is-halted .ensures) (c .before .before .if1 .taken))
-
-refused-requires-2 : tie.Need-refused-requires-2
-refused-requires-2 c κs = search needs
 
 returns-2 : tie.Need-returns-2
 unfolding packetPassed
@@ -55,14 +31,14 @@ pub packet-passed-spec : {M : Type 1} → statement M
 packet-passed-spec =
     tie.close
     (tie.spec
-    enum-told
-    refused-requires
-    enum-known-endpoint
-    can-halt-requires
-    is-halted-requires
-    with-toggle-requires
-    done-requires
+    (λ c. search needs)
+    (λ c κs. search needs)
+    (λ c. search needs)
+    (λ c κs. search needs)
+    (λ c κs. search needs)
+    (λ c κs. search needs)
+    (λ c κs. search needs)
     returns
-    refused-requires-2
+    (λ c κs. search needs)
     returns-2
     returns-3)

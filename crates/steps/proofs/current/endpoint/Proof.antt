@@ -1,4 +1,4 @@
--- `steps::endpoint::endpoint` meets its contract: by the order of refusals. No axiom.
+-- `steps::current::endpoint` meets its contract: by the order of refusals. No axiom.
 use native.Mathlib.Omega.{arith}
 use Prim.Native.Nat.{_≤_}
 use mathlib.Core.Path.{_≡_, sym, _∙_}
@@ -11,19 +11,13 @@ use Rattle.sets.specs.Opening.{lent}
 use Rattle.steps.specs.Gathering.{viewIn}
 use Rattle.steps.proofs.Configurations.{no-zero, usable}
 use Rattle.steps.proofs.EndpointParts.{set-refused, record-refused, none-elsewhere, answers, begins-inside, body-short, selected-body, fitting}
-use Rattle.steps.proofs.endpoint.endpoint.Statement.{statement}
-use Rattle.steps.proofs.endpoint.endpoint.Tie as tie
+use Rattle.steps.proofs.current.endpoint.Statement.{statement}
+use Rattle.steps.proofs.current.endpoint.Tie as tie
 
 returns : tie.Need-returns
 returns c =
     let a = c .before .before .before .args in
-    sym (set-refused (a .opening) (viewIn (a .paired) (a .set .now) (a .serial .now)) (a .set .now) (a .device) (a .number) (c .if1 .taken))
-
-by-value-requires : tie.Need-by-value-requires
-by-value-requires c κs = search needs
-
-body-found-requires : tie.Need-body-found-requires
-body-found-requires c κs = search needs
+    sym (set-refused (a .opening) (viewIn (a .paired) (a .set .now) (a .serial .now)) (a .set .now) (a .device) (a .nth) (c .if1 .taken))
 
 walk-requires : tie.Need-walk-requires
 walk-requires c κs =
@@ -31,15 +25,6 @@ walk-requires c κs =
     let a = start .args in
     let b = lent (a .set .now) (a .serial .now) in
     rw (selected-body (a .paired) (a .set .now) (a .serial .now) (a .device) (c .before .before .by-value .ensures) (c .before .body-found .ensures)) (usable (start .pre (c .before .before .before .if1 .left) .0) b (λ i. omega (arith, c .before .before .before .before .before .shared-slice-known .given i)) (start .pre (c .before .before .before .if1 .left) .1) (a .device .configuration) .whole)
-
-is-found-requires : tie.Need-is-found-requires
-is-found-requires c κs = search needs
-
-wakes-requires : tie.Need-wakes-requires
-wakes-requires c κs = search needs
-
-fits-requires : tie.Need-fits-requires
-fits-requires c κs = search needs
 
 returns-2 : tie.Need-returns-2
 returns-2 c =
@@ -50,7 +35,7 @@ returns-2 c =
     let body = c .before .before .before .before .before .before .body-found .ensures in
     let opens = c .before .before .before .before .before .before .before .before .if1 .left in
     let fit = fitting (a .paired) (a .set .now) (a .serial .now) (a .device) entry body (no-zero (start .pre opens .0) (lent (a .set .now) (a .serial .now)) (start .pre opens .1)) (c .before .before .before .before .walk .ensures) (c .before .before .before .is-found .ensures) (c .before .before .wakes .ensures) (c .before .fits2 .ensures) in
-    sym (record-refused (a .opening) v (a .set .now) (a .device) (a .number) opens (sym fit ∙ not-true _ (c .if2 .taken)))
+    sym (record-refused (a .opening) v (a .set .now) (a .device) (a .nth) opens (sym fit ∙ not-true _ (c .if2 .taken)))
 
 returns-3 : tie.Need-returns-3
 returns-3 c =
@@ -61,7 +46,7 @@ returns-3 c =
     let body = c .before .before .before .before .before .before .before .before .body-found .ensures in
     let opens = c .before .before .before .before .before .before .before .before .before .before .if1 .left in
     let fit = fitting (a .paired) (a .set .now) (a .serial .now) (a .device) entry body (no-zero (start .pre opens .0) (lent (a .set .now) (a .serial .now)) (start .pre opens .1)) (c .before .before .before .before .before .before .walk .ensures) (c .before .before .before .before .before .is-found .ensures) (c .before .before .before .before .wakes .ensures) (c .before .before .before .fits2 .ensures) in
-    sym (none-elsewhere (a .opening) v (a .set .now) (a .device) (a .number) opens (sym fit ∙ not-false _ (c .before .before .if2 .left)) (c .if3 .taken))
+    sym (none-elsewhere (a .opening) v (a .set .now) (a .device) (a .nth) opens (sym fit ∙ not-false _ (c .before .before .if2 .left)) (c .if3 .taken))
 
 find-requires : tie.Need-find-requires
 find-requires c κs =
@@ -80,7 +65,7 @@ part-of-requires c κs =
     let same = selected-body (a .paired) (a .set .now) (a .serial .now) (a .device) (c .before .before .before .before .before .before .before .before .before .before .by-value .ensures) (c .before .before .before .before .before .before .before .before .before .body-found .ensures) in
     let well : wellCut (cut body) ≡ true = rw same (usable (opens .0) b (λ i. omega (arith, c .before .before .before .before .before .before .before .before .before .before .before .before .before .shared-slice-known .given i)) (opens .1) (a .device .configuration) .whole) in
     let short : length body ≤ 16384 = rw same (body-short (opens .0) b (opens .1) (a .device .configuration)) in
-    rw (c .find .ensures) (omega (arith, short, begins-inside (a .device .alternates) body well (a .number)))
+    rw (c .find .ensures) (omega (arith, short, begins-inside (a .device .alternates) body well (a .nth)))
 
 returns-4 : tie.Need-returns-4
 returns-4 c =
@@ -92,19 +77,19 @@ returns-4 c =
     let opens = c .before .before .before .before .before .before .before .before .before .before .before .before .if1 .left in
     let fit = fitting (a .paired) (a .set .now) (a .serial .now) (a .device) entry body (no-zero (start .pre opens .0) (lent (a .set .now) (a .serial .now)) (start .pre opens .1)) (c .before .before .before .before .before .before .before .before .walk .ensures) (c .before .before .before .before .before .before .before .is-found .ensures) (c .before .before .before .before .before .before .wakes .ensures) (c .before .before .before .before .before .fits2 .ensures) in
     let same = selected-body (a .paired) (a .set .now) (a .serial .now) (a .device) entry body in
-    c .part-of .ensures ∙ rw (c .before .find .ensures, same, entry) (sym (answers (a .opening) v (a .set .now) (a .device) (a .number) opens (sym fit ∙ not-false _ (c .before .before .before .before .if2 .left)) (c .before .before .if3 .left)))
+    c .part-of .ensures ∙ rw (c .before .find .ensures, same, entry) (sym (answers (a .opening) v (a .set .now) (a .device) (a .nth) opens (sym fit ∙ not-false _ (c .before .before .before .before .if2 .left)) (c .before .before .if3 .left)))
 
 pub endpoint-spec : {M : Type 1} → statement M
 endpoint-spec =
     tie.close
     (tie.spec
     returns
-    by-value-requires
-    body-found-requires
+    (λ c κs. search needs)
+    (λ c κs. search needs)
     walk-requires
-    is-found-requires
-    wakes-requires
-    fits-requires
+    (λ c κs. search needs)
+    (λ c κs. search needs)
+    (λ c κs. search needs)
     returns-2
     returns-3
     find-requires

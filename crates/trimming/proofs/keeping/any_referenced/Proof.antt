@@ -1,4 +1,4 @@
--- `trimming::keeping::any_named` meets its contract: before the i-th entry there is none. No axiom.
+-- `trimming::keeping::any_referenced` meets its contract: before the i-th entry there is none. No axiom.
 use Prim.Native.Nat.{_+_, _-_}
 use mathlib.Core.List.{[], _∷_}
 use mathlib.Core.Path.{_≡_, sym, ap, _∙_}
@@ -7,8 +7,8 @@ use Rattle.octets.specs.Sentences.{any}
 use Rattle.sets.specs.Contents.{entries}
 use Rattle.sets.proofs.Entries.{rest, rest-start, next-entry, no-entry, any-cons, any-empty}
 use Rattle.trimming.specs.Keeping.{tableNames}
-use Rattle.trimming.proofs.keeping.any_named.Statement.{statement}
-use Rattle.trimming.proofs.keeping.any_named.Tie as tie
+use Rattle.trimming.proofs.keeping.any_referenced.Statement.{statement}
+use Rattle.trimming.proofs.keeping.any_referenced.Tie as tie
 
 abbrev Inv-loop : tie.InvT-loop
 Inv-loop set names count i₀ i = any (tableNames names) (entries set) ≡ any (tableNames names) (rest set i)
@@ -28,29 +28,14 @@ end : (c : tie.After-loop Inv-loop μ-loop) → rest (c .before .before .before 
 end c =
     no-entry (c .before .before .before .before .args .set .now) (c .before .before .peek .result) (c .before .before .peek .ensures) (c .before .loop .i) (c .loop-test .left)
 
-peek-requires : tie.Need-peek-requires Inv-loop μ-loop
-peek-requires c κs = search needs
-
 loop-holds : tie.Need-loop-holds Inv-loop μ-loop
 loop-holds c = let a = c .before .before .args in ap (any (tableNames (a .names .now))) (rest-start (a .set .now))
-
-entry-at-requires : tie.Need-entry-at-requires Inv-loop μ-loop
-entry-at-requires c κs = search needs
-
-add-i : tie.Need-add-i Inv-loop μ-loop
-add-i c = search needs
-
-table-names-requires : tie.Need-table-names-requires Inv-loop μ-loop
-table-names-requires c κs = search needs
 
 returns : tie.Need-returns Inv-loop μ-loop
 returns c =
     let s = c .before .before in
     let a = s .before .before .before .before .before .args in
     sym (s .before .before .loop .inv ∙ ap (any (tableNames (a .names .now))) (turn s) ∙ any-cons (tableNames (a .names .now)) _ _ ∙ rw (sym (c .before .table-names .ensures) ∙ c .if1 .taken))
-
-loop-less : tie.Need-loop-less Inv-loop μ-loop
-loop-less c = search needs
 
 loop-again : tie.Need-loop-again Inv-loop μ-loop
 loop-again c =
@@ -64,18 +49,18 @@ returns-2 c =
     let a = s .before .before .before .args in
     sym (s .loop .inv ∙ ap (any (tableNames (a .names .now))) (end c) ∙ any-empty (tableNames (a .names .now)))
 
-pub any-named-spec : {M : Type 1} → statement M
-any-named-spec =
+pub any-referenced-spec : {M : Type 1} → statement M
+any-referenced-spec =
     tie.close
     (tie.spec
     Inv-loop
     μ-loop
-    peek-requires
+    (λ c κs. search needs)
     loop-holds
-    entry-at-requires
-    add-i
-    table-names-requires
+    (λ c κs. search needs)
+    (λ c. search needs)
+    (λ c κs. search needs)
     returns
-    loop-less
+    (λ c. search needs)
     loop-again
     returns-2)

@@ -1,10 +1,11 @@
-// The endpoint descriptors of the current settings, by number: for a board that opens its endpoints.
+// The endpoint descriptors of the current settings, counted from 0: for a board that opens its endpoints.
 use crate::facts;
 use descriptors::ConfigurationValue;
 use descriptors::endpoints;
 use descriptors::endpoints::DescriptorFound;
 use descriptors::survey;
 use events::Answer;
+use events::refusals;
 use records::Device;
 use sets::EntryFound;
 use sets::configuration;
@@ -23,13 +24,13 @@ fn part_of(entry: EntryFound, found: DescriptorFound) -> Answer
                 offset: e.offset as usize + offset,
                 length,
             },
-            EntryFound::Nothing => Answer::Refused(16),
+            EntryFound::Nothing => Answer::Refused(refusals::ENDPOINT_UNFIT),
         },
-        DescriptorFound::Nothing => Answer::Refused(16),
+        DescriptorFound::Nothing => Answer::Refused(refusals::ENDPOINT_UNFIT),
     }
 }
 
-// The one with this number, on a board that was checked: `opening` is what opening gives, `set` is the set in use, one of two if `paired`. Opening
+// The nth from 0 on, on a board that was checked: `opening` is what opening gives, `set` is the set in use, one of two if `paired`. Opening
 // is asked before this frame stands, to spare the stack.
 pub fn endpoint(
     opening: u8,
@@ -37,13 +38,13 @@ pub fn endpoint(
     set: &[u8],
     serial: &[u8],
     device: Device,
-    number: u8,
+    nth: u8,
 ) -> Answer
     requires { ⌜ (opening ≡ 0 → Openable (now set) (now serial)) ⌝ }
-    ensures { λ r. ⌜ r ≡ endpointIn opening (viewIn paired (now (set .entry)) (now (serial .entry))) (now (set .entry)) device number ⌝ }
+    ensures { λ r. ⌜ r ≡ endpointIn opening (viewIn paired (now (set .entry)) (now (serial .entry))) (now (set .entry)) device nth ⌝ }
 {
     if opening != 0 {
-        return Answer::Refused(7);
+        return Answer::Refused(refusals::SET_NOT_ACCEPTABLE);
     }
     let selected = configuration::by_value(set, ConfigurationValue(device.configuration));
     let body = facts::body_found(set, selected);
@@ -61,10 +62,10 @@ pub fn endpoint(
         paired,
         device,
     ) {
-        return Answer::Refused(8);
+        return Answer::Refused(refusals::RECORD_DOES_NOT_FIT);
     }
-    if device.state != 2 {
-        return Answer::Refused(16);
+    if device.state != records::CONFIGURED {
+        return Answer::Refused(refusals::ENDPOINT_UNFIT);
     }
-    part_of(selected, endpoints::find(body, alternates, number))
+    part_of(selected, endpoints::find(body, alternates, nth))
 }
