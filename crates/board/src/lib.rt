@@ -16,6 +16,7 @@ mod endpoint;
 mod large;
 mod makers;
 mod numbers;
+mod pipe;
 mod ports;
 mod two;
 
