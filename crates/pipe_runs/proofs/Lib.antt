@@ -1,0 +1,15 @@
+pub mod Moves
+pub mod Resting
+pub mod Setups
+pub mod Ends
+pub mod Waiting
+pub mod Addresses
+pub mod Courses
+pub mod Starts
+pub mod Keeping
+pub mod Cutting
+pub mod Replies
+pub mod Applications
+pub mod Playing
+pub mod OnWire
+pub mod Enumerates
