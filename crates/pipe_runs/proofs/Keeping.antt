@@ -134,9 +134,206 @@ module _ (l : Lengths) (n : ℕ) (t : Transfer) (z : Sized t) (f : fits l t ≡ 
   unfolding fits row
   restaged s m p q le g = rw (le-leb s 7 le, conjunct 1 row f, conjunct 2 row f, size-good p q, conjunct 4 row f, g)
 
-  answered : t .stage ≡ askingSetup → n ≡ l .reply → fits l (sendsReply n t .transfer) ≡ true
+  answered : (k : Lengths) → t .stage ≡ askingSetup → min n (t .asked) ≤ k .reply → fits k (sendsReply n t .transfer) ≡ true
   unfolding fits row
-  answered s e =
+  answered k s e =
       let short : min n (t .asked) ≤ t .asked = omega arith in
-      let inside : 0 + min n (t .asked) ≤ l .reply = omega arith in
+      let inside : 0 + min n (t .asked) ≤ k .reply = omega arith in
       rw (conjunct 2 row f, size-good (at askingSetup 0 s refl) (at askingSetup 7 s refl), le-leb _ _ short, le-leb _ _ inside)
+
+-- ---- what is kept: the pipe record is that of a transfer that fits, whatever reply is lent, if it is as long as the record says
+abbrev Holds : Board → List ℕ → Transfer → Type 0
+Holds b image t = (reply : List ℕ) → (t .block ≡ inReply → t .length ≤ length reply) → fits (lengthsOf b image reply) t ≡ true
+
+record Kept (b : Board) (r : Records) : Type 0 where
+  transfer : Transfer
+  is : r .pipe ≡ imageOf transfer
+  sized : Sized transfer
+  holds : Holds b (r .image) transfer
+
+-- the set in use is the same
+same-set : (b : Board) (image image′ : List ℕ) (t : Transfer) → deviceOf image′ .speed ≡ deviceOf image .speed → Holds b image t → Holds b image′ t
+same-set b image image′ t q h reply l =
+    subst (λ speed. fits (record { set = length (setFor b speed); serial = length (b .serial); reply = length reply }) t ≡ true) (sym q) (h reply l)
+
+idle-kept : (b : Board) (image : List ℕ) → Kept b (record { image = image; pipe = imageOf idle })
+unfolding fits
+idle-kept b image = record {
+  transfer = idle;
+  is = refl;
+  sized = record { place-fits = omega arith; length-fits = omega arith; asked-fits = omega arith; moved-fits = omega arith };
+  holds = λ reply l. refl;
+}
+
+stalled-kept : (b : Board) (image : List ℕ) → Kept b (record { image = image; pipe = imageOf stalled })
+unfolding fits
+stalled-kept b image = record {
+  transfer = stalled;
+  is = refl;
+  sized = record { place-fits = omega arith; length-fits = omega arith; asked-fits = omega arith; moved-fits = omega arith };
+  holds = λ reply l. refl;
+}
+
+resting-kept : (b : Board) (image pipe : List ℕ) → Resting pipe → Kept b (record { image = image; pipe = pipe })
+resting-kept b image pipe isIdle = idle-kept b image
+resting-kept b image pipe isStalled = stalled-kept b image
+
+-- ---- an event that looks at the transfer
+turn-kept : (b : Board) (image reply : List ℕ) (t : Transfer) (u : Turn) → Becomes (length reply) t u → Sized t → Holds b image t → fits (lengthsOf b image reply) t ≡ true
+    → Kept b (moves b image u .left)
+turn-kept b image reply t u same z h f = record { transfer = t; is = refl; sized = z; holds = h }
+turn-kept b image reply t u over z h f = idle-kept b _
+turn-kept b image reply t u wrong z h f = stalled-kept b image
+turn-kept b image reply t u (goes s m order p q le small-m g) z h f = record {
+  transfer = withStage s (withMoved m t);
+  is = refl;
+  sized = record { place-fits = z .place-fits; length-fits = z .length-fits; asked-fits = z .asked-fits; moved-fits = small-m };
+  holds = λ other l. restaged (lengthsOf b image other) 0 t z (h other l) s m p q le g;
+}
+turn-kept b image reply t u (answers s) z h f = record {
+  transfer = sendsReply (length reply) t .transfer;
+  is = refl;
+  sized = let w = z .asked-fits in record { place-fits = omega arith; length-fits = omega arith; asked-fits = w; moved-fits = omega arith };
+  holds = λ other l. answered (lengthsOf b image reply) (length reply) t z f (lengthsOf b image other) s (l refl);
+}
+
+module _ (b : Board) (r : Records) (e : Told) (k : Kept b r) (lent : Lent r e) where
+  abbrev t : Transfer
+  t = k .transfer
+
+  abbrev here : Records
+  here = record { image = r .image; pipe = imageOf t }
+
+  r-here : r ≡ here
+  r-here = ap (λ (p : List ℕ). record { image = r .image; pipe = p }) (k .is)
+
+  lent-so : t .block ≡ inReply → t .length ≤ length (e .reply)
+  lent-so =
+      subst (λ (x : Transfer). x .block ≡ inReply → x .length ≤ length (e .reply)) (transfer-image t (k .sized))
+      (subst (λ (p : List ℕ). transferOf p .block ≡ inReply → transferOf p .length ≤ length (e .reply)) (k .is) lent)
+
+  fits-now : fits (lengthsOf b (r .image) (e .reply)) t ≡ true
+  fits-now = k .holds (e .reply) lent-so
+
+  record-fits-now : fitsIn (lengthsOf b (r .image) (e .reply)) (r .pipe) ≡ true
+  record-fits-now = rw (k .is) (record-fits (lengthsOf b (r .image) (e .reply)) t (k .sized) fits-now)
+
+  looked-kept : looks (e .wire) ≡ true → Kept b (leaves b r e)
+  looked-kept q =
+      subst (λ (x : Records). Kept b (leaves b x e)) (sym r-here)
+      (subst (λ (h : Heard). Kept b (h .left)) (sym (hears b (r .image) e t (k .sized) fits-now q))
+      (turn-kept b (r .image) (e .reply) t _ (becomes (lengthsOf b (r .image) (e .reply)) (length (e .reply)) t (k .sized) fits-now (e .wire)) (k .sized) (k .holds) fits-now))
+
+  -- ---- a setup that is not 8 bytes, or a number that is none
+  malformed-kept : heard b r e ≡ begins (packetSize b (r .image)) (e .setup) (r .pipe) (event b (r .image) Malformed) → Kept b (leaves b r e)
+  malformed-kept h = go (numberOf (w .answer)) refl (malforms b (r .image))
+    where
+      w : Reply
+      w = event b (r .image) Malformed
+
+      go : (n : ℕ) → numberOf (w .answer) ≡ n → Malforms n → Kept b (leaves b r e)
+      go n z with7 = rw (leaves, h, z) (stalled-kept b (w .image))
+      go n z with8 = rw (leaves, h, z) (stalled-kept b (w .image))
+      go n z with9 = rw (leaves, h, z) (record {
+        transfer = t;
+        is = k .is;
+        sized = k .sized;
+        holds = same-set b (r .image) (w .image) t (malformedSame b (r .image) .speed) (k .holds);
+      })
+
+  -- ---- a SETUP of 8 bytes
+  module _ (q : e .wire ≡ ASetup) (octets : Bytes (e .setup)) (long : length (r .pipe) ≡ 16) (eight : length (e .setup) ≡ 8) where
+    abbrev w : Reply
+    w = event b (r .image) (setupEvent (e .setup))
+
+    abbrev u : Transfer
+    u = started (replyAt (w .answer)) (setupOf (e .setup)) (packetSize b (r .image))
+
+    told : e ≡ aSetup (e .setup) (e .reply)
+    told = rw (← q)
+
+    same-speed : deviceOf (w .image) .speed ≡ deviceOf (r .image) .speed
+    same-speed = rw (eq-eqb (length (e .setup)) 8 eight) (setupLeaves b (r .image) (setupOf (e .setup)) .speed)
+
+    staged : accepted b ≡ true → (s : ℕ) → s ≤ 7 → (eqb s dataOut || eqb s askingBytes) ≡ false → Kept b (record { image = w .image; pipe = imageOf (withStage s u) })
+    staged ok s le other =
+        let size = acceptedFits b (r .image) (e .setup) [] octets ok .sized in
+        record {
+          transfer = withStage s u;
+          is = refl;
+          sized = record { place-fits = size .place-fits; length-fits = size .length-fits; asked-fits = size .asked-fits; moved-fits = size .moved-fits };
+          holds = same-set b (r .image) (w .image) (withStage s u) same-speed
+              (λ reply l. restaged (lengthsOf b (r .image) reply) 0 u size (acceptedFits b (r .image) (e .setup) reply octets ok .fit) s 0 (λ z. absurd (omega arith)) (λ z. absurd (omega arith)) le (rw other));
+        }
+
+    -- a number that is not 7 is that of an accepted board
+    board : (numberOf (w .answer) ≡ 7 → ⊥) → accepted b ≡ true
+    board n = cases (accepted b) (λ p. p) (λ p. absurd (n (eqb-true _ 7 (rw p at (eventNumber b (r .image) (setupEvent (e .setup)))))))
+
+    setup-kept : Kept b (leaves b r e)
+    setup-kept = subst (λ (x : Told). Kept b (leaves b r x)) (sym told) (rw (leaves, begun-by b r (e .setup) (e .reply) long eight) by-number)
+      where
+        by-number : Kept b (record { image = w .image; pipe = imageOf (begun (numberOf (w .answer)) u .transfer) })
+        by-number =
+            chosen (λ (x : Turn). Kept b (record { image = w .image; pipe = imageOf (x .transfer) })) (eqb (numberOf (w .answer)) 0)
+            (λ z.
+            let ok = board (λ n. absurd (let m = eqb-true (numberOf (w .answer)) 0 z in omega arith)) in
+            chosen (λ (x : Turn). Kept b (record { image = w .image; pipe = imageOf (x .transfer) })) (eqb (setupOf (e .setup) .wLength) 0)
+            (λ _. staged ok statusIn (omega arith) refl) (λ _. staged ok dataIn (omega arith) refl))
+            (λ _. chosen (λ (x : Turn). Kept b (record { image = w .image; pipe = imageOf (x .transfer) })) (eqb (numberOf (w .answer)) 10)
+            (λ z. staged (board (λ n. absurd (let m = eqb-true (numberOf (w .answer)) 10 z in omega arith))) askingSetup (omega arith) refl)
+            (λ _. stalled-kept b (w .image)))
+
+  -- ---- any event
+  kept-long : length (r .pipe) ≡ 16
+  unfolding imageOf
+  kept-long = rw (k .is) refl
+
+  long-heard : heard b r e ≡ heardAs b r e (e .wire)
+  unfolding heard
+  long-heard = rw (eq-eqb (length (r .pipe)) 16 kept-long)
+
+  reset-kept : (speed : ℕ) → e .wire ≡ Reset speed → Kept b (leaves b r e)
+  reset-kept speed q = go (eqb (numberOf (w .answer)) 0) refl
+    where
+      w : Reply
+      w = event b (r .image) (BusReset speed)
+
+      left : leaves b r e ≡ record { image = w .image; pipe = pick (eqb (numberOf (w .answer)) 0) (imageOf idle) (r .pipe) }
+      left = ap (λ (x : Heard). x .left) (long-heard ∙ ap (heardAs b r e) q)
+
+      go : (x : Bool) → eqb (numberOf (w .answer)) 0 ≡ x → Kept b (leaves b r e)
+      go true z = rw (left, z) (idle-kept b (w .image))
+      go false z = rw (left, z) (record {
+        transfer = t;
+        is = k .is;
+        sized = k .sized;
+        holds = same-set b (r .image) (w .image) t (resetSame b (r .image) speed (eqb-false _ 0 z) .speed) (k .holds);
+      })
+
+  kept : Bytes (e .setup) → Kept b (leaves b r e)
+  kept octets = go (e .wire) refl
+    where
+      eight : (x : Bool) → eqb (length (e .setup)) 8 ≡ x → e .wire ≡ ASetup → Kept b (leaves b r e)
+      eight true z q = setup-kept q octets kept-long (eqb-true (length (e .setup)) 8 z)
+      eight false z q = malformed-kept (long-heard ∙ ap (heardAs b r e) q
+          ∙ ap (λ (x : Bool). begins (packetSize b (r .image)) (e .setup) (r .pipe) (event b (r .image) (pick x (Request (setupOf (e .setup))) Malformed))) z)
+
+      go : (x : Wire) → e .wire ≡ x → Kept b (leaves b r e)
+      go ASetup q = eight (eqb (length (e .setup)) 8) refl q
+      go Unknown q = malformed-kept (long-heard ∙ ap (heardAs b r e) q)
+      go (Reset speed) q = reset-kept speed q
+      go Taken q = looked-kept (ap looks q)
+      go (Received n) q = looked-kept (ap looks q)
+      go Replies q = looked-kept (ap looks q)
+      go (Room n) q = looked-kept (ap looks q)
+      go Accept q = looked-kept (ap looks q)
+      go Refuse q = looked-kept (ap looks q)
+
+-- ---- a run
+kept-in : (b : Board) (r : Records) (es : List Told) → Kept b r → AllLent b r es → Kept b (after b r es)
+kept-in b r [] k l = k
+kept-in b r (e ∷ es) k (lent, octets, rest) = kept-in b (leaves b r e) es (kept b r e k lent octets) rest
+
+pub alwaysFits : AlwaysFits
+alwaysFits b r rests es lent e now = record-fits-now b (after b r es) e (kept-in b r es (resting-kept b (r .image) (r .pipe) rests) lent) now

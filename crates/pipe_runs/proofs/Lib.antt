@@ -13,3 +13,6 @@ pub mod Applications
 pub mod Playing
 pub mod OnWire
 pub mod Enumerates
+pub mod Orders
+pub mod Counting
+pub mod Promises

@@ -113,7 +113,7 @@ module _ (b : Board) (image : List ℕ) (e : Told) where
   by-wire pipe p Accept q = on-transfer pipe p
   by-wire pipe p Refuse q = on-transfer pipe p
 
-  resting-long : (pipe : List ℕ) → Resting pipe → length pipe ≡ 16
+  pub resting-long : (pipe : List ℕ) → Resting pipe → length pipe ≡ 16
   unfolding imageOf
   resting-long pipe isIdle = refl
   resting-long pipe isStalled = refl

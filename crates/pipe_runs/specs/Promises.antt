@@ -176,5 +176,5 @@ AlwaysFits =
 
 abbrev pub NeverEight : Type 0
 NeverEight =
-    (b : Board) → BytesOf b → accepted b ≡ true → (es : List Told) → AllLent b powerOn es → (e : Told) → Lent (after b powerOn es) e
+    (b : Board) → BytesOf b → (es : List Told) → AllLent b powerOn es → (e : Told) → Lent (after b powerOn es) e
     → heard b (after b powerOn es) e .number ≡ 8 → ⊥
