@@ -16,3 +16,4 @@ pub mod Enumerates
 pub mod Orders
 pub mod Counting
 pub mod Promises
+pub mod Inhabited

@@ -1,0 +1,206 @@
+-- The promises at work: on the bench set S, on the titrator T and on a pair, so that none is empty. No axiom.
+use Prim.Native.Nat.{ℕ, zero, suc, _≤_, _<_}
+use native.Mathlib.Omega.{arith}
+use mathlib.Core.Path.{_≡_, refl, sym, ap, subst, _∙_}
+use mathlib.Core.Bool.{Bool, true, false}
+use mathlib.Core.List.{List, [], _∷_, _++_, map}
+use lib.ListN.{length, take, replicate}
+use Rattle.octets.specs.Octets.{Bytes}
+use Rattle.descriptors.specs.Configuration.{bConfigurationValue}
+use Rattle.sets.specs.Device.{deviceBody, bNumConfigurations}
+use Rattle.records.specs.declared.Device.{Device}
+use Rattle.records.specs.Device.{fresh, inTestMode}
+use Rattle.records.specs.Image.{deviceOf}
+use Rattle.records.specs.Image as records
+use Rattle.records.specs.Current.{setFor}
+use Rattle.requests.specs.Setup.{setupOf}
+use Rattle.events.specs.declared.Event.{Event}
+use Rattle.events.specs.declared.Event.the-variants.{StatusEnd}
+use Rattle.order.specs.Run.{All}
+use Rattle.promises.specs.Examples.{bytes, computed, S, T}
+use Rattle.promises.specs.Bench.{setup}
+use Rattle.promises.specs.Inhabited.{octets, acceptedS, bytesS, acceptedT, bytesT}
+use Rattle.promises.specs.Pairs.{pair, acceptedPair, bytesPair}
+use Rattle.pipes.specs.declared.Wire.{Wire}
+use Rattle.pipes.specs.declared.Wire.the-variants.{Setup, Taken, Received, Reset, Reply}
+use Rattle.pipes.specs.Transfer.{idle, send, stall, fits}
+use Rattle.pipes.specs.Image.{transferOf, imageOf, fitsIn}
+use Rattle.pipes.specs.Turns.{taken, received, replied, roomed, accepted, refused, turned}
+use Rattle.pipes.specs.Sending.{sent}
+use Rattle.pipes.specs.Pipe.{Told, Records, packetSize, heard}
+use Rattle.pipes.proofs.Inverse.{image-length}
+use Rattle.enumeration.specs.Bodies.{configurationBody}
+use Rattle.enumeration.specs.Enumeration.{enumerated}
+use Rattle.pipe_runs.specs.Runs.{leaves, after, heardIn, powerOn, isIdle, aSetup, answeredWith, isQuiet, endsAt, eventsAt, eventsIn, deviceAfter, noEnd, addressIn}
+use Rattle.pipe_runs.specs.Packets.{sentIn, awaitsIn, replyTo, Within, Begins}
+use Rattle.pipe_runs.specs.Addresses.{Readdresses}
+use Rattle.pipe_runs.specs.Host.{PlaysOnWire, WireLine, wire, aSetupOf, sends, awaits, isOver, enumerationOnWire, atRest}
+use Rattle.pipe_runs.specs.Promises.{ToldOnce, SendsNothing, ran}
+use Rattle.pipe_runs.proofs.Promises.{nothingElseMoves, readsTheReply, readsTheApplications, ownAddress, oncePerTransfer, neverForADropped, noLockOut, refusedSendsNothing, enumeratesByPackets, neverEight}
+
+-- ---- the enumeration of S on the wire, at address 5, in packets of 8, packet by packet
+abbrev asks : ℕ → Told
+asks setup = aSetup (bytes 8 setup) []
+
+abbrev takes : List ℕ → WireLine
+takes packet = (wire Taken, sends packet)
+
+abbrev last : List WireLine
+last = (wire Taken, awaits) ∷ (wire (Received 0), isOver) ∷ []
+
+pub scriptS : enumerationOnWire S 0 5 0 ≡
+    (wire (Reset 0), isOver) ∷
+    (asks 0x8006000100000800, sends (bytes 8 0x12010002FF000008)) ∷ last ++
+    (asks 0x8006000100004000, sends (bytes 8 0x12010002FF000008)) ∷ takes (bytes 8 0x3412785600010000) ∷ takes (bytes 2 0x0001) ∷ last ++
+    (asks 0x8006000100001200, sends (bytes 8 0x12010002FF000008)) ∷ takes (bytes 8 0x3412785600010000) ∷ takes (bytes 2 0x0001) ∷ last ++
+    (asks 0x0005050000000000, sends []) ∷ (wire Taken, isOver) ∷
+    (asks 0x8006000200000900, sends (bytes 8 0x0902190001010080)) ∷ takes (bytes 1 0x32) ∷ last ++
+    (asks 0x8006000200001900, sends (bytes 8 0x0902190001010080)) ∷ takes (bytes 8 0x320904000001FF00) ∷ takes (bytes 8 0x0000070581030800) ∷ takes (bytes 1 0x0A) ∷ last ++
+    (asks 0x0009010000000000, sends []) ∷ (wire Taken, isOver) ∷ []
+unfolding computed
+scriptS = refl
+
+calm : inTestMode (deviceOf (powerOn .image)) ≡ false
+unfolding computed
+calm = refl
+
+oneS : bNumConfigurations (deviceBody (setFor S 0)) ≡ 1
+unfolding computed
+oneS = refl
+
+pub enumeratesS : PlaysOnWire S powerOn (enumerationOnWire S 0 5 0) (atRest (enumerated 0 5 (bConfigurationValue (configurationBody (setFor S 0) 0)) (deviceOf (powerOn .image))))
+enumeratesS = enumeratesByPackets S bytesS acceptedS powerOn (ran []) calm 0 refl 5 (omega arith) (omega arith) 0 (omega (arith, oneS))
+
+oneT : bNumConfigurations (deviceBody (setFor T 0)) ≡ 1
+unfolding computed
+oneT = refl
+
+pub enumeratesT : PlaysOnWire T powerOn (enumerationOnWire T 0 127 0) (atRest (enumerated 0 127 (bConfigurationValue (configurationBody (setFor T 0) 0)) (deviceOf (powerOn .image))))
+enumeratesT = enumeratesByPackets T bytesT acceptedT powerOn (ran []) calm 0 refl 127 (omega arith) (omega arith) 0 (omega (arith, oneT))
+
+onePair : (bNumConfigurations (deviceBody (setFor pair 0)) ≡ 1) × (bNumConfigurations (deviceBody (setFor pair 1)) ≡ 1)
+unfolding computed
+onePair = (refl, refl)
+
+pub enumeratesFull : PlaysOnWire pair powerOn (enumerationOnWire pair 0 7 0) (atRest (enumerated 0 7 (bConfigurationValue (configurationBody (setFor pair 0) 0)) (deviceOf (powerOn .image))))
+enumeratesFull = enumeratesByPackets pair bytesPair acceptedPair powerOn (ran []) calm 0 refl 7 (omega arith) (omega arith) 0 (omega (arith, onePair .0))
+
+pub enumeratesHigh : PlaysOnWire pair powerOn (enumerationOnWire pair 1 7 0) (atRest (enumerated 1 7 (bConfigurationValue (configurationBody (setFor pair 1) 0)) (deviceOf (powerOn .image))))
+enumeratesHigh = enumeratesByPackets pair bytesPair acceptedPair powerOn (ran []) calm 1 refl 7 (omega arith) (omega arith) 0 (omega (arith, onePair .1))
+
+-- ---- S once more: the host reads the device, breaks in with SET_ADDRESS after two packets, and takes its status stage
+abbrev device : Told
+device = asks 0x8006000100004000
+
+abbrev setAddress : Told
+setAddress = asks 0x0005050000000000
+
+abbrev breaksIn : List Told
+breaksIn = device ∷ wire Taken ∷ setAddress ∷ []
+
+-- 2: its library events, and so its device record
+pub eventsS : eventsIn S powerOn (breaksIn ++ wire Taken ∷ []) ≡ setup 0x8006000100004000 ∷ setup 0x0005050000000000 ∷ StatusEnd ∷ []
+unfolding computed heard transferOf imageOf fits turned taken
+eventsS = refl
+
+pub movesS : after S powerOn (breaksIn ++ wire Taken ∷ []) .image ≡ deviceAfter S (powerOn .image) (setup 0x8006000100004000 ∷ setup 0x0005050000000000 ∷ StatusEnd ∷ [])
+movesS = nothingElseMoves S powerOn (breaksIn ++ wire Taken ∷ []) ∙ ap (deviceAfter S (powerOn .image)) eventsS
+
+-- 3: the device descriptor, whose 18 bytes are three packets of 8, taken once, and wholly
+deviceBytes : Bytes (bytes 8 0x8006000100004000)
+unfolding computed
+deviceBytes = octets (bytes 8 0x8006000100004000) refl
+
+deviceDone : answeredWith S (powerOn .image) (bytes 8 0x8006000100004000) ≡ 0
+unfolding computed
+deviceDone = refl
+
+pub readsS : (es : List Told) → All (Within []) es → Begins S powerOn (device ∷ es) (replyTo S (powerOn .image) (bytes 8 0x8006000100004000)) 64 (packetSize S (powerOn .image))
+readsS es q = readsTheReply S powerOn (bytes 8 0x8006000100004000) [] (image-length idle) refl deviceBytes deviceDone (λ z. omega arith) es q
+
+pub sentS : sentIn S powerOn (device ∷ wire Taken ∷ wire Taken ∷ wire Taken ∷ []) ≡ bytes 8 0x12010002FF000008 ∷ bytes 8 0x3412785600010000 ∷ bytes 2 0x0001 ∷ []
+unfolding computed heard transferOf imageOf fits turned taken sent
+sentS = refl
+
+-- 4: the address is taken at the end, and not before; a SET_ADDRESS that is dropped leaves it
+pub addressS : (addressIn (after S powerOn breaksIn .image) ≡ 0) × (addressIn (after S powerOn (breaksIn ++ wire Taken ∷ []) .image) ≡ 5)
+unfolding computed heard transferOf imageOf fits turned taken
+addressS = (refl, refl)
+
+pub ownS : Readdresses S (after S powerOn breaksIn) (wire Taken)
+ownS = ownAddress S powerOn isIdle breaksIn (wire Taken)
+
+pub droppedS : addressIn (after S powerOn (setAddress ∷ asks 0x8006000100000800 ∷ wire Taken ∷ wire (Received 0) ∷ []) .image) ≡ 0
+unfolding computed heard transferOf imageOf fits turned taken received
+droppedS = refl
+
+-- 5: a status end is told there, and none at the SETUP that breaks in
+endsS : endsAt S (after S powerOn breaksIn) (wire Taken) ≡ true
+unfolding computed heard transferOf imageOf fits turned taken
+endsS = refl
+
+pub onceS : ToldOnce S (after S powerOn breaksIn) (wire Taken)
+onceS = oncePerTransfer S (after S powerOn breaksIn) (wire Taken) endsS
+
+goesOnS : endsAt S (after S powerOn (device ∷ wire Taken ∷ [])) setAddress ≡ false
+unfolding computed heard transferOf imageOf fits turned taken
+goesOnS = refl
+
+pub dropS : All noEnd (eventsAt S (after S powerOn (device ∷ wire Taken ∷ [])) setAddress)
+dropS = neverForADropped S (after S powerOn (device ∷ wire Taken ∷ [])) setAddress goesOnS
+
+-- 6: sixteen bytes of A5
+pub lockedS : heard S (record { image = powerOn .image; pipe = replicate 16 0xA5 }) device ≡ heard S powerOn device
+lockedS = noLockOut S (powerOn .image) (replicate 16 0xA5) (bytes 8 0x8006000100004000) [] refl refl
+
+-- 7: a descriptor of type 9 is refused with 13
+refusedS : answeredWith S (powerOn .image) (bytes 8 0x8006000900004000) ≡ 13
+unfolding computed
+refusedS = refl
+
+pub stallsS : (heard S powerOn (asks 0x8006000900004000) .order ≡ stall)
+    × ((es : List Told) → All isQuiet es → All SendsNothing (heardIn S (leaves S powerOn (asks 0x8006000900004000)) es))
+stallsS = refusedSendsNothing S powerOn (bytes 8 0x8006000900004000) [] (image-length idle) refl (λ z. omega (arith, refusedS)) (λ z. omega (arith, refusedS))
+
+-- ---- the application's reply: a vendor's request for 20 bytes, of which it has 12; then the host's empty packet ends the transfer, and no event got 8
+abbrev vendor : Told
+vendor = asks 0xC001000000001400
+
+abbrev reply : List ℕ
+reply = bytes 12 0x0102030405060708090A0B0C
+
+abbrev lends : Wire → Told
+lends w = record { wire = w; setup = []; reply = reply }
+
+abbrev answered : List Told
+answered = vendor ∷ lends Reply ∷ lends Taken ∷ lends Taken ∷ []
+
+pub sentByApplication : (sentIn S powerOn answered ≡ bytes 8 0x0102030405060708 ∷ bytes 4 0x090A0B0C ∷ []) × (awaitsIn S powerOn answered ≡ true)
+unfolding computed heard transferOf imageOf fits turned taken replied sent
+sentByApplication = (refl, refl)
+
+-- the pipe record in which it is asked
+asksS : after S powerOn (vendor ∷ []) .pipe ≡ 1 ∷ 0 ∷ 0 ∷ 0 ∷ 0 ∷ 0 ∷ 20 ∷ 0 ∷ 0 ∷ 0 ∷ 8 ∷ 1 ∷ 0 ∷ 0 ∷ 0 ∷ 0 ∷ []
+unfolding computed heard transferOf imageOf
+asksS = refl
+
+askingBytes : Bytes (1 ∷ 0 ∷ 0 ∷ 0 ∷ 0 ∷ 0 ∷ 20 ∷ 0 ∷ 0 ∷ 0 ∷ 8 ∷ 1 ∷ 0 ∷ 0 ∷ 0 ∷ 0 ∷ [])
+unfolding computed
+askingBytes = octets (1 ∷ 0 ∷ 0 ∷ 0 ∷ 0 ∷ 0 ∷ 20 ∷ 0 ∷ 0 ∷ 0 ∷ 8 ∷ 1 ∷ 0 ∷ 0 ∷ 0 ∷ 0 ∷ []) refl
+
+askedBytes : Bytes (after S powerOn (vendor ∷ []) .pipe)
+askedBytes = subst Bytes (sym asksS) askingBytes
+
+pub applicationS : (es : List Told) → All (Within reply) es → Begins S (after S powerOn (vendor ∷ [])) (lends Reply ∷ es) (take 20 reply) 20 8
+unfolding computed heard transferOf imageOf fits
+applicationS es q = readsTheApplications S (after S powerOn (vendor ∷ [])) reply askedBytes refl refl es q
+
+vendorBytes : Bytes (bytes 8 0xC001000000001400)
+unfolding computed
+vendorBytes = octets (bytes 8 0xC001000000001400) refl
+
+pub neverEightS : heard S (after S powerOn answered) (lends (Received 0)) .number ≡ 8 → ⊥
+unfolding computed heard transferOf imageOf fits turned taken replied
+neverEightS = neverEight S bytesS answered
+    ((λ _. omega arith), vendorBytes, ((λ _. omega arith), (λ i. omega arith), ((λ _. omega arith), (λ i. omega arith), ((λ _. omega arith), (λ i. omega arith), tt))))
+    (lends (Received 0)) (λ _. omega arith)
