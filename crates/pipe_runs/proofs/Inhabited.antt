@@ -4,22 +4,24 @@ use native.Mathlib.Omega.{arith}
 use mathlib.Core.Path.{_≡_, refl, sym, ap, subst, _∙_}
 use mathlib.Core.Bool.{Bool, true, false}
 use mathlib.Core.List.{List, [], _∷_, _++_, map}
-use lib.ListN.{length, take, replicate}
+use lib.ListN.{take, replicate}
+use borrow.Author.Tests.{ne-eqb}
 use Rattle.octets.specs.Octets.{Bytes}
 use Rattle.descriptors.specs.Configuration.{bConfigurationValue}
 use Rattle.sets.specs.Device.{deviceBody, bNumConfigurations}
 use Rattle.records.specs.declared.Device.{Device}
-use Rattle.records.specs.Device.{fresh, inTestMode}
+use Rattle.records.specs.Device.{inTestMode}
 use Rattle.records.specs.Image.{deviceOf}
-use Rattle.records.specs.Image as records
 use Rattle.records.specs.Current.{setFor}
-use Rattle.requests.specs.Setup.{setupOf}
-use Rattle.events.specs.declared.Event.{Event}
+use Rattle.records.proofs.Image.{device-image}
 use Rattle.events.specs.declared.Event.the-variants.{StatusEnd}
 use Rattle.order.specs.Run.{All}
 use Rattle.promises.specs.Examples.{bytes, computed, S, T}
 use Rattle.promises.specs.Bench.{setup}
-use Rattle.promises.specs.Inhabited.{octets, acceptedS, bytesS, acceptedT, bytesT}
+use Rattle.promises.specs.Inhabited.{octets, acceptedS, bytesS, acceptedT, bytesT, configured, configuredSized}
+use Rattle.promises.specs.InhabitedOrder.{configuredFitsT}
+use Rattle.promises.specs.Keeps.{FitImage, imageFits}
+use Rattle.promises.specs.Rearranged.{eventsOf, Rearranged}
 use Rattle.promises.specs.Pairs.{pair, acceptedPair, bytesPair}
 use Rattle.pipes.specs.declared.Wire.{Wire}
 use Rattle.pipes.specs.declared.Wire.the-variants.{Setup, Taken, Received, Reset, Reply}
@@ -35,8 +37,8 @@ use Rattle.pipe_runs.specs.Runs.{leaves, after, heardIn, powerOn, isIdle
 use Rattle.pipe_runs.specs.Packets.{sentIn, awaitsIn, replyTo, Within, Begins}
 use Rattle.pipe_runs.specs.Addresses.{Readdresses}
 use Rattle.pipe_runs.specs.Host.{PlaysOnWire, WireLine, wire, aSetupOf, sends, awaits, isOver, enumerationOnWire, atRest}
-use Rattle.pipe_runs.specs.Promises.{ToldOnce, SendsNothing, ran}
-use Rattle.pipe_runs.proofs.Promises.{nothingElseMoves, readsTheReply, readsTheApplications, ownAddress, oncePerTransfer, neverForADropped, noLockOut, refusedSendsNothing, enumeratesByPackets, neverEight}
+use Rattle.pipe_runs.specs.Promises.{requestsIn, ToldOnce, SendsNothing, ran}
+use Rattle.pipe_runs.proofs.Promises.{nothingElseMoves, readsTheReply, readsTheApplications, ownAddress, oncePerTransfer, neverForADropped, orderDoesNotCount, noLockOut, refusedSendsNothing, enumeratesByPackets, neverEight}
 
 -- ---- the enumeration of S on the wire, at address 5, in packets of 8, packet by packet
 abbrev asks : ℕ → Told
@@ -204,3 +206,46 @@ unfolding computed heard transferOf imageOf fits turned taken replied
 neverEightS = neverEight S bytesS answered
     ((λ _. omega arith), vendorBytes, ((λ _. omega arith), (λ i. omega arith), ((λ _. omega arith), (λ i. omega arith), ((λ _. omega arith), (λ i. omega arith), tt))))
     (lends (Received 0)) (λ _. omega arith)
+
+-- ---- demand 3 on T: SET_INTERFACE of interface 1 and SET_FEATURE(HALT) of endpoint 81, which is interface 0's, each with its status stage, in both orders
+abbrev settingOne : ℕ
+settingOne = 0x010B010001000000
+
+abbrev haltIn : ℕ
+haltIn = 0x0203000081000000
+
+abbrev atT : Records
+atT = atRest configured
+
+abbrev oneOrder : List Told
+oneOrder = asks settingOne ∷ wire Taken ∷ asks haltIn ∷ wire Taken ∷ []
+
+abbrev otherOrder : List Told
+otherOrder = asks haltIn ∷ wire Taken ∷ asks settingOne ∷ wire Taken ∷ []
+
+oneRequests : requestsIn T atT oneOrder ≡ setup settingOne ∷ setup haltIn ∷ []
+unfolding computed heard transferOf imageOf fits turned taken
+oneRequests = refl
+
+otherRequests : requestsIn T atT otherOrder ≡ setup haltIn ∷ setup settingOne ∷ []
+unfolding computed heard transferOf imageOf fits turned taken
+otherRequests = refl
+
+fitT : FitImage T (atT .image)
+fitT = imageFits T bytesT acceptedT configured (configuredFitsT, configuredSized)
+
+backT : deviceOf (atT .image) ≡ configured
+backT = device-image configured configuredSized
+
+sameEvents : (k : ℕ) → eventsOf T configured k (setup settingOne ∷ setup haltIn ∷ []) ≡ eventsOf T configured k (setup haltIn ∷ setup settingOne ∷ [])
+unfolding computed
+sameEvents zero = refl
+sameEvents (suc zero) = refl
+sameEvents (suc (suc k)) = rw (ne-eqb 1 (suc (suc k)) (λ z. omega arith), ne-eqb 0 (suc (suc k)) (λ z. omega arith))
+
+rearranged : Rearranged T configured (setup settingOne ∷ setup haltIn ∷ []) (setup haltIn ∷ setup settingOne ∷ [])
+unfolding computed
+rearranged = record { one = refl; other = refl; same = sameEvents }
+
+pub orderT : after T atT oneOrder .image ≡ after T atT otherOrder .image
+orderT = orderDoesNotCount T bytesT acceptedT atT fitT (ap (λ (d : Device). d .waiting) backT) oneOrder otherOrder (rw (backT, oneRequests, otherRequests) rearranged) .0
