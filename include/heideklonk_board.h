@@ -10,6 +10,10 @@
  *   hk_answer packet = hk_cut(hk_reply(&answer), wLength, size, 0);       the first packet of what it is answered with
  *   number = hk_tell(&board, &record, HK_EVENT_STATUS_END, 0);            any other event
  *
+ * or it keeps a hk_pipe too, and tells the library what the peripheral tells:
+ *
+ *   hk_order order = hk_step(&board, &record, &pipe, HK_PIPE_TAKEN, 0, NULL);
+ *
  * Each function is one call of heideklonk.h with blocks and lengths filled in: number, bytes, part and record are that
  * call's, and what its caller owes is owed here too. Functions hk_two_.. are for a board that lends two sets, hk_port_..
  * and hk_two_port_.. for events at one of several ports. What a board does not call is not linked.
@@ -50,6 +54,7 @@ typedef struct hk_answer {
 #define HK_IMAGE(record) (uint8_t *)(record), sizeof(hk_record)
 #define HK_SETUP_LENT(setup) (setup), (setup) == NULL ? 0 : HK_SETUP_LENGTH
 #define HK_INTO(answer) (answer).bytes, &(answer).count, &(answer).part
+#define HK_TRANSFER(pipe) (pipe)->record, sizeof(pipe)->record, (pipe)->reply.start, (pipe)->reply.length
 
 /* An event's number is mostly a constant. Where the compiler can be told, only that event's call is left of hk_tell. */
 #ifdef __GNUC__
@@ -192,11 +197,62 @@ static inline uint8_t hk_two_port_tell(const hk_board *board, hk_record *row, si
     return hk_two_port_event(HK_TWO_LENT(board), row, row_length, port, event, value, NULL, 0, HK_INTO(answer));
 }
 
+/* ---- The transfers of endpoint zero: a board that tells these events tells no setup, status end or bus reset besides. */
+
+/* What a board keeps of the transfer under way; all zero at power-on. */
+typedef struct hk_pipe {
+    uint8_t record[HK_PIPE_LENGTH]; /* the pipe record */
+    hk_part reply;                  /* the application's: set before HK_PIPE_REPLY, and left until the next SETUP */
+} hk_pipe;
+
+/* What an event of the pipe gets. */
+typedef struct hk_order {
+    uint8_t number; /* HK_DONE, or why not */
+    uint8_t out[6]; /* the order HK_ORDER_.., the count, the two bytes, the room: hk_order_of, hk_sent and hk_room */
+    hk_part part;
+} hk_order;
+
+static inline uint8_t hk_order_of(const hk_order *order) { return order->out[0]; }
+
+/* With HK_ORDER_SEND, the packet. The bytes that are no part stand in the order: keep it until they are handed over. */
+static inline hk_part hk_sent(const hk_order *order) {
+    hk_part packet = order->part;
+    if (order->out[1] > 0) {
+        packet.start = order->out + 2;
+        packet.length = order->out[1];
+    }
+    return packet;
+}
+
+/* With HK_ORDER_RECEIVE, how many bytes the host's packet may have. */
+static inline uint16_t hk_room(const hk_order *order) { return (uint16_t)(order->out[4] + 256 * order->out[5]); }
+
+/* hk_pipe_event: an event by its number HK_PIPE_.. and its value; setup is the eight bytes of a SETUP packet, else NULL. */
+static inline hk_order hk_step(const hk_board *board, hk_record *record, hk_pipe *pipe, uint8_t event, uint16_t value,
+                               const uint8_t *setup) {
+    hk_order order;
+    order.part = hk_no_part();
+    order.number = hk_pipe_event(HK_LENT(board), HK_IMAGE(record), HK_TRANSFER(pipe), event, value,
+                                 HK_SETUP_LENT(setup), order.out, &order.part);
+    return order;
+}
+
+/* The same on a board that lends two sets. */
+static inline hk_order hk_two_step(const hk_board *board, hk_record *record, hk_pipe *pipe, uint8_t event,
+                                   uint16_t value, const uint8_t *setup) {
+    hk_order order;
+    order.part = hk_no_part();
+    order.number = hk_two_pipe_event(HK_TWO_LENT(board), HK_IMAGE(record), HK_TRANSFER(pipe), event, value,
+                                     HK_SETUP_LENT(setup), order.out, &order.part);
+    return order;
+}
+
 #undef HK_LENT
 #undef HK_TWO_LENT
 #undef HK_IMAGE
 #undef HK_SETUP_LENT
 #undef HK_INTO
+#undef HK_TRANSFER
 #undef HK_FOLDED
 
 #ifdef __cplusplus
