@@ -1,6 +1,6 @@
 -- An address is taken at the end of its own status stage, and never otherwise: the address byte changes only at a packet taken in status in, after a
 -- SET_ADDRESS that was answered with 0 and no SETUP or reset since, or at a reset. No axiom.
-use Prim.Native.Nat.{ℕ, _≤_, _<_}
+use Prim.Native.Nat.{ℕ, _≤_}
 use native.Mathlib.Omega.{arith}
 use mathlib.Core.Path.{_≡_, refl, sym, ap, subst, _∙_}
 use mathlib.Core.Logic.{_⊎_, inl, inr}
@@ -8,7 +8,7 @@ use mathlib.Core.Bool.{Bool, true, false, false≢true}
 use mathlib.Core.List.{List, [], _∷_}
 use lib.ListN.{length}
 use lib.Dec.{eqb}
-use borrow.Author.Tests.{eq-eqb, ne-eqb, eqb-true, eqb-false}
+use borrow.Author.Tests.{eq-eqb, eqb-true, eqb-false}
 use Rattle.octets.specs.Sentences.{pick}
 use Rattle.octets.proofs.Sentences.{cases}
 use Rattle.sets.specs.Opening.{Board}
@@ -22,18 +22,18 @@ use Rattle.pipes.specs.declared.Transfer.{Transfer}
 use Rattle.pipes.specs.declared.Turn.{Turn}
 use Rattle.pipes.specs.declared.Wire.{Wire}
 use Rattle.pipes.specs.declared.Wire.the-variants.{Setup as ASetup, Taken, Received, Reset, Reply as Replies, Room, Accept, Refuse, Unknown}
-use Rattle.pipes.specs.Transfer.{idle, stalled, dataIn, statusOut, statusIn, withStage}
+use Rattle.pipes.specs.Transfer.{idle, statusIn, withStage}
 use Rattle.pipes.specs.Image.{transferOf, imageOf, fitsIn}
 use Rattle.pipes.specs.Turns.{replyAt, started, begun, sendsStatus, stalls, taken, received, replied, roomed, accepted, refused, turned}
-use Rattle.pipes.specs.Pipe.{Told, Records, Heard, lengthsOf, packetSize, unheard, begins, restarts, moves, onTransfer, heardAs, heard}
-use Rattle.pipe_runs.specs.Runs.{leaves, after, aSetup, answeredWith, quiet, Resting, isIdle, isStalled, endsAt, ifEnded, eventsBy, eventsAt, deviceAfter, addressIn, waitingIn}
+use Rattle.pipes.specs.Pipe.{Told, Records, Heard, lengthsOf, packetSize, unheard, begins, moves, onTransfer, heardAs, heard}
+use Rattle.pipe_runs.specs.Runs.{Other, Happening, onWire, beside, leaves, leavesBy, after, aSetup, quiet, Resting, isIdle, isStalled, endsAt, ifEnded, eventsBy, deviceAfter, addressIn, waitingIn}
 use Rattle.pipe_runs.specs.Addresses.{drops, Addressed, asks, waits, Readdresses, stays, resets, takes}
 use Rattle.pipe_runs.specs.Promises.{EndsBy, byTaken, byEmpty}
 use Rattle.pipe_runs.proofs.Moves.{moved}
-use Rattle.pipe_runs.proofs.Resting.{Malforms, with7, with8, with9, malforms, Rests, restsAt, no-end}
+use Rattle.pipe_runs.proofs.Resting.{Malforms, with7, with8, with9, malforms, restsAt, no-end}
 use Rattle.pipe_runs.proofs.Setups.{begun-by}
 use Rattle.pipe_runs.proofs.Ends.{turned-ends, endsHow, toldOnce}
-use Rattle.pipe_runs.proofs.Waiting.{WaitsIn, late, own, refused as refusedWith, Leaves, setupLeaves, Same, malformedSame, resetSame, Applies, stays as addressStays, takes as addressTakes, statusEndApplies}
+use Rattle.pipe_runs.proofs.Waiting.{WaitsIn, late, own, refused as refusedWith, setupLeaves, malformedSame, resetSame, otherSame, Applies, stays as addressStays, takes as addressTakes, statusEndApplies}
 
 -- what is kept by every event: no address waits, or the pipe is at rest, or the address waits in its own status stage
 pub data Pending (b : Board) (r : Records) : Type 0 where
@@ -48,30 +48,30 @@ in-status s (byEmpty (inl z)) = absurd (omega arith)
 in-status s (byEmpty (inr z)) = absurd (omega arith)
 
 module _ (b : Board) (r : Records) (e : Told) (p : Pending b r) where
-  quiet-wire : eventsBy b r e (e .wire) ≡ ifEnded (endsAt b r e) → Readdresses b r e
+  quiet-wire : eventsBy b r e (e .wire) ≡ ifEnded (endsAt b r e) → Readdresses b r (onWire e)
   quiet-wire told = go (endsAt b r e) refl
     where
       after-end : endsAt b r e ≡ true → leaves b r e .image ≡ event b (r .image) StatusEnd .image
       after-end t = moved b r e ∙ ap (deviceAfter b (r .image)) (toldOnce b r e t)
 
-      applied : endsAt b r e ≡ true → Applies (r .image) (event b (r .image) StatusEnd) → Pending b r → Readdresses b r e
-      applied t (addressStays z) k = stays (ap addressIn (after-end t) ∙ z)
+      applied : endsAt b r e ≡ true → Applies (r .image) (event b (r .image) StatusEnd) → Pending b r → Readdresses b r (onWire e)
+      applied t (addressStays z) k = stays (onWire e) (ap addressIn (after-end t) ∙ z)
       applied t (addressTakes z l) (none m) = absurd (omega arith)
       applied t (addressTakes z l) (rests k) = absurd (false≢true (sym (no-end b (r .image) e (r .pipe) k) ∙ t))
       applied t (addressTakes z l) (inStatus s a) =
-          takes (in-status s (endsHow b r e t)) s
+          takes e (in-status s (endsHow b r e t)) s
           (subst (λ n. Addressed b n r) (sym (ap addressIn (after-end t) ∙ z)) a)
 
-      go : (t : Bool) → endsAt b r e ≡ t → Readdresses b r e
+      go : (t : Bool) → endsAt b r e ≡ t → Readdresses b r (onWire e)
       go true t = applied t (statusEndApplies b (r .image)) p
-      go false t = stays (ap addressIn (moved b r e ∙ unended (eqb (length (r .pipe)) 16)))
+      go false t = stays (onWire e) (ap addressIn (moved b r e ∙ unended (eqb (length (r .pipe)) 16)))
         where
           unended : (l : Bool) → deviceAfter b (r .image) (pick l (eventsBy b r e (e .wire)) []) ≡ r .image
           unended true = ap (deviceAfter b (r .image)) (told ∙ ap ifEnded t)
           unended false = refl
 
-  heard-image : (x : Event) → eventsBy b r e (e .wire) ≡ x ∷ [] → addressIn (event b (r .image) x .image) ≡ addressIn (r .image) → Readdresses b r e
-  heard-image x told same = stays (ap addressIn (moved b r e) ∙ go (eqb (length (r .pipe)) 16))
+  heard-image : (x : Event) → eventsBy b r e (e .wire) ≡ x ∷ [] → addressIn (event b (r .image) x .image) ≡ addressIn (r .image) → Readdresses b r (onWire e)
+  heard-image x told same = stays (onWire e) (ap addressIn (moved b r e) ∙ go (eqb (length (r .pipe)) 16))
     where
       go : (l : Bool) → addressIn (deviceAfter b (r .image) (pick l (eventsBy b r e (e .wire)) [])) ≡ addressIn (r .image)
       go true = rw told same
@@ -81,10 +81,10 @@ module _ (b : Board) (r : Records) (e : Told) (p : Pending b r) where
   setup-image true = setupLeaves b (r .image) (setupOf (e .setup)) .address
   setup-image false = malformedSame b (r .image) .address
 
-  by-wire : (w : Wire) → e .wire ≡ w → Readdresses b r e
+  by-wire : (w : Wire) → e .wire ≡ w → Readdresses b r (onWire e)
   by-wire ASetup q = heard-image (setupEvent (e .setup)) (ap (eventsBy b r e) q) (setup-image (eqb (length (e .setup)) 8))
   by-wire Unknown q = heard-image Malformed (ap (eventsBy b r e) q) (malformedSame b (r .image) .address)
-  by-wire (Reset speed) q = resets speed q
+  by-wire (Reset speed) q = resets e speed q
   by-wire Taken q = quiet-wire (ap (eventsBy b r e) q)
   by-wire (Received n) q = quiet-wire (ap (eventsBy b r e) q)
   by-wire Replies q = quiet-wire (ap (eventsBy b r e) q)
@@ -93,7 +93,7 @@ module _ (b : Board) (r : Records) (e : Told) (p : Pending b r) where
   by-wire Refuse q = quiet-wire (ap (eventsBy b r e) q)
 
   -- "the address byte changes only at a taken in status in after a SET_ADDRESS that was answered with 0 and no SETUP or reset since, or at a reset"
-  pub readdresses : Readdresses b r e
+  pub readdresses : Readdresses b r (onWire e)
   readdresses = by-wire (e .wire) refl
 
 -- ---- what is kept
@@ -121,7 +121,7 @@ module _ (b : Board) (r : Records) (e : Told) where
       → Pending b r → Pending b (leaves b r e)
   carried q w s k (none l) = none (rw w l)
   carried q w s k (rests p) = rests (k p)
-  carried q w s k (inStatus p a) = inStatus (s p) (subst (λ n. Addressed b n (leaves b r e)) (sym w) (waits r e q a))
+  carried q w s k (inStatus p a) = inStatus (s p) (subst (λ n. Addressed b n (leaves b r e)) (sym w) (waits r (onWire e) q a))
 
   -- the same pipe record, and what waits
   carried-on : drops b r e (e .wire) ≡ false → leaves b r e .pipe ≡ r .pipe → waitingIn (leaves b r e .image) ≡ waitingIn (r .image) → Pending b r → Pending b (leaves b r e)
@@ -253,10 +253,22 @@ module _ (b : Board) (r : Records) (e : Told) where
   pub pendingKept : Pending b r → Pending b (leaves b r e)
   pendingKept p = cases (eqb (length (r .pipe)) 16) (λ l. by-wire-kept l p (e .wire) refl) (λ z. short z p)
 
--- ---- a run: from a pipe at rest, whatever the device record, at every event of every run
-pub pendingIn : (b : Board) (r : Records) (es : List Told) → Pending b r → Pending b (after b r es)
-pendingIn b r [] p = p
-pendingIn b r (e ∷ es) p = pendingIn b (leaves b r e) es (pendingKept b r e p)
+-- ---- the other events
+module _ (b : Board) (r : Records) (x : Other) where
+  pub besideKept : Pending b r → Pending b (leavesBy b r (beside x))
+  besideKept (none l) = none (rw (otherSame b (r .image) x .waiting) l)
+  besideKept (rests p) = rests p
+  besideKept (inStatus p a) = inStatus p (subst (λ n. Addressed b n (leavesBy b r (beside x))) (sym (otherSame b (r .image) x .waiting)) (waits r (beside x) refl a))
 
-pub ownAddress : (b : Board) (r : Records) (es : List Told) (e : Told) → Resting (r .pipe) → Readdresses b (after b r es) e
-ownAddress b r es e p = readdresses b (after b r es) e (pendingIn b r es (rests p))
+-- ---- a run: from a pipe at rest, whatever the device record, at every event of every run
+pub pendingIn : (b : Board) (r : Records) (es : List Happening) → Pending b r → Pending b (after b r es)
+pendingIn b r [] p = p
+pendingIn b r (onWire e ∷ es) p = pendingIn b (leaves b r e) es (pendingKept b r e p)
+pendingIn b r (beside x ∷ es) p = pendingIn b (leavesBy b r (beside x)) es (besideKept b r x p)
+
+readdressed : (b : Board) (r : Records) (h : Happening) → Pending b r → Readdresses b r h
+readdressed b r (onWire e) p = readdresses b r e p
+readdressed b r (beside x) p = stays (beside x) (otherSame b (r .image) x .address)
+
+pub ownAddress : (b : Board) (r : Records) (es : List Happening) (h : Happening) → Resting (r .pipe) → Readdresses b (after b r es) h
+ownAddress b r es h p = readdressed b (after b r es) h (pendingIn b r es (rests p))

@@ -2,13 +2,12 @@
 use Prim.Native.Nat.{ℕ, _+_, _≤_, _<_, min}
 use native.Mathlib.Omega.{arith}
 use mathlib.Core.Path.{_≡_, refl, sym, ap, subst, _∙_}
-use mathlib.Core.Bool.{Bool, true, false, _&&_, _||_, not}
+use mathlib.Core.Bool.{Bool, true, false, not}
 use mathlib.Core.List.{List, [], _∷_, _++_}
 use lib.ListN.{length, take, length-take}
 use lib.Dec.{eqb, leb}
 use borrow.Author.Tests.{eq-eqb, eqb-true, le-leb}
-use Rattle.octets.specs.Octets.{part, Bytes}
-use Rattle.octets.specs.Sentences.{pick}
+use Rattle.octets.specs.Octets.{Bytes}
 use Rattle.octets.proofs.Sentences.{conjunct}
 use Rattle.sets.specs.Opening.{Board}
 use Rattle.records.specs.Image.{deviceOf}
@@ -16,17 +15,17 @@ use Rattle.records.specs.Current.{setFor}
 use Rattle.order.specs.Run.{All}
 use Rattle.packets.specs.Packets.{canCut}
 use Rattle.pipes.specs.declared.Lengths.{Lengths}
-use Rattle.pipes.specs.declared.Piece.{Piece}
 use Rattle.pipes.specs.declared.Transfer.{Transfer}
 use Rattle.pipes.specs.declared.Wire.the-variants.{Reply}
 use Rattle.pipes.specs.Transfer.{askingSetup, dataIn, inReply, send, withStage, withMoved, withReply, goodSize, goodReply, goodMoved, fits}
 use Rattle.pipes.specs.Image.{transferOf, imageOf, endsInZeros, fitsIn}
-use Rattle.pipes.specs.Turns.{mayReply, sendsReply, replied, turned}
-use Rattle.pipes.specs.Sending.{pieceOf, sent, bytesIn}
+use Rattle.pipes.specs.Turns.{mayReply, replied, turned}
+use Rattle.pipes.specs.Sending.{sent, bytesIn}
 use Rattle.pipes.specs.Pipe.{Told, Records, Heard, lengthsOf, heard}
-use Rattle.pipes.proofs.Inverse.{Sized, transfer-image}
+use Rattle.pipes.proofs.Inverse.{transfer-image}
+use Rattle.pipe_runs.specs.Runs.{Happening, onWire}
 use Rattle.pipe_runs.specs.Packets.{packetAt, packetOf, Within, Begins}
-use Rattle.pipe_runs.proofs.Courses.{Fit, Lies, Course, many, cuttable, piece-bytes, course}
+use Rattle.pipe_runs.proofs.Courses.{Fit, Lies, Course, cuttable, piece-bytes, course}
 use Rattle.pipe_runs.proofs.Cutting.{least, some-packet}
 use Rattle.pipe_runs.proofs.Replies.{begins-so}
 
@@ -98,6 +97,6 @@ module _ (b : Board) (r : Records) (reply : List ℕ) (octets : Bytes (r .pipe))
       ∙ ap (λ (x : Transfer). bytesIn (b .set) (setFor b (deviceOf (r .image) .speed)) (b .serial) reply (sent l send x)) (transfer-image u (fit .sized))
       ∙ rw (fit .fit) (piece-bytes b (r .image) reply u bytes 0 lies refl)
 
-  pub readsApplications : (es : List Told) → All (Within reply) es → Begins b r (e ∷ es) bytes (t .asked) (t .size)
+  pub readsApplications : (es : List Happening) → All (Within reply) es → Begins b r (onWire e ∷ es) bytes (t .asked) (t .size)
   readsApplications es q = begins-so b r e es u bytes can (lies .long) (rw begins) (rw begins) firstPacket
       (subst (λ (h : Heard). Course b (h .left) es u bytes 0) (sym begins) (course b reply es (r .image) u bytes 0 fit (some-packet (u .length) (u .asked) (u .size) can asks) lies q))

@@ -1,8 +1,8 @@
 -- The numbers of a run are the library's, a status end is told at the end of a transfer alone, and there are never more of them than SETUPs. No axiom.
 use Prim.Native.Nat.{ℕ, suc, _+_, _≤_}
 use native.Mathlib.Omega.{arith}
-use mathlib.Core.Path.{_≡_, refl, sym, ap, subst, _∙_}
-use mathlib.Core.Bool.{Bool, true, false, false≢true}
+use mathlib.Core.Path.{_≡_, refl, ap, _∙_}
+use mathlib.Core.Bool.{Bool, true, false}
 use mathlib.Core.List.{List, [], _∷_, _++_}
 use lib.ListN.{length}
 use lib.Dec.{eqb}
@@ -11,9 +11,9 @@ use Rattle.octets.specs.Sentences.{pick}
 use Rattle.octets.proofs.Sentences.{conjunct, cases}
 use Rattle.sets.specs.Opening.{Board}
 use Rattle.events.specs.declared.Event.{Event}
-use Rattle.events.specs.declared.Event.the-variants.{StatusEnd, BusReset}
+use Rattle.events.specs.declared.Event.the-variants.{BusReset}
 use Rattle.events.specs.Answer.{numberOf}
-use Rattle.events.specs.Step.{Reply, setupEvent, event}
+use Rattle.events.specs.Step.{setupEvent, event}
 use Rattle.order.specs.Run.{All}
 use Rattle.laws.proofs.Outcomes.{chosen}
 use Rattle.pipes.specs.declared.Turn.{Turn}
@@ -22,10 +22,10 @@ use Rattle.pipes.specs.declared.Wire.the-variants.{Setup, Taken, Received, Rese
 use Rattle.pipes.specs.Transfer.{idle, fits}
 use Rattle.pipes.specs.Image.{transferOf, imageOf, endsInZeros, fitsIn}
 use Rattle.pipes.specs.Turns.{turned}
-use Rattle.pipes.specs.Pipe.{Told, Records, Heard, lengthsOf, moves, onTransfer, unheard, heardAs, heard}
-use Rattle.pipe_runs.specs.Runs.{leaves, Resting, isIdle, isStalled, isSetupPacket, quiet, endsAt, ifEnded, eventsBy, eventsAt, eventsIn, numberAfter, tellsEnd, noEnd}
+use Rattle.pipes.specs.Pipe.{Told, Records, Heard, lengthsOf, moves, onTransfer, heardAs, heard}
+use Rattle.pipe_runs.specs.Runs.{Happening, onWire, beside, leaves, leavesBy, Resting, isIdle, isSetupPacket, quiet, endsAt, ifEnded, eventsBy, eventsAt, eventsIn, numberAfter, noEnd}
 use Rattle.pipe_runs.specs.Promises.{NumbersAreTheLibrarys, NeverForADropped, AtMostOnePerSetup, endsIn, setupsIn}
-use Rattle.pipe_runs.proofs.Resting.{no-end, restsAt, resting-long}
+use Rattle.pipe_runs.proofs.Resting.{no-end, restsAt, resting-long, otherNoEnd}
 use Rattle.pipe_runs.proofs.Ends.{idleThen}
 
 -- ---- numbers
@@ -115,28 +115,28 @@ reset-rests b r e speed q p =
     rw left (chosen Resting (eqb n 0) (λ _. isIdle) (λ _. p))
 
 -- from a pipe at rest as many SETUPs as status ends at least, from any other one less
-module _ (b : Board) (r : Records) (e : Told) (es : List Told)
+module _ (b : Board) (r : Records) (e : Told) (es : List Happening)
     (free : (r : Records) → endsIn (eventsIn b r es) ≤ suc (setupsIn es)) (rest : (r : Records) → Resting (r .pipe) → endsIn (eventsIn b r es) ≤ setupsIn es) where
-  split : endsIn (eventsIn b r (e ∷ es)) ≡ endsIn (eventsAt b r e) + endsIn (eventsIn b (leaves b r e) es)
+  split : endsIn (eventsIn b r (onWire e ∷ es)) ≡ endsIn (eventsAt b r e) + endsIn (eventsIn b (leaves b r e) es)
   split = ends-append (eventsAt b r e) (eventsIn b (leaves b r e) es)
 
-  free-step : endsIn (eventsIn b r (e ∷ es)) ≤ suc (setupsIn (e ∷ es))
+  free-step : endsIn (eventsIn b r (onWire e ∷ es)) ≤ suc (setupsIn (onWire e ∷ es))
   free-step = go (endsAt b r e) refl
     where
-      go : (x : Bool) → endsAt b r e ≡ x → endsIn (eventsIn b r (e ∷ es)) ≤ suc (setupsIn (e ∷ es))
+      go : (x : Bool) → endsAt b r e ≡ x → endsIn (eventsIn b r (onWire e ∷ es)) ≤ suc (setupsIn (onWire e ∷ es))
       go true z = let i = rest (leaves b r e) (rw (idleThen b r e z) isIdle) in let n = at-most-one b r e in rw split (omega arith)
       go false z = let i = free (leaves b r e) in let n = none-in (eventsAt b r e) (neverForADropped b r e z) in rw split (omega arith)
 
-  rest-step : Resting (r .pipe) → endsIn (eventsIn b r (e ∷ es)) ≤ setupsIn (e ∷ es)
+  rest-step : Resting (r .pipe) → endsIn (eventsIn b r (onWire e ∷ es)) ≤ setupsIn (onWire e ∷ es)
   rest-step p = go (e .wire) refl
     where
       none : endsIn (eventsAt b r e) ≡ 0
       none = none-in (eventsAt b r e) (neverForADropped b r e (no-end b (r .image) e (r .pipe) p))
 
-      on : quiet (e .wire) ≡ true → endsIn (eventsIn b r (e ∷ es)) ≤ setupsIn (e ∷ es)
+      on : quiet (e .wire) ≡ true → endsIn (eventsIn b r (onWire e ∷ es)) ≤ setupsIn (onWire e ∷ es)
       on q = let n = none in let i = rest (leaves b r e) (restsAt b r e p q .resting) in rw split (omega arith)
 
-      go : (w : Wire) → e .wire ≡ w → endsIn (eventsIn b r (e ∷ es)) ≤ setupsIn (e ∷ es)
+      go : (w : Wire) → e .wire ≡ w → endsIn (eventsIn b r (onWire e ∷ es)) ≤ setupsIn (onWire e ∷ es)
       go Setup q = let n = none in let i = free (leaves b r e) in let s : pick {A = ℕ} (isSetupPacket (e .wire)) 1 0 ≡ 1 = rw q in rw split (omega arith)
       go (Reset speed) q = let n = none in let i = rest (leaves b r e) (reset-rests b r e speed q p) in rw split (omega arith)
       go Unknown q = on (ap quiet q)
@@ -147,9 +147,12 @@ module _ (b : Board) (r : Records) (e : Told) (es : List Told)
       go Accept q = on (ap quiet q)
       go Refuse q = on (ap quiet q)
 
-counted : (b : Board) (es : List Told) → ((r : Records) → endsIn (eventsIn b r es) ≤ suc (setupsIn es)) × ((r : Records) → Resting (r .pipe) → endsIn (eventsIn b r es) ≤ setupsIn es)
+counted : (b : Board) (es : List Happening) → ((r : Records) → endsIn (eventsIn b r es) ≤ suc (setupsIn es)) × ((r : Records) → Resting (r .pipe) → endsIn (eventsIn b r es) ≤ setupsIn es)
 counted b [] = ((λ r. omega arith), (λ r p. omega arith))
-counted b (e ∷ es) = let (free, rest) = counted b es in ((λ r. free-step b r e es free rest), (λ r p. rest-step b r e es free rest p))
+counted b (beside x ∷ es) =
+    let (free, rest) = counted b es in
+    ((λ r. rw (otherNoEnd x) (let i = free (leavesBy b r (beside x)) in omega arith)), (λ r p. rw (otherNoEnd x) (let i = rest (leavesBy b r (beside x)) p in omega arith)))
+counted b (onWire e ∷ es) = let (free, rest) = counted b es in ((λ r. free-step b r e es free rest), (λ r p. rest-step b r e es free rest p))
 
 pub atMostOnePerSetup : AtMostOnePerSetup
 atMostOnePerSetup b r p es = counted b es .1 r p

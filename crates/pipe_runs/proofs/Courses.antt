@@ -1,6 +1,6 @@
 -- What the host reads is the reply: of a transfer's packets the k-th that is handed over is the cutter's packet k, each once, in order, none after the
 -- last, and all of them were when the host's empty packet is awaited. No axiom.
-use Prim.Native.Nat.{ℕ, zero, suc, _+_, _-_, _*_, _/_, _≤_, _<_}
+use Prim.Native.Nat.{ℕ, zero, suc, _+_, _-_, _/_, _≤_, _<_}
 use native.Mathlib.Omega.{arith}
 use mathlib.Core.Path.{_≡_, refl, sym, ap, subst, _∙_}
 use mathlib.Core.Logic.{_⊎_, inl, inr}
@@ -9,16 +9,15 @@ use mathlib.Core.List.{List, [], _∷_, _++_, map}
 use lib.ListN.{length, take, drop}
 use lib.Seq.{drop-drop, take-take}
 use lib.Dec.{eqb, leb, ltb}
-use borrow.Author.Tests.{eq-eqb, ne-eqb, eqb-true, eqb-false, ltb-true, ltb-false, leb-true, le-leb}
+use borrow.Author.Tests.{eq-eqb, ne-eqb, eqb-true, eqb-false, ltb-false, leb-true, le-leb}
 use Rattle.octets.specs.Octets.{part}
-use Rattle.octets.specs.Sentences.{pick, _⇒_, from}
-use Rattle.octets.proofs.Sentences.{both, either, neither, conjunct, cases}
+use Rattle.octets.specs.Sentences.{pick, from}
+use Rattle.octets.proofs.Sentences.{both, either, neither, conjunct}
 use Rattle.sets.specs.Opening.{Board}
 use Rattle.records.specs.Image.{deviceOf}
 use Rattle.records.specs.Current.{setFor}
-use Rattle.requests.specs.Setup.{setupOf}
 use Rattle.events.specs.declared.Event.the-variants.{Malformed}
-use Rattle.events.specs.Answer.{numberOf, bytesOf}
+use Rattle.events.specs.Answer.{numberOf}
 use Rattle.events.specs.Step.{Reply, event}
 use Rattle.laws.proofs.Outcomes.{chosen}
 use Rattle.promises.specs.Refusals.{refusalEmpty}
@@ -31,17 +30,17 @@ use Rattle.pipes.specs.declared.Transfer.{Transfer}
 use Rattle.pipes.specs.declared.Turn.{Turn}
 use Rattle.pipes.specs.declared.Wire.{Wire}
 use Rattle.pipes.specs.declared.Wire.the-variants.{Setup, Taken, Received, Reset, Reply as Replies, Room, Accept, Refuse, Unknown}
-use Rattle.pipes.specs.Transfer.{idle, stalled, dataIn, statusOut, statusIn, send, await, withStage, withMoved, goodSize, goodReply, goodMoved, blockLength, fits}
+use Rattle.pipes.specs.Transfer.{dataIn, statusOut, statusIn, send, await, withStage, withMoved, goodSize, goodReply, goodMoved, blockLength, fits}
 use Rattle.pipes.specs.Image.{transferOf, imageOf, fitsIn}
-use Rattle.pipes.specs.Turns.{goesOn, stays, stalls, ends, asked, mayReply, sendsReply, mayWrite, receives, mayAccept, sendsStatus, taken, received, replied, roomed, accepted, refused, turned, begun, started, replyAt}
-use Rattle.pipes.specs.Sending.{pieceOf, sends, sent, inBlock, bytesIn}
-use Rattle.pipes.specs.Pipe.{Told, Records, Heard, lengthsOf, packetSize, unheard, begins, moves, onTransfer, heardAs, heard, handsOver}
+use Rattle.pipes.specs.Turns.{goesOn, stays, stalls, ends, asked, mayReply, sendsReply, mayWrite, receives, mayAccept, sendsStatus, taken, received, replied, roomed, accepted, refused, turned}
+use Rattle.pipes.specs.Sending.{pieceOf, sent, inBlock, bytesIn}
+use Rattle.pipes.specs.Pipe.{Told, Records, Heard, lengthsOf, packetSize, unheard, begins, moves, onTransfer, heardAs, heard}
 use Rattle.pipes.proofs.Inverse.{Sized, transfer-image}
 use Rattle.pipes.proofs.Packets.{given, small}
-use Rattle.pipe_runs.proofs.Waiting.{malformedSame}
-use Rattle.pipe_runs.specs.Runs.{leaves, quiet, Resting, isIdle, isStalled}
-use Rattle.pipe_runs.specs.Packets.{sentAt, sentIn, awaitsIn, packetOf, Within}
-use Rattle.pipe_runs.proofs.Resting.{Malforms, with7, with8, with9, malforms, Rests, restsAt}
+use Rattle.pipe_runs.proofs.Waiting.{malformedSame, otherSame}
+use Rattle.pipe_runs.specs.Runs.{Other, otherEvent, Happening, onWire, beside, leaves, leavesBy, quiet, isQuiet, Resting, isIdle, isStalled}
+use Rattle.pipe_runs.specs.Packets.{sentIn, awaitsIn, packetOf, Within}
+use Rattle.pipe_runs.proofs.Resting.{Malforms, with7, with8, with9, malforms, restsAt}
 
 -- ---- the words
 abbrev pub many : Transfer → ℕ
@@ -59,7 +58,7 @@ pub record Fit (l : Lengths) (t : Transfer) : Type 0 where
   pub sized : Sized t
 
 -- what follows packet k of a transfer: so many more packets, each once and in order, none after the last, and all when the empty packet is awaited
-pub record Course (b : Board) (r : Records) (es : List Told) (t : Transfer) (bytes : List ℕ) (k : ℕ) : Type 0 where
+pub record Course (b : Board) (r : Records) (es : List Happening) (t : Transfer) (bytes : List ℕ) (k : ℕ) : Type 0 where
   pub more : ℕ
   pub before-last : k + more < many t
   pub packets : sentIn b r es ≡ map (packetOf bytes (t .asked) (t .size)) (from (suc k) more)
@@ -212,19 +211,20 @@ module _ (b : Board) (image : List ℕ) (e : Told) (t : Transfer) (s : Sized t) 
       go n z with9 = inl (one ∙ rw (refusalEmpty (w .answer) (λ y. absurd (omega arith)) .0, z))
 
 -- ---- nothing goes out any more
-Silent : Board → Records → List Told → Type 0
+Silent : Board → Records → List Happening → Type 0
 Silent b r es = (sentIn b r es ≡ []) × (awaitsIn b r es ≡ false)
 
-silent-then : (b : Board) (r : Records) (e : Told) (es : List Told) → eqb (heard b r e .order) send ≡ false → eqb (heard b r e .order) await ≡ false
-    → Silent b (leaves b r e) es → Silent b r (e ∷ es)
+silent-then : (b : Board) (r : Records) (e : Told) (es : List Happening) → eqb (heard b r e .order) send ≡ false → eqb (heard b r e .order) await ≡ false
+    → Silent b (leaves b r e) es → Silent b r (onWire e ∷ es)
 unfolding Silent
 silent-then b r e es p q (s, t) = (rw p s, rw q t)
 
 -- at rest
-at-rest : (b : Board) (r : Records) (es : List Told) → Resting (r .pipe) → All (λ e. quiet (e .wire) ≡ true) es → Silent b r es
+at-rest : (b : Board) (r : Records) (es : List Happening) → Resting (r .pipe) → All isQuiet es → Silent b r es
 unfolding Silent
 at-rest b r [] p q = (refl, refl)
-at-rest b r (e ∷ es) p (q, qs) =
+at-rest b r (beside x ∷ es) p (q, qs) = at-rest b (leavesBy b r (beside x)) es p qs
+at-rest b r (onWire e ∷ es) p (q, qs) =
     let h = restsAt b r e p q in
     silent-then b r e es (ne-eqb _ _ (h .sendsNothing)) (ne-eqb _ _ (h .awaitsNothing)) (at-rest b (leaves b r e) es (h .resting) qs)
 
@@ -330,13 +330,14 @@ module _ (b : Board) (reply : List ℕ) where
   abbrev pub lens : List ℕ → Lengths
   lens image = lengthsOf b image reply
 
-  all-quiet : (es : List Told) → All (Within reply) es → All (λ e. quiet (e .wire) ≡ true) es
+  all-quiet : (es : List Happening) → All (Within reply) es → All isQuiet es
   all-quiet [] q = tt
-  all-quiet (e ∷ es) (q, qs) = (q .0, all-quiet es qs)
+  all-quiet (onWire e ∷ es) (q, qs) = (q .0, all-quiet es qs)
+  all-quiet (beside x ∷ es) (q, qs) = (tt, all-quiet es qs)
 
   -- after an event that leaves the pipe at rest and orders neither
-  rests-then : (r : Records) (e : Told) (es : List Told) {h : Heard} → heard b r e ≡ h
-      → eqb (h .order) send ≡ false → eqb (h .order) await ≡ false → Resting (h .left .pipe) → All (Within reply) es → Silent b r (e ∷ es)
+  rests-then : (r : Records) (e : Told) (es : List Happening) {h : Heard} → heard b r e ≡ h
+      → eqb (h .order) send ≡ false → eqb (h .order) await ≡ false → Resting (h .left .pipe) → All (Within reply) es → Silent b r (onWire e ∷ es)
   rests-then r e es z p q k qs = silent-then b r e es (rw z p) (rw z q) (at-rest b (leaves b r e) es (subst (λ (x : Heard). Resting (x .left .pipe)) (sym z) k) (all-quiet es qs))
 
   -- a setup that is not 8 bytes leaves the set in use
@@ -349,10 +350,20 @@ module _ (b : Board) (reply : List ℕ) where
     at = λ c. l .at c ∙ ap (λ speed. part (inBlock (b .set) (setFor b speed) (b .serial) reply (t .block)) (t .place) (t .length)) (sym (malformedSame b image .speed));
   }
 
+  -- nor do the other events
+  other-lens : (image : List ℕ) (x : Other) → lens (event b image (otherEvent x) .image) ≡ lens image
+  other-lens image x = ap (λ speed. record { set = length (setFor b speed); serial = length (b .serial); reply = length reply }) (otherSame b image x .speed)
+
+  other-place : (image : List ℕ) (x : Other) (t : Transfer) (bytes : List ℕ) → Lies b image reply t bytes → Lies b (event b image (otherEvent x) .image) reply t bytes
+  other-place image x t bytes l = record {
+    long = l .long;
+    at = λ c. l .at c ∙ ap (λ speed. part (inBlock (b .set) (setFor b speed) (b .serial) reply (t .block)) (t .place) (t .length)) (sym (otherSame b image x .speed));
+  }
+
   -- ---- status out
-  out-step : (e : Told) (es : List Told) (image : List ℕ) (t : Transfer) → t .stage ≡ statusOut → Sized t → fits (lens image) t ≡ true → Within reply e → All (Within reply) es
+  out-step : (e : Told) (es : List Happening) (image : List ℕ) (t : Transfer) → t .stage ≡ statusOut → Sized t → fits (lens image) t ≡ true → Within reply (onWire e) → All (Within reply) es
       → ((image : List ℕ) → fits (lens image) t ≡ true → Silent b (record { image = image; pipe = imageOf t }) es)
-      → Silent b (record { image = image; pipe = imageOf t }) (e ∷ es)
+      → Silent b (record { image = image; pipe = imageOf t }) (onWire e ∷ es)
   out-step e es image t s z f (q, y) qs rec = go (quiet-looks (e .wire) q)
     where
       r : Records
@@ -361,32 +372,33 @@ module _ (b : Board) (reply : List ℕ) where
       f′ : fits (lengthsOf b image (e .reply)) t ≡ true
       f′ = rw y f
 
-      on : (h : Heard) → heard b r e ≡ h → eqb (h .order) send ≡ false → eqb (h .order) await ≡ false → Silent b (h .left) es → Silent b r (e ∷ es)
+      on : (h : Heard) → heard b r e ≡ h → eqb (h .order) send ≡ false → eqb (h .order) await ≡ false → Silent b (h .left) es → Silent b r (onWire e ∷ es)
       on h w p a k = silent-then b r e es (rw w p) (rw w a) (subst (λ (x : Heard). Silent b (x .left) es) (sym w) k)
 
-      turn : (u : Turn) → OutTurn t u → heard b r e ≡ moves b image u → Silent b r (e ∷ es)
+      turn : (u : Turn) → OutTurn t u → heard b r e ≡ moves b image u → Silent b r (onWire e ∷ es)
       turn u same h = on _ h refl refl (rec image f)
       turn u over h = rests-then r e es h refl refl isIdle qs
       turn u wrong h = rests-then r e es h refl refl isStalled qs
 
-      go : (looks (e .wire) ≡ true) ⊎ (e .wire ≡ Unknown) → Silent b r (e ∷ es)
+      go : (looks (e .wire) ≡ true) ⊎ (e .wire ≡ Unknown) → Silent b r (onWire e ∷ es)
       go (inl l) = turn _ (out-turn (length (e .reply)) t s (e .wire)) (hears b image e t z f′ l)
       go (inr u) = bad (malformed b image e t z f′ u)
         where
           bad : (heard b r e ≡ unheard 9 (record { image = event b image Malformed .image; pipe = imageOf t }))
-              ⊎ ((eqb (heard b r e .order) send ≡ false) × (eqb (heard b r e .order) await ≡ false) × Resting (heard b r e .left .pipe)) → Silent b r (e ∷ es)
+              ⊎ ((eqb (heard b r e .order) send ≡ false) × (eqb (heard b r e .order) await ≡ false) × Resting (heard b r e .left .pipe)) → Silent b r (onWire e ∷ es)
           bad (inl h) = on _ h refl refl (rec (event b image Malformed .image) (rw (same-lens image) f))
           bad (inr (p, a, k)) = rests-then r e es refl p a k qs
 
-  out : (es : List Told) (image : List ℕ) (t : Transfer) → t .stage ≡ statusOut → Sized t → fits (lens image) t ≡ true → All (Within reply) es
+  out : (es : List Happening) (image : List ℕ) (t : Transfer) → t .stage ≡ statusOut → Sized t → fits (lens image) t ≡ true → All (Within reply) es
       → Silent b (record { image = image; pipe = imageOf t }) es
   unfolding Silent
   out [] image t s z f q = (refl, refl)
-  out (e ∷ es) image t s z f (q, qs) = out-step e es image t s z f q qs (λ image′ f′. out es image′ t s z f′ qs)
+  out (beside x ∷ es) image t s z f (q, qs) = out es (event b image (otherEvent x) .image) t s z (rw (other-lens image x) f) qs
+  out (onWire e ∷ es) image t s z f (q, qs) = out-step e es image t s z f q qs (λ image′ f′. out es image′ t s z f′ qs)
 
   -- ---- data in
-  module _ (e : Told) (es : List Told) (image : List ℕ) (t : Transfer) (bytes : List ℕ) (k : ℕ) (f : Fit (lens image) (withMoved k t)) (l : k < many t)
-      (y : Lies b image reply t bytes) (q : Within reply e) (qs : All (Within reply) es) where
+  module _ (e : Told) (es : List Happening) (image : List ℕ) (t : Transfer) (bytes : List ℕ) (k : ℕ) (f : Fit (lens image) (withMoved k t)) (l : k < many t)
+      (y : Lies b image reply t bytes) (q : Within reply (onWire e)) (qs : All (Within reply) es) where
     abbrev tk : Transfer
     tk = withMoved k t
 
@@ -396,18 +408,18 @@ module _ (b : Board) (reply : List ℕ) where
     abbrev blocks : List ℕ → Piece → List ℕ
     blocks y p = bytesIn (b .set) (setFor b (deviceOf image .speed)) (b .serial) y p
 
-    finished : Silent b r (e ∷ es) → Course b r (e ∷ es) t bytes k
+    finished : Silent b r (onWire e ∷ es) → Course b r (onWire e ∷ es) t bytes k
     unfolding Silent from
     finished s = record { more = 0; before-last = omega arith; packets = s .0; whole = λ w. absurd (false≢true (sym (s .1) ∙ w)) }
 
     -- an event at which no packet is handed over
-    sent-on : (h : Heard) → heard b r e ≡ h → eqb (h .order) send ≡ false → sentIn b r (e ∷ es) ≡ sentIn b (h .left) es
+    sent-on : (h : Heard) → heard b r e ≡ h → eqb (h .order) send ≡ false → sentIn b r (onWire e ∷ es) ≡ sentIn b (h .left) es
     sent-on h w p = ap (λ (x : Heard). pick (eqb (x .order) send) ((x .bytes ++ blocks (e .reply) (sent (lengthsOf b image (e .reply)) (x .order) (transferOf (x .left .pipe)))) ∷ []) [] ++ sentIn b (x .left) es) w ∙ rw p
 
-    awaits-on : (h : Heard) → heard b r e ≡ h → awaitsIn b r (e ∷ es) ≡ (eqb (h .order) await || awaitsIn b (h .left) es)
+    awaits-on : (h : Heard) → heard b r e ≡ h → awaitsIn b r (onWire e ∷ es) ≡ (eqb (h .order) await || awaitsIn b (h .left) es)
     awaits-on h w = ap (λ (x : Heard). eqb (x .order) await || awaitsIn b (x .left) es) w
 
-    continued : (h : Heard) → heard b r e ≡ h → eqb (h .order) send ≡ false → eqb (h .order) await ≡ false → Course b (h .left) es t bytes k → Course b r (e ∷ es) t bytes k
+    continued : (h : Heard) → heard b r e ≡ h → eqb (h .order) send ≡ false → eqb (h .order) await ≡ false → Course b (h .left) es t bytes k → Course b r (onWire e ∷ es) t bytes k
     continued h w p a c = record {
       more = c .more;
       before-last = c .before-last;
@@ -417,7 +429,7 @@ module _ (b : Board) (reply : List ℕ) where
 
     -- the next packet is handed over
     handed : (h : Heard) → heard b r e ≡ h
-        → sentIn b r (e ∷ es) ≡ pick (eqb (h .order) send) ((h .bytes ++ blocks reply (sent (lens image) (h .order) (transferOf (h .left .pipe)))) ∷ []) [] ++ sentIn b (h .left) es
+        → sentIn b r (onWire e ∷ es) ≡ pick (eqb (h .order) send) ((h .bytes ++ blocks reply (sent (lens image) (h .order) (transferOf (h .left .pipe)))) ∷ []) [] ++ sentIn b (h .left) es
     handed h w =
         ap (λ (x : Heard). pick (eqb (x .order) send) ((x .bytes ++ blocks (e .reply) (sent (lengthsOf b image (e .reply)) (x .order) (transferOf (x .left .pipe)))) ∷ []) [] ++ sentIn b (x .left) es) w
         ∙ ap (λ (z : List ℕ). pick (eqb (h .order) send) ((h .bytes ++ blocks z (sent (lengthsOf b image z) (h .order) (transferOf (h .left .pipe)))) ∷ []) [] ++ sentIn b (h .left) es) (q .1)
@@ -427,7 +439,7 @@ module _ (b : Board) (reply : List ℕ) where
     sends-piece u g c = ap (sent (lens image) send) (transfer-image u (g .sized)) ∙ rw (eq-eqb (u .stage) dataIn (g .stage), c, g .fit)
 
     next-on : suc k < many t → heard b r e ≡ record { number = 0; order = send; bytes = []; left = record { image = image; pipe = imageOf (withMoved (suc k) t) } }
-        → Course b (record { image = image; pipe = imageOf (withMoved (suc k) t) }) es t bytes (suc k) → Fit (lens image) (withMoved (suc k) t) → Course b r (e ∷ es) t bytes k
+        → Course b (record { image = image; pipe = imageOf (withMoved (suc k) t) }) es t bytes (suc k) → Fit (lens image) (withMoved (suc k) t) → Course b r (onWire e ∷ es) t bytes k
     unfolding from
     next-on m h c g = record {
       more = suc (c .more);
@@ -448,7 +460,7 @@ module _ (b : Board) (reply : List ℕ) where
     out-sized : Sized (withStage statusOut tk)
     out-sized = record { place-fits = f .sized .place-fits; length-fits = f .sized .length-fits; asked-fits = f .sized .asked-fits; moved-fits = f .sized .moved-fits }
 
-    last-on : many t ≤ suc k → heard b r e ≡ record { number = 0; order = await; bytes = []; left = record { image = image; pipe = imageOf (withStage statusOut tk) } } → Course b r (e ∷ es) t bytes k
+    last-on : many t ≤ suc k → heard b r e ≡ record { number = 0; order = await; bytes = []; left = record { image = image; pipe = imageOf (withStage statusOut tk) } } → Course b r (onWire e ∷ es) t bytes k
     unfolding Silent from
     last-on m h = record {
       more = 0;
@@ -475,7 +487,7 @@ module _ (b : Board) (reply : List ℕ) where
         go false w = let y = ltb-false m (many t) w in omega arith
 
     step : ((image′ : List ℕ) (k′ : ℕ) → Fit (lens image′) (withMoved k′ t) → k′ < many t → Lies b image′ reply t bytes → Course b (record { image = image′; pipe = imageOf (withMoved k′ t) }) es t bytes k′)
-        → Course b r (e ∷ es) t bytes k
+        → Course b r (onWire e ∷ es) t bytes k
     step rec = go (quiet-looks (e .wire) (q .0))
       where
         plus : k + 1 ≡ suc k
@@ -484,7 +496,7 @@ module _ (b : Board) (reply : List ℕ) where
         f′ : fits (lengthsOf b image (e .reply)) tk ≡ true
         f′ = rw (q .1) (f .fit)
 
-        turn : (u : Turn) → DataTurn tk u → heard b r e ≡ moves b image u → Course b r (e ∷ es) t bytes k
+        turn : (u : Turn) → DataTurn tk u → heard b r e ≡ moves b image u → Course b r (onWire e ∷ es) t bytes k
         turn u (next z) h =
             let (x, small-k) = one-more (k + 1) plus z in
             let g = moved-fits (lens image) tk (suc k) f small-k in
@@ -495,17 +507,20 @@ module _ (b : Board) (reply : List ℕ) where
         turn u wrong h = finished (rests-then r e es h refl refl isStalled qs)
 
         bad : (heard b r e ≡ unheard 9 (record { image = event b image Malformed .image; pipe = imageOf tk }))
-            ⊎ ((eqb (heard b r e .order) send ≡ false) × (eqb (heard b r e .order) await ≡ false) × Resting (heard b r e .left .pipe)) → Course b r (e ∷ es) t bytes k
+            ⊎ ((eqb (heard b r e .order) send ≡ false) × (eqb (heard b r e .order) await ≡ false) × Resting (heard b r e .left .pipe)) → Course b r (onWire e ∷ es) t bytes k
         bad (inl h) = continued _ h refl refl (rec (event b image Malformed .image) k (record { stage = f .stage; fit = rw (same-lens image) (f .fit); sized = f .sized }) l (same-place image t bytes y))
         bad (inr (p, a, z)) = finished (rests-then r e es refl p a z qs)
 
-        go : (looks (e .wire) ≡ true) ⊎ (e .wire ≡ Unknown) → Course b r (e ∷ es) t bytes k
+        go : (looks (e .wire) ≡ true) ⊎ (e .wire ≡ Unknown) → Course b r (onWire e ∷ es) t bytes k
         go (inl w) = turn _ (data-turn (length (e .reply)) tk (f .stage) (e .wire)) (hears b image e tk (f .sized) f′ w)
         go (inr u) = bad (malformed b image e tk (f .sized) f′ u)
 
   -- what follows packet k, in every run without a SETUP and a reset
-  pub course : (es : List Told) (image : List ℕ) (t : Transfer) (bytes : List ℕ) (k : ℕ) → Fit (lens image) (withMoved k t) → k < many t → Lies b image reply t bytes
+  pub course : (es : List Happening) (image : List ℕ) (t : Transfer) (bytes : List ℕ) (k : ℕ) → Fit (lens image) (withMoved k t) → k < many t → Lies b image reply t bytes
       → All (Within reply) es → Course b (record { image = image; pipe = imageOf (withMoved k t) }) es t bytes k
   unfolding from
   course [] image t bytes k f l y q = record { more = 0; before-last = omega arith; packets = refl; whole = λ z. absurd (false≢true z) }
-  course (e ∷ es) image t bytes k f l y (q, qs) = step e es image t bytes k f l y q qs (λ image′ k′ f′ l′ y′. course es image′ t bytes k′ f′ l′ y′ qs)
+  course (beside x ∷ es) image t bytes k f l y (q, qs) =
+      let c = course es (event b image (otherEvent x) .image) t bytes k (record { stage = f .stage; fit = rw (other-lens image x) (f .fit); sized = f .sized }) l (other-place image x t bytes y) qs in
+      record { more = c .more; before-last = c .before-last; packets = c .packets; whole = c .whole }
+  course (onWire e ∷ es) image t bytes k f l y (q, qs) = step e es image t bytes k f l y q qs (λ image′ k′ f′ l′ y′. course es image′ t bytes k′ f′ l′ y′ qs)

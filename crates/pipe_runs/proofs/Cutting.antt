@@ -5,10 +5,10 @@ use native.Mathlib.Nat.{suc-mul, zero-mul}
 use native.Mathlib.Decide.{decLe}
 use mathlib.Core.Path.{_≡_, refl, sym, ap, _∙_}
 use mathlib.Core.Bool.{Bool, true, false}
-use mathlib.Core.List.{List, [], _∷_, _++_, flatMap, map}
+use mathlib.Core.List.{List, [], _∷_, flatMap, map}
 use lib.ListN.{length, take, drop, length-drop}
 use lib.Seq.{take-all, take-add, drop-drop}
-use lib.Dec.{eqb, ltb}
+use lib.Dec.{eqb}
 use borrow.Author.Tests.{lt-ltb, eqb-true}
 use Rattle.octets.specs.Octets.{part}
 use Rattle.octets.specs.Sentences.{pick, from, upTo}

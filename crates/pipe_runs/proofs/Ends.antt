@@ -1,6 +1,5 @@
 -- A status end is told once for each transfer that ended, and never for one that was dropped. No axiom.
 use Prim.Native.Nat.{ℕ, _+_}
-use native.Mathlib.Omega.{arith}
 use mathlib.Core.Path.{_≡_, refl, sym, ap, _∙_}
 use mathlib.Core.Logic.{_⊎_, inl, inr}
 use mathlib.Core.Bool.{Bool, true, false, _||_, false≢true}
@@ -12,21 +11,18 @@ use Rattle.octets.specs.Sentences.{pick}
 use Rattle.octets.proofs.Sentences.{either, conjunct}
 use Rattle.laws.proofs.Outcomes.{chosen}
 use Rattle.sets.specs.Opening.{Board}
-use Rattle.events.specs.declared.Event.{Event}
 use Rattle.events.specs.declared.Event.the-variants.{StatusEnd}
-use Rattle.events.specs.Answer.{numberOf}
-use Rattle.events.specs.Step.{setupEvent, event}
 use Rattle.order.specs.Run.{All}
 use Rattle.packets.specs.Packets.{packet}
 use Rattle.pipes.specs.declared.Transfer.{Transfer}
 use Rattle.pipes.specs.declared.Turn.{Turn}
 use Rattle.pipes.specs.declared.Wire.{Wire}
 use Rattle.pipes.specs.declared.Wire.the-variants.{Setup, Taken, Received, Reset, Reply as Replies, Room, Accept, Refuse, Unknown}
-use Rattle.pipes.specs.Transfer.{idle, dataIn, statusOut, dataOut, statusIn, fits}
+use Rattle.pipes.specs.Transfer.{idle, dataIn, statusOut, dataOut, statusIn}
 use Rattle.pipes.specs.Image.{transferOf, imageOf, fitsIn}
-use Rattle.pipes.specs.Turns.{goesOn, stays, stalls, ends, asked, due, mayReply, sendsReply, mayWrite, receives, mayAccept, sendsStatus, taken, received, replied, roomed, accepted, refused, turned}
-use Rattle.pipes.specs.Pipe.{Told, Records, Heard, lengthsOf, moves, onTransfer, heardAs, heard}
-use Rattle.pipe_runs.specs.Runs.{leaves, after, heardIn, isQuiet, Resting, isIdle, endsAt, ifEnded, eventsBy, eventsAt, eventsIn, noEnd}
+use Rattle.pipes.specs.Turns.{stays, stalls, ends, asked, due, mayReply, sendsReply, mayWrite, receives, mayAccept, sendsStatus, taken, received, replied, roomed, accepted, refused, turned}
+use Rattle.pipes.specs.Pipe.{Told, Records, lengthsOf, onTransfer, heardAs, heard}
+use Rattle.pipe_runs.specs.Runs.{Happening, leaves, isQuiet, isIdle, endsAt, ifEnded, eventsBy, eventsAt, eventsIn, noEnd}
 use Rattle.pipe_runs.specs.Promises.{EndsBy, byTaken, byEmpty}
 use Rattle.pipe_runs.proofs.Resting.{noEndIn}
 
@@ -122,5 +118,5 @@ module _ (b : Board) (r : Records) (e : Told) (ends : endsAt b r e ≡ true) whe
   toldOnce = rw (eq-eqb (length (r .pipe)) 16 long, by-wire-told (e .wire) endsHow) (ap ifEnded ends)
 
   -- and until the next SETUP or reset no other is told
-  pub onceOnly : (es : List Told) → All isQuiet es → All noEnd (eventsIn b (leaves b r e) es)
+  pub onceOnly : (es : List Happening) → All isQuiet es → All noEnd (eventsIn b (leaves b r e) es)
   onceOnly es q = noEndIn b (leaves b r e) es (rw idleThen isIdle) q

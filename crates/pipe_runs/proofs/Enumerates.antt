@@ -1,8 +1,7 @@
 -- Enumeration, packet by packet (PIPE 57): from every record that fits, with whatever sixteen bytes as pipe record, and so after every run from power-on. No axiom.
 use Prim.Native.Nat.{ℕ, _≤_, _<_}
-use native.Mathlib.Omega.{arith}
 use mathlib.Core.Path.{_≡_, refl, sym, ap, subst, _∙_}
-use mathlib.Core.Bool.{Bool, true, false}
+use mathlib.Core.Bool.{true, false}
 use mathlib.Core.List.{List, [], _∷_, _++_, map, flatMap, append-assoc}
 use lib.ListN.{length}
 use lib.Dec.{eqb}
@@ -17,29 +16,26 @@ use Rattle.sets.specs.View.{accepted}
 use Rattle.records.specs.declared.Device.{Device}
 use Rattle.records.specs.Device.{nothing, afterReset, inTestMode, settled}
 use Rattle.records.specs.Image.{deviceOf}
-use Rattle.records.specs.Image as records
 use Rattle.records.specs.Current.{setFor}
 use Rattle.requests.specs.declared.Setup.{Setup}
-use Rattle.events.specs.declared.Answer.{Answer}
 use Rattle.events.specs.declared.Event.{Event}
 use Rattle.events.specs.declared.Event.the-variants.{Request, BusReset}
-use Rattle.events.specs.Answer.{numberOf, gives}
-use Rattle.events.specs.Step.{Reply, replyOf, goodReset, step, event}
+use Rattle.events.specs.Answer.{gives}
+use Rattle.events.specs.Step.{replyOf, goodReset, event}
 use Rattle.order.specs.Run.{All}
 use Rattle.laws.proofs.Outcomes.{chosen}
 use Rattle.promises.specs.Keeps.{FitImage}
 use Rattle.promises.specs.Images.{onImage}
 use Rattle.pipes.specs.declared.Wire.the-variants.{Reset}
 use Rattle.pipes.specs.Transfer as pipes
-use Rattle.pipes.specs.Image.{imageOf}
-use Rattle.pipes.specs.Pipe.{Told, Records, Heard, restarts, heard}
-use Rattle.enumeration.specs.Script.{Seen, Line, line, reading, done, getDescriptor, setAddress, setConfiguration, Ready}
+use Rattle.pipes.specs.Pipe.{Records, restarts, heard}
+use Rattle.enumeration.specs.Script.{Seen, Line, Ready}
 use Rattle.enumeration.specs.Bodies.{configurationBody}
 use Rattle.enumeration.specs.Enumeration.{deviceLines, configurationLines, otherSpeed, otherConfiguration, otherLines, zeroLines, stringLine, stringLines, enumerated}
 use Rattle.enumeration.proofs.Asking.{raw, other-code}
 use Rattle.enumeration.proofs.Playing.{Stays, all-below, all-append, all-map, all-flat}
 use Rattle.enumeration.proofs.Enumerates as enumeration
-use Rattle.pipe_runs.specs.Host.{WireLine, PlaysOnWire, wire, isOver, transferFor, transferOn, transfersOn, configurationsLines, readLines, sizeFor, enumerationOnWire, atRest}
+use Rattle.pipe_runs.specs.Host.{WireLine, PlaysOnWire, wire, transferFor, transferOn, transfersOn, configurationsLines, readLines, sizeFor, enumerationOnWire, atRest}
 use Rattle.pipe_runs.specs.Promises.{EnumeratesAnyhow}
 use Rattle.pipe_runs.proofs.Playing.{playedOut, next}
 use Rattle.pipe_runs.proofs.OnWire.{oneTransfer}

@@ -1,8 +1,8 @@
 -- The promises at work: on the bench set S, on the titrator T and on a pair, so that none is empty. No axiom.
-use Prim.Native.Nat.{ℕ, zero, suc, _≤_, _<_}
+use Prim.Native.Nat.{ℕ, zero, suc}
 use native.Mathlib.Omega.{arith}
 use mathlib.Core.Path.{_≡_, refl, sym, ap, subst, _∙_}
-use mathlib.Core.Bool.{Bool, true, false}
+use mathlib.Core.Bool.{true, false}
 use mathlib.Core.List.{List, [], _∷_, _++_, map}
 use lib.ListN.{take, replicate}
 use borrow.Author.Tests.{ne-eqb}
@@ -24,19 +24,19 @@ use Rattle.promises.specs.Keeps.{FitImage, imageFits}
 use Rattle.promises.specs.Rearranged.{eventsOf, Rearranged}
 use Rattle.promises.specs.Pairs.{pair, acceptedPair, bytesPair}
 use Rattle.pipes.specs.declared.Wire.{Wire}
-use Rattle.pipes.specs.declared.Wire.the-variants.{Setup, Taken, Received, Reset, Reply}
-use Rattle.pipes.specs.Transfer.{idle, send, stall, fits}
-use Rattle.pipes.specs.Image.{transferOf, imageOf, fitsIn}
-use Rattle.pipes.specs.Turns.{taken, received, replied, roomed, accepted, refused, turned}
+use Rattle.pipes.specs.declared.Wire.the-variants.{Taken, Received, Reset, Reply}
+use Rattle.pipes.specs.Transfer.{idle, stall, fits}
+use Rattle.pipes.specs.Image.{transferOf, imageOf}
+use Rattle.pipes.specs.Turns.{taken, received, replied, turned}
 use Rattle.pipes.specs.Sending.{sent}
 use Rattle.pipes.specs.Pipe.{Told, Records, packetSize, heard}
 use Rattle.pipes.proofs.Inverse.{image-length}
 use Rattle.enumeration.specs.Bodies.{configurationBody}
 use Rattle.enumeration.specs.Enumeration.{enumerated}
-use Rattle.pipe_runs.specs.Runs.{leaves, after, heardIn, powerOn, isIdle, aSetup, answeredWith, isQuiet, endsAt, eventsAt, eventsIn, deviceAfter, noEnd, addressIn}
+use Rattle.pipe_runs.specs.Runs.{power, suspend, Happening, onWire, beside, leaves, after, heardIn, powerOn, isIdle, aSetup, answeredWith, isQuiet, endsAt, eventsAt, eventsIn, deviceAfter, noEnd, addressIn}
 use Rattle.pipe_runs.specs.Packets.{sentIn, awaitsIn, replyTo, Within, Begins}
 use Rattle.pipe_runs.specs.Addresses.{Readdresses}
-use Rattle.pipe_runs.specs.Host.{PlaysOnWire, WireLine, wire, aSetupOf, sends, awaits, isOver, enumerationOnWire, atRest}
+use Rattle.pipe_runs.specs.Host.{PlaysOnWire, WireLine, wire, sends, awaits, isOver, enumerationOnWire, atRest}
 use Rattle.pipe_runs.specs.Promises.{requestsIn, ToldOnce, SendsNothing, ran}
 use Rattle.pipe_runs.proofs.Promises.{nothingElseMoves, readsTheReply, readsTheApplications, ownAddress, oncePerTransfer, neverForADropped, orderDoesNotCount, noLockOut, refusedSendsNothing, enumeratesByPackets, neverEight}
 
@@ -97,16 +97,20 @@ device = asks 0x8006000100004000
 abbrev setAddress : Told
 setAddress = asks 0x0005050000000000
 
-abbrev breaksIn : List Told
-breaksIn = device ∷ wire Taken ∷ setAddress ∷ []
+-- a run of the pipe's events alone
+abbrev runs : List Told → List Happening
+runs es = map onWire es
+
+abbrev breaksIn : List Happening
+breaksIn = runs (device ∷ wire Taken ∷ setAddress ∷ [])
 
 -- 2: its library events, and so its device record
-pub eventsS : eventsIn S powerOn (breaksIn ++ wire Taken ∷ []) ≡ setup 0x8006000100004000 ∷ setup 0x0005050000000000 ∷ StatusEnd ∷ []
+pub eventsS : eventsIn S powerOn (breaksIn ++ onWire (wire Taken) ∷ []) ≡ setup 0x8006000100004000 ∷ setup 0x0005050000000000 ∷ StatusEnd ∷ []
 unfolding computed heard transferOf imageOf fits turned taken
 eventsS = refl
 
-pub movesS : after S powerOn (breaksIn ++ wire Taken ∷ []) .image ≡ deviceAfter S (powerOn .image) (setup 0x8006000100004000 ∷ setup 0x0005050000000000 ∷ StatusEnd ∷ [])
-movesS = nothingElseMoves S powerOn (breaksIn ++ wire Taken ∷ []) ∙ ap (deviceAfter S (powerOn .image)) eventsS
+pub movesS : after S powerOn (breaksIn ++ onWire (wire Taken) ∷ []) .image ≡ deviceAfter S (powerOn .image) (setup 0x8006000100004000 ∷ setup 0x0005050000000000 ∷ StatusEnd ∷ [])
+movesS = nothingElseMoves S powerOn (breaksIn ++ onWire (wire Taken) ∷ []) ∙ ap (deviceAfter S (powerOn .image)) eventsS
 
 -- 3: the device descriptor, whose 18 bytes are three packets of 8, taken once, and wholly
 deviceBytes : Bytes (bytes 8 0x8006000100004000)
@@ -117,22 +121,22 @@ deviceDone : answeredWith S (powerOn .image) (bytes 8 0x8006000100004000) ≡ 0
 unfolding computed
 deviceDone = refl
 
-pub readsS : (es : List Told) → All (Within []) es → Begins S powerOn (device ∷ es) (replyTo S (powerOn .image) (bytes 8 0x8006000100004000)) 64 (packetSize S (powerOn .image))
+pub readsS : (es : List Happening) → All (Within []) es → Begins S powerOn (onWire device ∷ es) (replyTo S (powerOn .image) (bytes 8 0x8006000100004000)) 64 (packetSize S (powerOn .image))
 readsS es q = readsTheReply S powerOn (bytes 8 0x8006000100004000) [] (image-length idle) refl deviceBytes deviceDone (λ z. omega arith) es q
 
-pub sentS : sentIn S powerOn (device ∷ wire Taken ∷ wire Taken ∷ wire Taken ∷ []) ≡ bytes 8 0x12010002FF000008 ∷ bytes 8 0x3412785600010000 ∷ bytes 2 0x0001 ∷ []
+pub sentS : sentIn S powerOn (runs (device ∷ wire Taken ∷ wire Taken ∷ wire Taken ∷ [])) ≡ bytes 8 0x12010002FF000008 ∷ bytes 8 0x3412785600010000 ∷ bytes 2 0x0001 ∷ []
 unfolding computed heard transferOf imageOf fits turned taken sent
 sentS = refl
 
 -- 4: the address is taken at the end, and not before; a SET_ADDRESS that is dropped leaves it
-pub addressS : (addressIn (after S powerOn breaksIn .image) ≡ 0) × (addressIn (after S powerOn (breaksIn ++ wire Taken ∷ []) .image) ≡ 5)
+pub addressS : (addressIn (after S powerOn breaksIn .image) ≡ 0) × (addressIn (after S powerOn (breaksIn ++ onWire (wire Taken) ∷ []) .image) ≡ 5)
 unfolding computed heard transferOf imageOf fits turned taken
 addressS = (refl, refl)
 
-pub ownS : Readdresses S (after S powerOn breaksIn) (wire Taken)
-ownS = ownAddress S powerOn isIdle breaksIn (wire Taken)
+pub ownS : Readdresses S (after S powerOn breaksIn) (onWire (wire Taken))
+ownS = ownAddress S powerOn isIdle breaksIn (onWire (wire Taken))
 
-pub droppedS : addressIn (after S powerOn (setAddress ∷ asks 0x8006000100000800 ∷ wire Taken ∷ wire (Received 0) ∷ []) .image) ≡ 0
+pub droppedS : addressIn (after S powerOn (runs (setAddress ∷ asks 0x8006000100000800 ∷ wire Taken ∷ wire (Received 0) ∷ [])) .image) ≡ 0
 unfolding computed heard transferOf imageOf fits turned taken received
 droppedS = refl
 
@@ -144,12 +148,12 @@ endsS = refl
 pub onceS : ToldOnce S (after S powerOn breaksIn) (wire Taken)
 onceS = oncePerTransfer S (after S powerOn breaksIn) (wire Taken) endsS
 
-goesOnS : endsAt S (after S powerOn (device ∷ wire Taken ∷ [])) setAddress ≡ false
+goesOnS : endsAt S (after S powerOn (runs (device ∷ wire Taken ∷ []))) setAddress ≡ false
 unfolding computed heard transferOf imageOf fits turned taken
 goesOnS = refl
 
-pub dropS : All noEnd (eventsAt S (after S powerOn (device ∷ wire Taken ∷ [])) setAddress)
-dropS = neverForADropped S (after S powerOn (device ∷ wire Taken ∷ [])) setAddress goesOnS
+pub dropS : All noEnd (eventsAt S (after S powerOn (runs (device ∷ wire Taken ∷ []))) setAddress)
+dropS = neverForADropped S (after S powerOn (runs (device ∷ wire Taken ∷ []))) setAddress goesOnS
 
 -- 6: sixteen bytes of A5
 pub lockedS : heard S (record { image = powerOn .image; pipe = replicate 16 0xA5 }) device ≡ heard S powerOn device
@@ -161,7 +165,7 @@ unfolding computed
 refusedS = refl
 
 pub stallsS : (heard S powerOn (asks 0x8006000900004000) .order ≡ stall)
-    × ((es : List Told) → All isQuiet es → All SendsNothing (heardIn S (leaves S powerOn (asks 0x8006000900004000)) es))
+    × ((es : List Happening) → All isQuiet es → All SendsNothing (heardIn S (leaves S powerOn (asks 0x8006000900004000)) es))
 stallsS = refusedSendsNothing S powerOn (bytes 8 0x8006000900004000) [] (image-length idle) refl (λ z. omega (arith, refusedS)) (λ z. omega (arith, refusedS))
 
 -- ---- the application's reply: a vendor's request for 20 bytes, of which it has 12; then the host's empty packet ends the transfer, and no event got 8
@@ -174,15 +178,16 @@ reply = bytes 12 0x0102030405060708090A0B0C
 abbrev lends : Wire → Told
 lends w = record { wire = w; setup = []; reply = reply }
 
-abbrev answered : List Told
-answered = vendor ∷ lends Reply ∷ lends Taken ∷ lends Taken ∷ []
+-- while it goes out the board tells its power source, and is suspended
+abbrev answered : List Happening
+answered = onWire vendor ∷ onWire (lends Reply) ∷ beside (power 1) ∷ onWire (lends Taken) ∷ beside suspend ∷ onWire (lends Taken) ∷ []
 
 pub sentByApplication : (sentIn S powerOn answered ≡ bytes 8 0x0102030405060708 ∷ bytes 4 0x090A0B0C ∷ []) × (awaitsIn S powerOn answered ≡ true)
 unfolding computed heard transferOf imageOf fits turned taken replied sent
 sentByApplication = (refl, refl)
 
 -- the pipe record in which it is asked
-asksS : after S powerOn (vendor ∷ []) .pipe ≡ 1 ∷ 0 ∷ 0 ∷ 0 ∷ 0 ∷ 0 ∷ 20 ∷ 0 ∷ 0 ∷ 0 ∷ 8 ∷ 1 ∷ 0 ∷ 0 ∷ 0 ∷ 0 ∷ []
+asksS : after S powerOn (runs (vendor ∷ [])) .pipe ≡ 1 ∷ 0 ∷ 0 ∷ 0 ∷ 0 ∷ 0 ∷ 20 ∷ 0 ∷ 0 ∷ 0 ∷ 8 ∷ 1 ∷ 0 ∷ 0 ∷ 0 ∷ 0 ∷ []
 unfolding computed heard transferOf imageOf
 asksS = refl
 
@@ -190,12 +195,12 @@ askingBytes : Bytes (1 ∷ 0 ∷ 0 ∷ 0 ∷ 0 ∷ 0 ∷ 20 ∷ 0 ∷ 0 ∷ 0 �
 unfolding computed
 askingBytes = octets (1 ∷ 0 ∷ 0 ∷ 0 ∷ 0 ∷ 0 ∷ 20 ∷ 0 ∷ 0 ∷ 0 ∷ 8 ∷ 1 ∷ 0 ∷ 0 ∷ 0 ∷ 0 ∷ []) refl
 
-askedBytes : Bytes (after S powerOn (vendor ∷ []) .pipe)
+askedBytes : Bytes (after S powerOn (runs (vendor ∷ [])) .pipe)
 askedBytes = subst Bytes (sym asksS) askingBytes
 
-pub applicationS : (es : List Told) → All (Within reply) es → Begins S (after S powerOn (vendor ∷ [])) (lends Reply ∷ es) (take 20 reply) 20 8
+pub applicationS : (es : List Happening) → All (Within reply) es → Begins S (after S powerOn (runs (vendor ∷ []))) (onWire (lends Reply) ∷ es) (take 20 reply) 20 8
 unfolding computed heard transferOf imageOf fits
-applicationS es q = readsTheApplications S (after S powerOn (vendor ∷ [])) reply askedBytes refl refl es q
+applicationS es q = readsTheApplications S (after S powerOn (runs (vendor ∷ []))) reply askedBytes refl refl es q
 
 vendorBytes : Bytes (bytes 8 0xC001000000001400)
 unfolding computed
@@ -217,11 +222,11 @@ haltIn = 0x0203000081000000
 abbrev atT : Records
 atT = atRest configured
 
-abbrev oneOrder : List Told
-oneOrder = asks settingOne ∷ wire Taken ∷ asks haltIn ∷ wire Taken ∷ []
+abbrev oneOrder : List Happening
+oneOrder = runs (asks settingOne ∷ wire Taken ∷ asks haltIn ∷ wire Taken ∷ [])
 
-abbrev otherOrder : List Told
-otherOrder = asks haltIn ∷ wire Taken ∷ asks settingOne ∷ wire Taken ∷ []
+abbrev otherOrder : List Happening
+otherOrder = runs (asks haltIn ∷ wire Taken ∷ asks settingOne ∷ wire Taken ∷ [])
 
 oneRequests : requestsIn T atT oneOrder ≡ setup settingOne ∷ setup haltIn ∷ []
 unfolding computed heard transferOf imageOf fits turned taken

@@ -1,16 +1,16 @@
 -- A pipe record that a run from a pipe at rest leaves fits, where the application's reply is lent while it goes out: so no event gets 8 for it. No axiom.
-use Prim.Native.Nat.{ℕ, _+_, _-_, _≤_, _<_, min}
+use Prim.Native.Nat.{ℕ, _+_, _≤_, _<_, min}
 use native.Mathlib.Omega.{arith}
 use mathlib.Core.Path.{_≡_, refl, sym, ap, subst, _∙_}
 use mathlib.Core.Logic.{_⊎_, inl, inr}
-use mathlib.Core.Bool.{Bool, true, false, _&&_, _||_, not, false≢true}
+use mathlib.Core.Bool.{Bool, true, false, _&&_, _||_, not}
 use mathlib.Core.List.{List, [], _∷_}
 use lib.ListN.{length}
 use lib.Dec.{eqb, leb, ltb}
-use borrow.Author.Tests.{eq-eqb, ne-eqb, eqb-true, eqb-false, leb-true, le-leb, ltb-true, ltb-false}
+use borrow.Author.Tests.{eq-eqb, ne-eqb, eqb-true, eqb-false, leb-true, le-leb}
 use Rattle.octets.specs.Octets.{Bytes}
-use Rattle.octets.specs.Sentences.{pick, _⇒_}
-use Rattle.octets.proofs.Sentences.{both, either, neither, conjunct, cases, if-then, or-left}
+use Rattle.octets.specs.Sentences.{pick}
+use Rattle.octets.proofs.Sentences.{either, conjunct, cases, if-then, or-left}
 use Rattle.sets.specs.Opening.{Board}
 use Rattle.sets.specs.View.{accepted}
 use Rattle.records.specs.Image.{deviceOf}
@@ -27,18 +27,18 @@ use Rattle.pipes.specs.declared.Transfer.{Transfer}
 use Rattle.pipes.specs.declared.Turn.{Turn}
 use Rattle.pipes.specs.declared.Wire.{Wire}
 use Rattle.pipes.specs.declared.Wire.the-variants.{Setup as ASetup, Taken, Received, Reset, Reply as Replies, Room, Accept, Refuse, Unknown}
-use Rattle.pipes.specs.Transfer.{idle, stalled, askingSetup, dataIn, statusOut, dataOut, askingBytes, statusIn, inReply, send, await, receive, ask, withStage, withMoved, withReply, goodSize, goodReply, goodMoved, fits}
+use Rattle.pipes.specs.Transfer.{idle, stalled, askingSetup, dataIn, statusOut, dataOut, askingBytes, statusIn, inReply, send, await, receive, ask, withStage, withMoved, goodSize, goodReply, goodMoved, fits}
 use Rattle.pipes.specs.Image.{transferOf, imageOf, fitsIn}
 use Rattle.pipes.specs.Turns.{goesOn, stays, stalls, ends, asked, due, mayReply, sendsReply, mayWrite, receives, mayAccept, sendsStatus, taken, received, replied, roomed, accepted as accepts, refused, turned, begun, started, replyAt}
 use Rattle.pipes.specs.Pipe.{Told, Records, Heard, lengthsOf, packetSize, begins, moves, heard, heardAs}
 use Rattle.pipes.proofs.Inverse.{Sized, transfer-image}
 use Rattle.pipes.proofs.Packets.{small}
-use Rattle.pipe_runs.specs.Runs.{leaves, after, Resting, isIdle, isStalled, aSetup}
+use Rattle.pipe_runs.specs.Runs.{Other, otherEvent, Happening, onWire, beside, leaves, leavesBy, after, Resting, isIdle, isStalled, aSetup}
 use Rattle.pipe_runs.specs.Promises.{Lent, AllLent, AlwaysFits}
 use Rattle.pipe_runs.proofs.Resting.{Malforms, with7, with8, with9, malforms}
 use Rattle.pipe_runs.proofs.Setups.{begun-by}
-use Rattle.pipe_runs.proofs.Waiting.{setupLeaves, malformedSame, resetSame}
-use Rattle.pipe_runs.proofs.Courses.{Fit, looks, record-fits, hears}
+use Rattle.pipe_runs.proofs.Waiting.{setupLeaves, malformedSame, resetSame, otherSame}
+use Rattle.pipe_runs.proofs.Courses.{looks, record-fits, hears}
 use Rattle.pipe_runs.proofs.Starts.{acceptedFits}
 
 -- ---- what becomes of a transfer at an event: it stays, ends, stalls, goes on in another stage or with more moved, or sends the application's reply
@@ -330,10 +330,20 @@ module _ (b : Board) (r : Records) (e : Told) (k : Kept b r) (lent : Lent r e) w
       go Accept q = looked-kept (ap looks q)
       go Refuse q = looked-kept (ap looks q)
 
+-- ---- an event beside the pipe
+beside-kept : (b : Board) (r : Records) (x : Other) → Kept b r → Kept b (leavesBy b r (beside x))
+beside-kept b r x k = record {
+  transfer = k .transfer;
+  is = k .is;
+  sized = k .sized;
+  holds = same-set b (r .image) (event b (r .image) (otherEvent x) .image) (k .transfer) (otherSame b (r .image) x .speed) (k .holds);
+}
+
 -- ---- a run
-kept-in : (b : Board) (r : Records) (es : List Told) → Kept b r → AllLent b r es → Kept b (after b r es)
+kept-in : (b : Board) (r : Records) (es : List Happening) → Kept b r → AllLent b r es → Kept b (after b r es)
 kept-in b r [] k l = k
-kept-in b r (e ∷ es) k (lent, octets, rest) = kept-in b (leaves b r e) es (kept b r e k lent octets) rest
+kept-in b r (beside x ∷ es) k l = kept-in b (leavesBy b r (beside x)) es (beside-kept b r x k) l
+kept-in b r (onWire e ∷ es) k (lent, octets, rest) = kept-in b (leaves b r e) es (kept b r e k lent octets) rest
 
 pub alwaysFits : AlwaysFits
 alwaysFits b r rests es lent e now = record-fits-now b (after b r es) e (kept-in b r es (resting-kept b (r .image) (r .pipe) rests) lent) now

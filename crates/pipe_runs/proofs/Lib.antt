@@ -5,9 +5,9 @@ pub mod Ends
 pub mod Waiting
 pub mod Addresses
 pub mod Courses
+pub mod Cutting
 pub mod Starts
 pub mod Keeping
-pub mod Cutting
 pub mod Replies
 pub mod Applications
 pub mod Playing

@@ -1,5 +1,4 @@
 -- Nothing else moves the device: the device record after a run of pipe events is that of the library's own events. No axiom.
-use Prim.Native.Nat.{ℕ}
 use mathlib.Core.Path.{_≡_, refl, sym, ap, _∙_}
 use mathlib.Core.Bool.{Bool, true, false}
 use mathlib.Core.List.{List, [], _∷_, _++_}
@@ -7,10 +6,7 @@ use lib.ListN.{length}
 use lib.Dec.{eqb}
 use Rattle.octets.specs.Sentences.{pick}
 use Rattle.sets.specs.Opening.{Board}
-use Rattle.events.specs.declared.Event.{Event}
-use Rattle.events.specs.Answer.{numberOf}
-use Rattle.events.specs.declared.Event.the-variants.{Malformed, StatusEnd, BusReset}
-use Rattle.events.specs.Step.{Reply, setupEvent, event}
+use Rattle.events.specs.Step.{event}
 use Rattle.order.specs.Run.{run}
 use Rattle.pipes.specs.declared.Turn.{Turn}
 use Rattle.pipes.specs.declared.Wire.{Wire}
@@ -18,7 +14,7 @@ use Rattle.pipes.specs.declared.Wire.the-variants.{Setup, Taken, Received, Rese
 use Rattle.pipes.specs.Image.{transferOf, fitsIn}
 use Rattle.pipes.specs.Turns.{turned}
 use Rattle.pipes.specs.Pipe.{Told, Records, unheard, moves, lengthsOf, onTransfer, heardAs, heard}
-use Rattle.pipe_runs.specs.Runs.{leaves, after, endsAt, ifEnded, eventsBy, eventsAt, eventsIn, deviceAfter}
+use Rattle.pipe_runs.specs.Runs.{Happening, onWire, beside, leaves, leavesBy, after, endsAt, ifEnded, eventsBy, eventsAt, eventsIn, deviceAfter}
 
 -- ---- one event
 module _ (b : Board) (r : Records) (e : Told) where
@@ -62,8 +58,9 @@ run-append next r [] ys = refl
 run-append next r (x ∷ xs) ys = run-append next (next r x) xs ys
 
 -- "The device record after a run is that of the library's own events"
-pub nothingElseMoves : (b : Board) (r : Records) (es : List Told) → after b r es .image ≡ deviceAfter b (r .image) (eventsIn b r es)
+pub nothingElseMoves : (b : Board) (r : Records) (es : List Happening) → after b r es .image ≡ deviceAfter b (r .image) (eventsIn b r es)
 nothingElseMoves b r [] = refl
-nothingElseMoves b r (e ∷ es) =
+nothingElseMoves b r (beside x ∷ es) = nothingElseMoves b (leavesBy b r (beside x)) es
+nothingElseMoves b r (onWire e ∷ es) =
     nothingElseMoves b (leaves b r e) es ∙ ap (λ image. deviceAfter b image (eventsIn b (leaves b r e) es)) (moved b r e)
     ∙ sym (run-append (λ image x. event b image x .image) (r .image) (eventsAt b r e) (eventsIn b (leaves b r e) es))

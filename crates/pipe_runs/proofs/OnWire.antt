@@ -2,28 +2,25 @@
 use Prim.Native.Nat.{ℕ, zero, suc, _+_, _-_, _*_, _/_, _%_, _≤_, _<_}
 use native.Mathlib.Omega.{arith}
 use mathlib.Core.Path.{_≡_, refl, sym, ap, subst, _∙_}
-use mathlib.Core.Bool.{Bool, true, false, _&&_, _||_}
-use mathlib.Core.List.{List, [], _∷_, _++_, map, flatMap, append-assoc}
+use mathlib.Core.Bool.{Bool, true, false, _&&_}
+use mathlib.Core.List.{List, [], _∷_, _++_, map}
 use lib.ListN.{length}
-use lib.Dec.{eqb, leb, ltb}
-use borrow.Author.Tests.{eq-eqb, eqb-true, eqb-false, lt-ltb, leb-true}
+use lib.Dec.{eqb, leb}
+use borrow.Author.Tests.{eqb-true, eqb-false, lt-ltb, leb-true}
 use Rattle.octets.specs.Octets.{Bytes}
 use Rattle.octets.specs.Sentences.{pick, from, every, isSome}
 use Rattle.octets.proofs.Sentences.{cases, conjunct, every-member}
-use Rattle.sets.specs.Device.{deviceBody, bMaxPacketSize0}
 use Rattle.sets.specs.Opening.{Board, BytesOf}
 use Rattle.sets.specs.View.{accepted}
 use Rattle.records.specs.declared.Device.{Device}
 use Rattle.records.specs.Device.{Sized}
 use Rattle.records.specs.Image.{deviceOf}
 use Rattle.records.specs.Image as records
-use Rattle.records.specs.Current.{setFor}
 use Rattle.requests.specs.declared.Setup.{Setup}
 use Rattle.requests.specs.declared.Row.{Row}
 use Rattle.requests.specs.Setup.{setupOf}
-use Rattle.requests.specs.Table.{largestIndex, fieldsFit, refusal}
+use Rattle.requests.specs.Table.{largestIndex, refusal}
 use Rattle.events.specs.declared.Answer.{Answer}
-use Rattle.events.specs.declared.Event.{Event}
 use Rattle.events.specs.declared.Event.the-variants.{Request, StatusEnd}
 use Rattle.events.specs.declared.Outcome.{Outcome}
 use Rattle.events.specs.Answer.{numberOf, gives, done}
@@ -35,14 +32,14 @@ use Rattle.pipes.specs.declared.Transfer.{Transfer}
 use Rattle.pipes.specs.Transfer.{idle, send, statusIn, withStage, fits}
 use Rattle.pipes.specs.Image.{transferOf, imageOf}
 use Rattle.pipes.specs.Sending.{sent}
-use Rattle.pipes.specs.Pipe.{Told, Records, Heard, lengthsOf, packetSize, heard}
+use Rattle.pipes.specs.Pipe.{Records, Heard, lengthsOf, packetSize, heard}
 use Rattle.pipes.proofs.Packets.{small}
 use Rattle.pipes.proofs.Inverse as pipe
 use Rattle.enumeration.specs.Script.{Ready}
 use Rattle.pipe_runs.specs.Runs.{answeredWith}
 use Rattle.pipe_runs.specs.Packets.{packetAt, packetOf, packetsOf, given, replyTo}
-use Rattle.pipe_runs.specs.Host.{Shown, WireLine, PlaysOnWire, setupBytes, aSetupOf, sends, withoutData, takesNext, takesLast, inPackets, transferFor, sizeFor, atRest}
-use Rattle.pipe_runs.proofs.Courses.{Fit, Lies, many, next-number}
+use Rattle.pipe_runs.specs.Host.{WireLine, PlaysOnWire, setupBytes, aSetupOf, sends, withoutData, takesNext, takesLast, inPackets, transferFor, sizeFor, atRest}
+use Rattle.pipe_runs.proofs.Courses.{Fit, many, next-number}
 use Rattle.pipe_runs.proofs.Replies as replies
 use Rattle.pipe_runs.proofs.Playing.{next, Ending, takesStatus, takes}
 

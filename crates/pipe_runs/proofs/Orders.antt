@@ -1,11 +1,9 @@
 -- Demand 3 from packet to packet: in Configured, with nothing waiting, a status end changes nothing, so that the order of setups that concern different interfaces does not count.
 -- No axiom.
-use Prim.Native.Nat.{ℕ, suc}
-use mathlib.Core.Path.{_≡_, refl, sym, ap, subst, _∙_}
+use Prim.Native.Nat.{ℕ}
+use mathlib.Core.Path.{_≡_, refl, sym, ap, _∙_}
 use mathlib.Core.Bool.{Bool, true, false, not, false≢true}
 use mathlib.Core.List.{List, [], _∷_}
-use lib.ListN.{length}
-use lib.Dec.{eqb}
 use borrow.Author.Tests.{eq-eqb}
 use Rattle.octets.specs.Sentences.{pick, every, only, isSome}
 use Rattle.octets.proofs.Sentences.{both, joined, every-alike}
@@ -13,19 +11,17 @@ use Rattle.sets.specs.Opening.{Board, BytesOf}
 use Rattle.sets.specs.View.{accepted}
 use Rattle.records.specs.declared.Device.{Device}
 use Rattle.records.specs.Device.{nothing}
-use Rattle.records.specs.Image.{deviceOf, imageOf}
+use Rattle.records.specs.Image.{deviceOf}
 use Rattle.events.specs.declared.Event.{Event}
 use Rattle.events.specs.declared.Event.the-variants.{Request, Malformed, StatusEnd, BusReset, Halt, PacketPassed, Power, Suspend, Resume, Wake}
 use Rattle.events.specs.Answer.{done}
-use Rattle.events.specs.Concerns.{concernsOn}
 use Rattle.events.specs.Step.{Reply, replyOf, statusEnd, step, event}
 use Rattle.laws.specs.Parts.{Settling, keeps, settles, wakes, rest, owned, kind, settle}
 use Rattle.promises.specs.Keeps.{FitImage, eventFits}
 use Rattle.promises.specs.Images.{onImage, leavesAs}
 use Rattle.promises.specs.Order.{stepLocality, concernsThroughout, orderImages}
-use Rattle.promises.specs.Rearranged.{Concerned, Rearranged, answerOf, imageAfter}
-use Rattle.pipes.specs.Pipe.{Told, Records}
-use Rattle.pipe_runs.specs.Runs.{after, eventsIn, deviceAfter, tellsEnd, waitingIn}
+use Rattle.promises.specs.Rearranged.{Concerned, answerOf, imageAfter}
+use Rattle.pipe_runs.specs.Runs.{eventsIn, deviceAfter, tellsEnd, waitingIn}
 use Rattle.pipe_runs.specs.Promises.{requestsIn, OrderDoesNotCount}
 use Rattle.pipe_runs.proofs.Moves.{nothingElseMoves}
 

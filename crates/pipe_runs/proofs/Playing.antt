@@ -1,8 +1,8 @@
 -- A transfer on the wire, packet by packet: from idle to idle, with the status end at its end. No axiom.
-use Prim.Native.Nat.{ℕ, zero, suc, _+_, _-_, _*_, _/_, _%_, _≤_, _<_}
+use Prim.Native.Nat.{ℕ, zero, suc, _+_, _≤_, _<_}
 use native.Mathlib.Omega.{arith}
-use mathlib.Core.Path.{_≡_, refl, sym, ap, subst, _∙_}
-use mathlib.Core.Bool.{Bool, true, false, _&&_, _||_}
+use mathlib.Core.Path.{_≡_, refl, ap, _∙_}
+use mathlib.Core.Bool.{Bool, true, false}
 use mathlib.Core.List.{List, [], _∷_, _++_, map}
 use lib.ListN.{length}
 use lib.Dec.{eqb, leb, ltb}
@@ -11,15 +11,13 @@ use Rattle.octets.specs.Sentences.{pick, from}
 use Rattle.sets.specs.Opening.{Board}
 use Rattle.records.specs.Image.{deviceOf}
 use Rattle.records.specs.Current.{setFor}
-use Rattle.events.specs.declared.Answer.{Answer}
 use Rattle.events.specs.declared.Event.the-variants.{StatusEnd}
 use Rattle.events.specs.Answer.{numberOf}
-use Rattle.events.specs.Step.{Reply, event}
-use Rattle.order.specs.Run.{log}
-use Rattle.packets.specs.Packets.{count, canCut, packet}
+use Rattle.events.specs.Step.{event}
+use Rattle.order.specs.Run.{run, log}
+use Rattle.packets.specs.Packets.{packet}
 use Rattle.pipes.specs.declared.Lengths.{Lengths}
 use Rattle.pipes.specs.declared.Transfer.{Transfer}
-use Rattle.pipes.specs.declared.Turn.{Turn}
 use Rattle.pipes.specs.declared.Wire.{Wire}
 use Rattle.pipes.specs.declared.Wire.the-variants.{Taken, Received}
 use Rattle.pipes.specs.Transfer.{idle, nothing, send, await, dataIn, statusOut, statusIn, withStage, withMoved, fits}
@@ -28,9 +26,8 @@ use Rattle.pipes.specs.Turns.{goesOn, ends, taken, received, turned}
 use Rattle.pipes.specs.Sending.{sent, pieceOf, bytesIn}
 use Rattle.pipes.specs.Pipe.{Told, Records, Heard, lengthsOf, moves, heard}
 use Rattle.pipes.proofs.Inverse.{Sized, transfer-image}
-use Rattle.pipe_runs.specs.Runs.{leaves, after}
-use Rattle.pipe_runs.specs.Packets.{packetOf}
-use Rattle.pipe_runs.specs.Host.{Shown, shows, WireLine, tells, PlaysOnWire, wire, sends, awaits, isOver, takesNext, takesLast}
+use Rattle.pipe_runs.specs.Runs.{leaves}
+use Rattle.pipe_runs.specs.Host.{Shown, shows, WireLine, tells, PlaysOnWire, wire, sends, isOver, takesNext, takesLast}
 use Rattle.pipe_runs.proofs.Courses.{Fit, Lies, many, cuttable, next-number, in-a-block, moved-fits, piece-bytes, hears}
 
 -- ---- one line more, before the others
@@ -51,7 +48,7 @@ next {b} {last} {s} {rest} r e h p q c = record {
   shown =
       ap (λ (x : Heard). (e, shownBy b (r .image) e x) ∷ log (shows b) (leaves b) (x .left) (tells rest)) p
       ∙ ap (λ (x : Shown). (e, x) ∷ log (shows b) (leaves b) (h .left) (tells rest)) q ∙ ap (λ (l : List WireLine). (e, s) ∷ l) (c .shown);
-  ends = ap (λ (x : Heard). after b (x .left) (tells rest)) p ∙ c .ends;
+  ends = ap (λ (x : Heard). run (leaves b) (x .left) (tells rest)) p ∙ c .ends;
 }
 
 -- ---- the status end: what it leaves of a device record

@@ -1,18 +1,17 @@
 -- The promises of the pipe (specs/Promises), proved. No axiom.
 use Prim.Native.Nat.{ℕ}
 use native.Mathlib.Omega.{arith}
-use mathlib.Core.Path.{_≡_, refl, sym, ap, subst, _∙_}
-use mathlib.Core.Bool.{Bool, true, false}
+use mathlib.Core.Path.{_≡_, refl, sym, subst, _∙_}
+use mathlib.Core.Bool.{true}
 use mathlib.Core.List.{List, [], _∷_}
 use lib.ListN.{length}
 use lib.Dec.{eqb}
 use borrow.Author.Tests.{eq-eqb}
-use Rattle.octets.specs.Sentences.{pick}
 use Rattle.sets.specs.Opening.{Board, BytesOf}
 use Rattle.sets.specs.View.{accepted}
 use Rattle.records.specs.Device.{fresh}
 use Rattle.events.specs.declared.Event.{Event}
-use Rattle.events.specs.declared.Event.the-variants.{Malformed, StatusEnd, BusReset}
+use Rattle.events.specs.declared.Event.the-variants.{Malformed, BusReset}
 use Rattle.events.specs.Answer.{numberOf}
 use Rattle.records.proofs.Image.{image-length as record-length}
 use Rattle.events.specs.Step.{Reply, setupEvent, event, opened}
@@ -22,13 +21,13 @@ use Rattle.promises.specs.Keeps.{FitImage, freshFit, imageFits, eventFits, neve
 use Rattle.pipes.specs.declared.Turn.{Turn}
 use Rattle.pipes.specs.declared.Wire.{Wire}
 use Rattle.pipes.specs.declared.Wire.the-variants.{Setup, Taken, Received, Reset, Reply as Replies, Room, Accept, Refuse, Unknown}
-use Rattle.pipes.specs.Transfer.{idle, stall}
-use Rattle.pipes.specs.Image.{transferOf, imageOf, fitsIn}
+use Rattle.pipes.specs.Transfer.{idle}
+use Rattle.pipes.specs.Image.{transferOf, fitsIn}
 use Rattle.pipes.specs.Turns.{turned}
-use Rattle.pipes.specs.Pipe.{Told, Records, Heard, lengthsOf, unheard, moves, begins, packetSize, onTransfer, heardAs, heard}
+use Rattle.pipes.specs.Pipe.{Told, Records, Heard, lengthsOf, moves, begins, packetSize, onTransfer, heardAs, heard}
 use Rattle.pipes.proofs.Inverse.{image-length}
-use Rattle.pipe_runs.specs.Runs.{leaves, after, heardIn, powerOn, Resting, isIdle, isStalled, aSetup, isQuiet, eventsAt, eventsIn, deviceAfter, numberAfter}
-use Rattle.pipe_runs.specs.Promises.{NothingElseMoves, NumbersAreTheLibrarys, OrderDoesNotCount, ReadsTheReply, ReadsTheApplications, OwnAddress, ToldOnce, OncePerTransfer, NeverForADropped, AtMostOnePerSetup, NoLockOut, SendsNothing, RefusedSendsNothing, RestSendsNothing, SincePowerOn, ran, EnumeratesByPackets, EnumeratesAnyhow, AlwaysFits, NeverEight}
+use Rattle.pipe_runs.specs.Runs.{Happening, onWire, beside, leaves, leavesBy, after, heardIn, powerOn, isIdle, isStalled, aSetup, eventsAt, eventsIn, deviceAfter, numberAfter}
+use Rattle.pipe_runs.specs.Promises.{NothingElseMoves, NumbersAreTheLibrarys, OrderDoesNotCount, ReadsTheReply, ReadsTheApplications, OwnAddress, OncePerTransfer, NeverForADropped, AtMostOnePerSetup, NoLockOut, SendsNothing, RefusedSendsNothing, RestSendsNothing, ran, EnumeratesByPackets, EnumeratesAnyhow, AlwaysFits, NeverEight}
 use Rattle.pipe_runs.proofs.Moves as moving
 use Rattle.pipe_runs.proofs.Resting.{Rests, restsIn}
 use Rattle.pipe_runs.proofs.Setups as setups
@@ -60,7 +59,7 @@ readsTheApplications b r reply octets fit may es q = applications.readsApplicati
 
 -- ---- 4
 pub ownAddress : OwnAddress
-ownAddress b r p es e = addresses.ownAddress b r es e p
+ownAddress b r p es h = addresses.ownAddress b r es h p
 
 -- ---- 5
 pub oncePerTransfer : OncePerTransfer
@@ -98,7 +97,7 @@ module _ (b : Board) (octets : BytesOf b) (ok : accepted b ≡ true) where
   fresh-fits : FitImage b (powerOn .image)
   fresh-fits = imageFits b octets ok fresh (freshFit b octets ok)
 
-  pub fitsInRun : (es : List Told) → FitImage b (after b powerOn es .image)
+  pub fitsInRun : (es : List Happening) → FitImage b (after b powerOn es .image)
   fitsInRun es = rw (nothingElseMoves b powerOn es) (fits-after (powerOn .image) (eventsIn b powerOn es) fresh-fits)
 
 pub longKept : (b : Board) (r : Records) (e : Told) → length (r .pipe) ≡ 16 → length (leaves b r e .pipe) ≡ 16
@@ -125,9 +124,10 @@ longKept b r e long = chosen (λ (h : Heard). length (h .left .pipe) ≡ 16) (eq
     by Accept = turned-so
     by Refuse = turned-so
 
-pub longInRun : (b : Board) (r : Records) (es : List Told) → length (r .pipe) ≡ 16 → length (after b r es .pipe) ≡ 16
+pub longInRun : (b : Board) (r : Records) (es : List Happening) → length (r .pipe) ≡ 16 → length (after b r es .pipe) ≡ 16
 longInRun b r [] long = long
-longInRun b r (e ∷ es) long = longInRun b (leaves b r e) es (longKept b r e long)
+longInRun b r (beside x ∷ es) long = longInRun b (leavesBy b r (beside x)) es long
+longInRun b r (onWire e ∷ es) long = longInRun b (leaves b r e) es (longKept b r e long)
 
 -- ---- 8
 pub enumeratesAnyhow : EnumeratesAnyhow
@@ -153,7 +153,7 @@ module _ (b : Board) where
   reached-after [] p = p
   reached-after (x ∷ xs) p = reached-after xs (afterEvent x p)
 
-  reachedInRun : (es : List Told) → Reached b (after b powerOn es .image)
+  reachedInRun : (es : List Happening) → Reached b (after b powerOn es .image)
   reachedInRun es = rw (nothingElseMoves b powerOn es) (reached-after (eventsIn b powerOn es) reached-fresh)
 
   none-eight : BytesOf b → {image : List ℕ} (xs : List Event) → Reached b image → numberAfter b image xs ≡ 8 → ⊥

@@ -1,41 +1,38 @@
 -- What the host reads is the reply (PIPE 52): of the library's answer to a SETUP, and of the application's. No axiom.
-use Prim.Native.Nat.{ℕ, zero, suc, _+_, _*_, _≤_, _<_, min}
+use Prim.Native.Nat.{ℕ, suc, _+_, _≤_, _<_}
 use native.Mathlib.Omega.{arith}
-use native.Mathlib.Nat.{zero-add, zero-mul}
 use mathlib.Core.Path.{_≡_, refl, sym, ap, subst, _∙_}
-use mathlib.Core.Bool.{Bool, true, false, _&&_, _||_, false≢true}
-use mathlib.Core.List.{List, [], _∷_, _++_, map, flatMap}
-use lib.ListN.{length, take, drop, length-take, length-drop}
+use mathlib.Core.Bool.{Bool, true, false, false≢true}
+use mathlib.Core.List.{List, [], _∷_, _++_, flatMap}
+use lib.ListN.{length, length-take, length-drop}
 use lib.Dec.{eqb, leb}
-use borrow.Author.Tests.{eq-eqb, ne-eqb, eqb-true, eqb-false, leb-true, le-leb}
+use borrow.Author.Tests.{eq-eqb, ne-eqb, leb-true}
 use Rattle.octets.specs.Octets.{part, Bytes}
 use Rattle.octets.specs.Sentences.{pick, from, upTo}
-use Rattle.octets.proofs.Sentences.{cases}
 use Rattle.sets.specs.Opening.{Board}
 use Rattle.records.specs.Image.{deviceOf}
 use Rattle.records.specs.Current.{setFor}
 use Rattle.requests.specs.Setup.{setupOf}
 use Rattle.events.specs.declared.Answer.{Answer}
 use Rattle.events.specs.declared.Answer.the-variants.{Done, OneByte, TwoBytes, SetPart, SerialPart, Refused}
-use Rattle.events.specs.declared.Event.the-variants.{Request, Malformed}
-use Rattle.events.specs.Answer.{numberOf, bytesOf, partOf}
+use Rattle.events.specs.Answer.{bytesOf, partOf}
 use Rattle.events.specs.Places.{InsideAt}
 use Rattle.events.specs.Step.{Reply, setupEvent, event}
 use Rattle.order.specs.Run.{All}
-use Rattle.packets.specs.Packets.{count, canCut, packet}
+use Rattle.packets.specs.Packets.{canCut}
 use Rattle.promises.specs.Refusals.{eventInside}
 use Rattle.promises.specs.Replies.{eventWithin}
 use Rattle.pipes.specs.declared.Lengths.{Lengths}
 use Rattle.pipes.specs.declared.Piece.{Piece}
 use Rattle.pipes.specs.declared.Transfer.{Transfer}
-use Rattle.pipes.specs.Transfer.{dataIn, statusIn, send, await, withStage, fits}
+use Rattle.pipes.specs.Transfer.{statusIn, send, await, withStage}
 use Rattle.pipes.specs.Image.{transferOf, imageOf}
 use Rattle.pipes.specs.Turns.{replyAt, started}
 use Rattle.pipes.specs.Sending.{pieceOf, noPiece, sent, inBlock, bytesIn}
 use Rattle.pipes.specs.Pipe.{Told, Records, Heard, lengthsOf, packetSize, heard, handsOver}
 use Rattle.pipes.proofs.Inverse.{transfer-image}
-use Rattle.pipe_runs.specs.Runs.{leaves, aSetup, answeredWith}
-use Rattle.pipe_runs.specs.Packets.{packetAt, sentAt, sentIn, awaitsIn, packetOf, packetsOf, given, replyTo, Within, Begins}
+use Rattle.pipe_runs.specs.Runs.{Happening, onWire, leaves, aSetup, answeredWith}
+use Rattle.pipe_runs.specs.Packets.{packetAt, awaitsIn, packetOf, packetsOf, given, replyTo, Within, Begins}
 use Rattle.pipe_runs.proofs.Setups.{begun-by}
 use Rattle.pipe_runs.proofs.Waiting.{setupLeaves}
 use Rattle.pipe_runs.proofs.Courses.{Fit, Lies, Course, many, cuttable, piece-bytes, course}
@@ -81,14 +78,14 @@ no-bytes (SerialPart size) c = refl
 no-bytes (Refused n) c = refl
 
 -- ---- packet 0 at an event, and the course of the others, are the reply's beginning
-module _ (b : Board) (r : Records) (e : Told) (es : List Told) (t : Transfer) (bytes : List ℕ) (can : canCut (t .length) (t .asked) (t .size) ≡ true) (long : length bytes ≡ t .length) where
+module _ (b : Board) (r : Records) (e : Told) (es : List Happening) (t : Transfer) (bytes : List ℕ) (can : canCut (t .length) (t .asked) (t .size) ≡ true) (long : length bytes ≡ t .length) where
   pub begins-so : eqb (heard b r e .order) send ≡ true → eqb (heard b r e .order) await ≡ false → packetAt b r e ≡ packetOf bytes (t .asked) (t .size) 0
-      → Course b (leaves b r e) es t bytes 0 → Begins b r (e ∷ es) bytes (t .asked) (t .size)
+      → Course b (leaves b r e) es t bytes 0 → Begins b r (onWire e ∷ es) bytes (t .asked) (t .size)
   unfolding from
   begins-so s a first c =
       let enough : suc (c .more) ≤ packetsOf bytes (t .asked) (t .size) = let x = c .before-last in rw long (omega arith) in
       let can′ : canCut (length bytes) (t .asked) (t .size) ≡ true = rw long can in
-      let all : awaitsIn b r (e ∷ es) ≡ true → suc (c .more) ≡ packetsOf bytes (t .asked) (t .size) = (λ z. let x = c .whole (rw a at z) in rw long (omega arith)) in
+      let all : awaitsIn b r (onWire e ∷ es) ≡ true → suc (c .more) ≡ packetsOf bytes (t .asked) (t .size) = (λ z. let x = c .whole (rw a at z) in rw long (omega arith)) in
       record {
         many = suc (c .more);
         some = omega arith;
@@ -181,6 +178,6 @@ module _ (b : Board) (r : Records) (setup reply : List ℕ) (long : length (r .p
             let (same, short) = given-bytes b (deviceOf (r .image) .speed) (w .answer) c in
             sym same ∙ sym (one-whole bytes (t .asked) (t .size) (rw (lies .long) can) asks short)
 
-    pub readsReply : (es : List Told) → All (Within reply) es → Begins b r (e ∷ es) bytes (setupOf setup .wLength) (packetSize b (r .image))
+    pub readsReply : (es : List Happening) → All (Within reply) es → Begins b r (onWire e ∷ es) bytes (setupOf setup .wLength) (packetSize b (r .image))
     readsReply es q = begins-so b r e es t bytes can (lies .long) (rw begins) (rw begins) firstPacket
         (subst (λ (h : Heard). Course b (h .left) es t bytes 0) (sym begins) (course b reply es (w .image) t bytes 0 fit some lies q))

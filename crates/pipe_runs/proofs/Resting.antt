@@ -1,36 +1,32 @@
 -- A pipe at rest: idle or stalled. Until the next SETUP or reset nothing goes out, nothing may come in, and no status end is told. No axiom.
 use Prim.Native.Nat.{ℕ}
 use native.Mathlib.Omega.{arith}
-use mathlib.Core.Path.{_≡_, refl, sym, ap, _∙_}
-use mathlib.Core.Logic.{_⊎_, inl, inr}
-use mathlib.Core.Bool.{Bool, true, false, not, false≢true}
+use mathlib.Core.Path.{_≡_, refl}
+use mathlib.Core.Bool.{true, false, false≢true}
 use mathlib.Core.List.{List, [], _∷_, _++_}
 use lib.ListN.{length}
 use lib.Dec.{eqb}
 use borrow.Author.Tests.{eq-eqb}
-use Rattle.octets.specs.Sentences.{pick}
 use Rattle.sets.specs.Opening.{Board}
 use Rattle.sets.specs.View.{accepted}
 use Rattle.records.specs.Image.{deviceOf}
 use Rattle.records.specs.Fits.{fitsOn}
 use Rattle.requests.specs.Setup.{setupOf}
-use Rattle.events.specs.declared.Event.{Event}
-use Rattle.events.specs.declared.Event.the-variants.{Request, Malformed, StatusEnd, BusReset, Halt, PacketPassed, Power, Suspend, Resume, Wake}
+use Rattle.events.specs.declared.Event.the-variants.{Malformed}
 use Rattle.events.specs.declared.Outcome.{Outcome}
 use Rattle.laws.proofs.Outcomes.{chosen}
-use Rattle.events.specs.Answer.{numberOf, bytesOf, refused}
-use Rattle.events.specs.Step.{Reply, replyOf, step, event}
+use Rattle.events.specs.Answer.{numberOf, bytesOf}
+use Rattle.events.specs.Step.{Reply, step, event}
 use Rattle.order.specs.Run.{All}
 use Rattle.pipes.specs.declared.Lengths.{Lengths}
 use Rattle.pipes.specs.declared.Transfer.{Transfer}
-use Rattle.pipes.specs.declared.Turn.{Turn}
 use Rattle.pipes.specs.declared.Wire.{Wire}
 use Rattle.pipes.specs.declared.Wire.the-variants.{Setup, Taken, Received, Reset, Reply as Replies, Room, Accept, Refuse, Unknown}
 use Rattle.pipes.specs.Transfer.{idle, stalled, send, receive, await, fits}
 use Rattle.pipes.specs.Image.{transferOf, imageOf, fitsIn}
-use Rattle.pipes.specs.Turns.{stays, stalls, taken, received, replied, roomed, accepted as accepts, refused as refuses, turned, begun, started, replyAt}
+use Rattle.pipes.specs.Turns.{stays, taken, received, replied, roomed, accepted as accepts, refused as refuses, turned, begun, started, replyAt}
 use Rattle.pipes.specs.Pipe.{Told, Records, Heard, lengthsOf, orderBegun, pipeBegun, onTransfer, heardAs, heard, packetSize}
-use Rattle.pipe_runs.specs.Runs.{leaves, after, heardIn, Resting, isIdle, isStalled, quiet, isQuiet, endsAt, eventsBy, eventsAt, eventsIn, noEnd}
+use Rattle.pipe_runs.specs.Runs.{Other, halt, packetPassed, power, suspend, resume, wake, otherEvent, Happening, onWire, beside, leaves, leavesBy, after, heardIn, Resting, isIdle, isStalled, quiet, isQuiet, endsAt, eventsBy, eventsAt, eventsIn, tellsEnd, noEnd}
 
 -- ---- an event number that is none gets 7, 8 or 9
 pub data Malforms : ℕ → Type 0 where
@@ -118,7 +114,7 @@ module _ (b : Board) (image : List ℕ) (e : Told) where
   resting-long pipe isIdle = refl
   resting-long pipe isStalled = refl
 
-  rests : (pipe : List ℕ) → Resting pipe → isQuiet e → Rests (heard b (record { image = image; pipe = pipe }) e)
+  rests : (pipe : List ℕ) → Resting pipe → quiet (e .wire) ≡ true → Rests (heard b (record { image = image; pipe = pipe }) e)
   unfolding heard
   rests pipe p q = rw (eq-eqb (length pipe) 16 (resting-long pipe p)) (by-wire pipe p (e .wire) q)
 
@@ -128,14 +124,15 @@ module _ (b : Board) (image : List ℕ) (e : Told) where
   no-end pipe isStalled = rw (stalled-fits (lengthsOf b image (e .reply)), stalled-stays (length (e .reply)) (e .wire))
 
 -- ---- at rest, one event
-pub restsAt : (b : Board) (r : Records) (e : Told) → Resting (r .pipe) → isQuiet e → Rests (heard b r e)
+pub restsAt : (b : Board) (r : Records) (e : Told) → Resting (r .pipe) → quiet (e .wire) ≡ true → Rests (heard b r e)
 restsAt b r e p q = rests b (r .image) e (r .pipe) p q
 
 -- ---- a run: "from stalled on, no packet until the next SETUP or reset"
-pub restsIn : (b : Board) (r : Records) (es : List Told) → Resting (r .pipe) → All isQuiet es
+pub restsIn : (b : Board) (r : Records) (es : List Happening) → Resting (r .pipe) → All isQuiet es
     → All Rests (heardIn b r es) × Resting (after b r es .pipe)
 restsIn b r [] p q = (tt, p)
-restsIn b r (e ∷ es) p (q, qs) =
+restsIn b r (beside x ∷ es) p (q, qs) = restsIn b (leavesBy b r (beside x)) es p qs
+restsIn b r (onWire e ∷ es) p (q, qs) =
     let h = restsAt b r e p q in
     let (hs, last) = restsIn b (leaves b r e) es (h .resting) qs in
     ((h, hs), last)
@@ -156,9 +153,18 @@ all-append : {E : Type 0} (P : E → Type 0) (xs ys : List E) → All P xs → A
 all-append P [] ys p q = q
 all-append P (x ∷ xs) ys (p, ps) q = (p, all-append P xs ys ps q)
 
-pub noEndIn : (b : Board) (r : Records) (es : List Told) → Resting (r .pipe) → All isQuiet es → All noEnd (eventsIn b r es)
+pub otherNoEnd : (x : Other) → tellsEnd (otherEvent x) ≡ false
+otherNoEnd (halt a) = refl
+otherNoEnd (packetPassed a) = refl
+otherNoEnd (power source) = refl
+otherNoEnd suspend = refl
+otherNoEnd resume = refl
+otherNoEnd wake = refl
+
+pub noEndIn : (b : Board) (r : Records) (es : List Happening) → Resting (r .pipe) → All isQuiet es → All noEnd (eventsIn b r es)
 noEndIn b r [] p q = tt
-noEndIn b r (e ∷ es) p (q, qs) =
+noEndIn b r (beside x ∷ es) p (q, qs) = (otherNoEnd x, noEndIn b (leavesBy b r (beside x)) es p qs)
+noEndIn b r (onWire e ∷ es) p (q, qs) =
     all-append noEnd (eventsAt b r e) (eventsIn b (leaves b r e) es)
     (chosen (All noEnd) (eqb (length (r .pipe)) 16) (λ _. no-end-by b r e p (e .wire) q) (λ _. tt))
     (noEndIn b (leaves b r e) es (restsAt b r e p q .resting) qs)

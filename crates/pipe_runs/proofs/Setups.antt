@@ -1,9 +1,8 @@
 -- A SETUP drops the transfer under way, whatever the pipe record: no pipe record locks the device out; and one that is refused stalls. No axiom.
 use Prim.Native.Nat.{ℕ}
-use native.Mathlib.Omega.{arith}
 use mathlib.Core.Path.{_≡_, refl, sym, ap, subst, _∙_}
 use mathlib.Core.Bool.{Bool, true, false, _&&_, false≢true}
-use mathlib.Core.List.{List, []}
+use mathlib.Core.List.{List}
 use lib.ListN.{length}
 use lib.Dec.{eqb}
 use borrow.Author.Tests.{eq-eqb, ne-eqb}
@@ -16,7 +15,6 @@ use Rattle.records.specs.Image.{deviceOf}
 use Rattle.records.specs.Fits.{fitsOn}
 use Rattle.requests.specs.declared.Setup.{Setup}
 use Rattle.requests.specs.Setup.{setupOf}
-use Rattle.events.specs.declared.Event.{Event}
 use Rattle.events.specs.declared.Event.the-variants.{Request, Malformed}
 use Rattle.events.specs.Answer.{numberOf, bytesOf}
 use Rattle.events.specs.Step.{Reply, setupEvent, event}
@@ -24,12 +22,10 @@ use Rattle.laws.proofs.Outcomes.{chosen}
 use Rattle.promises.specs.Refusal.{allowsFit, allowsImage}
 use Rattle.promises.specs.Refusals.{eventNumber}
 use Rattle.pipes.specs.declared.Turn.{Turn}
-use Rattle.pipes.specs.declared.Wire.{Wire}
-use Rattle.pipes.specs.declared.Wire.the-variants.{Setup as ASetup}
 use Rattle.pipes.specs.Transfer.{idle, stalled, stall}
 use Rattle.pipes.specs.Image.{imageOf}
 use Rattle.pipes.specs.Turns.{replyAt, started, stalls, begun}
-use Rattle.pipes.specs.Pipe.{Told, Records, Heard, packetSize, heard}
+use Rattle.pipes.specs.Pipe.{Records, Heard, packetSize, heard}
 use Rattle.pipe_runs.specs.Runs.{aSetup, answeredWith}
 
 -- ---- a setup of 8 bytes is never malformed

@@ -1,16 +1,16 @@
 -- The transfer that a setup starts fits the blocks that are lent: the library's reply lies inside its block, is no longer than wLength, and its place and
 -- length are numbers of two bytes. No axiom.
-use Prim.Native.Nat.{ℕ, _+_, _*_, _/_, _≤_, _<_}
+use Prim.Native.Nat.{ℕ, _+_, _/_, _≤_, _<_}
 use native.Mathlib.Omega.{arith}
-use native.Mathlib.Nat.{zero-add, add-zero}
-use mathlib.Core.Path.{_≡_, refl, sym, ap, _∙_}
-use mathlib.Core.Bool.{Bool, true, false, _&&_, _||_}
+use native.Mathlib.Nat.{zero-add}
+use mathlib.Core.Path.{_≡_, refl, sym}
+use mathlib.Core.Bool.{true, _||_}
 use mathlib.Core.List.{List, [], _∷_}
 use lib.ListN.{length}
 use lib.Dec.{eqb, leb}
 use borrow.Author.Tests.{eqb-true, leb-true, le-leb}
-use Rattle.octets.specs.Octets.{byte, word, Bytes}
-use Rattle.octets.proofs.Sentences.{both, conjunct, or-left}
+use Rattle.octets.specs.Octets.{byte, Bytes}
+use Rattle.octets.proofs.Sentences.{both, conjunct}
 use Rattle.sets.specs.Contents.{total, count, bodiesAt, goodFrame}
 use Rattle.sets.specs.Opening.{Board}
 use Rattle.sets.specs.View.{openingOf, accepted}
@@ -27,12 +27,9 @@ use Rattle.events.specs.Places.{InsideAt}
 use Rattle.events.specs.Step.{setupEvent, event}
 use Rattle.promises.specs.Refusals.{eventInside}
 use Rattle.promises.specs.Replies.{sizeCuts, eventWithin, doneAccepted}
-use Rattle.pipes.specs.declared.Lengths.{Lengths}
-use Rattle.pipes.specs.declared.Transfer.{Transfer}
-use Rattle.pipes.specs.Transfer.{goodSize, goodReply, goodMoved, blockLength, fits}
+use Rattle.pipes.specs.Transfer.{blockLength, fits}
 use Rattle.pipes.specs.Turns.{replyAt, started}
 use Rattle.pipes.specs.Pipe.{lengthsOf, packetSize}
-use Rattle.pipes.proofs.Inverse.{Sized}
 use Rattle.pipe_runs.proofs.Courses.{Fit}
 
 -- "at most 16,384" bytes

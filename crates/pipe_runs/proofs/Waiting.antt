@@ -1,30 +1,30 @@
 -- What the library's own events do to the address and to what waits: a setup never changes the address, and an address waits after it only if it was a
 -- SET_ADDRESS that was answered with 0. No axiom.
-use Prim.Native.Nat.{ℕ, _+_, _≤_, _<_}
+use Prim.Native.Nat.{ℕ, _≤_, _<_}
 use native.Mathlib.Omega.{arith}
-use mathlib.Core.Path.{_≡_, refl, sym, ap, _∙_}
+use mathlib.Core.Path.{_≡_, refl, _∙_}
 use mathlib.Core.Logic.{_⊎_, inl, inr}
 use mathlib.Core.Bool.{Bool, true, false, _&&_, _||_, not}
 use mathlib.Core.List.{List, [], _∷_}
 use mathlib.Core.Option.{Option, some, none}
 use lib.ListN.{length}
 use lib.Dec.{eqb, leb, lit≤}
-use borrow.Author.Tests.{eq-eqb, eqb-true, eqb-false, leb-true}
-use Rattle.octets.specs.Sentences.{pick, _⇒_, any, every}
+use borrow.Author.Tests.{eq-eqb, eqb-true, leb-true}
+use Rattle.octets.specs.Bit.{bit, flipBit}
+use Rattle.octets.specs.Sentences.{_⇒_, any, every}
 use Rattle.octets.proofs.Sentences.{if-then, conjunct}
 use Rattle.descriptors.specs.declared.Endpoint.{Endpoint}
 use Rattle.descriptors.specs.Configuration.{hasInterface, hasSetting, canHalt, bitOf}
 use Rattle.sets.specs.Opening.{Board}
 use Rattle.sets.specs.View.{View, wakes, accepted}
 use Rattle.records.specs.declared.Device.{Device}
-use Rattle.records.specs.Device.{nothing, atHighSpeed, testWaits, inTestMode, settled}
+use Rattle.records.specs.Device.{nothing, atHighSpeed, testWaits, inTestMode, settled, awake, withPower, withSuspended, withEndpoints}
 use Rattle.records.specs.Image.{deviceOf, imageOf}
 use Rattle.records.specs.Current.{selected, endpointAt, viewAt}
 use Rattle.records.specs.Fits.{fitsOn}
 use Rattle.requests.specs.declared.Setup.{Setup}
-use Rattle.requests.specs.declared.Row.{Row}
 use Rattle.requests.specs.Setup.{recipient}
-use Rattle.requests.specs.Table.{table, fieldsFit, refusal}
+use Rattle.requests.specs.Table.{refusal}
 use Rattle.events.specs.declared.Answer.{Answer}
 use Rattle.events.specs.declared.Answer.the-variants.{Refused}
 use Rattle.events.specs.declared.Event.{Event}
@@ -34,11 +34,11 @@ use Rattle.events.specs.declared.facts.Located.{Located}
 use Rattle.events.specs.declared.facts.Located.the-variants.{Body, Serial, Nowhere}
 use Rattle.events.specs.Answer.{numberOf, gives, done}
 use Rattle.events.specs.Requests.{byRecipient, isEndpointZero, deviceFeature, namesTestMode, testSelector, setTestMode, interfaceFeature, endpointFeature, endpointStatus, haltFeature, clearHalt, setHalt, locate, describe, getStatus, clearFeature, setFeature, setAddress, getDescriptor, getConfiguration, setConfiguration, getInterface, setInterface}
-use Rattle.events.specs.Step.{Reply, replyOf, request, refusalFor, answerSetup, statusEnd, goodReset, respond, step, event}
+use Rattle.events.specs.Step.{Reply, replyOf, request, refusalFor, answerSetup, statusEnd, goodReset, haltAt, halt as haltEvent, passAt, packetPassed as packetPassedEvent, respond, step, event}
 use Rattle.laws.proofs.Fitting.{fitting}
 use Rattle.laws.proofs.Recipients.{table-judges}
 use Rattle.laws.proofs.Outcomes.{chosen, ruled}
-use Rattle.pipe_runs.specs.Runs.{addressIn, waitingIn}
+use Rattle.pipe_runs.specs.Runs.{Other, halt, packetPassed, power, suspend, resume, wake, otherEvent, addressIn, waitingIn}
 
 -- what waits after a setup: no address, or its own one
 pub data Waits (s : Setup) (o : Outcome) : Type 0 where
@@ -194,6 +194,36 @@ pub resetSame : (b : Board) (image : List ℕ) (speed : ℕ) → (numberOf (even
 resetSame b image speed = by-step (λ r. (numberOf (r .answer) ≡ 0 → ⊥) → Same image r) b image (BusReset speed)
     (λ _. chosen (λ o. (numberOf (o .answer) ≡ 0 → ⊥) → Same image (replyOf o)) (goodReset (viewAt b (deviceOf image) .paired) speed) (λ _ z. absurd (z refl)) (λ _ z. same-device image _))
     (λ a n. ((λ z. same-device image a), (λ z. record { address = refl; waiting = refl; speed = refl })))
+
+-- ---- the other events
+module _ (b : Board) (image : List ℕ) where
+  abbrev d : Device
+  d = deviceOf image
+
+  -- an outcome that leaves the three
+  as-before : (x : Device) → x .address ≡ d .address → x .waiting ≡ d .waiting → x .speed ≡ d .speed → Same image (replyOf (done x))
+  as-before x p q r = record { address = address-back x ∙ p; waiting = waiting-back x ∙ q; speed = speed-back x ∙ r }
+
+  halted : (o : Option Endpoint) → Same image (replyOf (haltAt d o))
+  halted none = same-device image _
+  halted (some e) = chosen (λ x. Same image (replyOf x)) (canHalt e) (λ _. as-before (setHalt d (bitOf (e .address))) refl refl refl) (λ _. same-device image _)
+
+  passed : (o : Option Endpoint) → Same image (replyOf (passAt d o))
+  passed none = same-device image _
+  passed (some e) = chosen (λ x. Same image (replyOf x)) (canHalt e && not (bit (d .halts) (bitOf (e .address))))
+      (λ _. as-before (awake (withEndpoints (d .alternates) (d .halts) (flipBit (d .toggles) (bitOf (e .address))) d)) refl refl refl) (λ _. same-device image _)
+
+  responds : (x : Other) → Same image (replyOf (respond (viewAt b d) d (otherEvent x)))
+  unfolding haltEvent packetPassedEvent
+  responds (halt a) = halted (endpointAt (viewAt b d) d a)
+  responds (packetPassed a) = passed (endpointAt (viewAt b d) d a)
+  responds (power source) = chosen (λ x. Same image (replyOf x)) (leb source 1) (λ _. as-before (withPower source d) refl refl refl) (λ _. same-device image _)
+  responds suspend = as-before (withSuspended 1 d) refl refl refl
+  responds resume = as-before (awake d) refl refl refl
+  responds wake = chosen (λ x. Same image (replyOf x)) (eqb (d .suspended) 1 && eqb (d .wakeup) 1) (λ _. same-device image _) (λ _. same-device image _)
+
+  pub otherSame : (x : Other) → Same image (event b image (otherEvent x))
+  otherSame x = by-step (Same image) b image (otherEvent x) (λ _. responds x) (λ a n. (same-device image a, record { address = refl; waiting = refl; speed = refl }))
 
 -- ---- a status end: the address stays, or is the one that waited
 pub data Applies (image : List ℕ) (r : Reply) : Type 0 where

@@ -15,7 +15,7 @@ use Rattle.pipes.specs.declared.Wire.the-variants.{Setup, Taken, Received, Rese
 use Rattle.pipes.specs.Transfer.{statusIn}
 use Rattle.pipes.specs.Image.{transferOf}
 use Rattle.pipes.specs.Pipe.{Told, Records}
-use Rattle.pipe_runs.specs.Runs.{leaves, aSetup, answeredWith, addressIn}
+use Rattle.pipe_runs.specs.Runs.{Happening, onWire, beside, leaves, leavesBy, aSetup, answeredWith, addressIn}
 
 -- "no SETUP or reset since": a SETUP packet of 8 bytes, or a reset that was answered with 0, drops the transfer
 abbrev pub drops : Board → Records → Told → Wire → Bool
@@ -29,14 +29,18 @@ drops b r e (Room n) = false
 drops b r e Accept = false
 drops b r e Refuse = false
 
+abbrev pub dropsBy : Board → Records → Happening → Bool
+dropsBy b r (onWire e) = drops b r e (e .wire)
+dropsBy b r (beside x) = false
+
 -- "after a SET_ADDRESS that was answered with 0 and no SETUP or reset since", to the address a
 pub data Addressed (b : Board) (a : ℕ) : Records → Type 0 where
   asks : (r : Records) (setup reply : List ℕ) → length setup ≡ 8 → setupOf setup .bRequest ≡ 0x05 → setupOf setup .wValue ≡ a → answeredWith b (r .image) setup ≡ 0
       → Addressed b a (leaves b r (aSetup setup reply))
-  waits : (r : Records) (e : Told) → drops b r e (e .wire) ≡ false → Addressed b a r → Addressed b a (leaves b r e)
+  waits : (r : Records) (h : Happening) → dropsBy b r h ≡ false → Addressed b a r → Addressed b a (leavesBy b r h)
 
--- what an event does to the address
-pub data Readdresses (b : Board) (r : Records) (e : Told) : Type 0 where
-  stays : addressIn (leaves b r e .image) ≡ addressIn (r .image) → Readdresses b r e
-  resets : (speed : ℕ) → e .wire ≡ Reset speed → Readdresses b r e
-  takes : e .wire ≡ Taken → transferOf (r .pipe) .stage ≡ statusIn → Addressed b (addressIn (leaves b r e .image)) r → Readdresses b r e
+-- what happens to the address
+pub data Readdresses (b : Board) (r : Records) : Happening → Type 0 where
+  stays : (h : Happening) → addressIn (leavesBy b r h .image) ≡ addressIn (r .image) → Readdresses b r h
+  resets : (e : Told) (speed : ℕ) → e .wire ≡ Reset speed → Readdresses b r (onWire e)
+  takes : (e : Told) → e .wire ≡ Taken → transferOf (r .pipe) .stage ≡ statusIn → Addressed b (addressIn (leaves b r e .image)) r → Readdresses b r (onWire e)

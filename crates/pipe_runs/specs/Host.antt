@@ -14,16 +14,16 @@ use Rattle.records.specs.Current.{setFor}
 use Rattle.requests.specs.declared.Setup.{Setup as SetupBytes}
 use Rattle.events.specs.declared.Event.{Event}
 use Rattle.events.specs.declared.Event.the-variants.{Request, Malformed, StatusEnd, BusReset, Halt, PacketPassed, Power, Suspend, Resume, Wake}
-use Rattle.order.specs.Run.{log}
+use Rattle.order.specs.Run.{run, log}
 use Rattle.pipes.specs.declared.Wire.{Wire}
 use Rattle.pipes.specs.declared.Wire.the-variants.{Setup, Taken, Received, Reset}
 use Rattle.pipes.specs.Transfer.{idle, nothing, send, await}
 use Rattle.pipes.specs.Image.{imageOf}
 use Rattle.pipes.specs.Pipe.{Told, Records, heard}
-use Rattle.enumeration.specs.Script.{Line, line, reading, done, setAddress, setConfiguration}
+use Rattle.enumeration.specs.Script.{Line, line, done, setAddress, setConfiguration}
 use Rattle.enumeration.specs.Bodies.{configurationBody}
 use Rattle.enumeration.specs.Enumeration.{deviceLines, configurationLines, otherSpeed, otherLines, zeroLines, stringLines}
-use Rattle.pipe_runs.specs.Runs.{leaves, after}
+use Rattle.pipe_runs.specs.Runs.{leaves}
 use Rattle.pipe_runs.specs.Packets.{packetAt, packetOf, packetsOf}
 
 -- ---- what a wire event gets: its number, its order, and the packet that is handed over
@@ -44,7 +44,7 @@ tells = map (λ (l : WireLine). l .0)
 -- ---- a script is played: what its events get is the script itself, line for line, and it ends in the records `last`
 pub record PlaysOnWire (b : Board) (r : Records) (script : List WireLine) (last : Records) : Type 0 where
   pub shown : log (shows b) (leaves b) r (tells script) ≡ script
-  pub ends : after b r (tells script) ≡ last
+  pub ends : run (leaves b) r (tells script) ≡ last
 
 -- ---- the lines: number 0, with an order
 abbrev pub wire : Wire → Told

@@ -1,5 +1,5 @@
 -- The packets that are handed over in a run, and those of a reply: "the k-th that is handed over is the cutter's packet k".
-use Prim.Native.Nat.{ℕ, _+_, _*_, _≤_}
+use Prim.Native.Nat.{ℕ, _*_, _≤_}
 use mathlib.Core.Path.{_≡_}
 use mathlib.Core.Bool.{Bool, true, false, _||_}
 use mathlib.Core.List.{List, [], _∷_, _++_, map, flatMap}
@@ -18,7 +18,7 @@ use Rattle.packets.specs.Packets.{count, packet}
 use Rattle.pipes.specs.Transfer.{send, await}
 use Rattle.pipes.specs.Sending.{bytesIn}
 use Rattle.pipes.specs.Pipe.{Told, Records, heard, handsOver}
-use Rattle.pipe_runs.specs.Runs.{leaves, quiet}
+use Rattle.pipe_runs.specs.Runs.{Happening, onWire, beside, leaves, leavesBy, quiet}
 
 -- ---- what is handed over: "the bytes handed back, or the part", of the blocks that are lent
 abbrev pub packetAt : Board → Records → Told → List ℕ
@@ -28,13 +28,15 @@ abbrev pub sentAt : Board → Records → Told → List (List ℕ)
 sentAt b r e = pick (eqb (heard b r e .order) send) (packetAt b r e ∷ []) []
 
 -- the packets of a run, in its order; and whether the host's empty packet is awaited in it
-abbrev pub sentIn : Board → Records → List Told → List (List ℕ)
+abbrev pub sentIn : Board → Records → List Happening → List (List ℕ)
 sentIn b r [] = []
-sentIn b r (e ∷ es) = sentAt b r e ++ sentIn b (leaves b r e) es
+sentIn b r (onWire e ∷ es) = sentAt b r e ++ sentIn b (leaves b r e) es
+sentIn b r (beside x ∷ es) = sentIn b (leavesBy b r (beside x)) es
 
-abbrev pub awaitsIn : Board → Records → List Told → Bool
+abbrev pub awaitsIn : Board → Records → List Happening → Bool
 awaitsIn b r [] = false
-awaitsIn b r (e ∷ es) = eqb (heard b r e .order) await || awaitsIn b (leaves b r e) es
+awaitsIn b r (onWire e ∷ es) = eqb (heard b r e .order) await || awaitsIn b (leaves b r e) es
+awaitsIn b r (beside x ∷ es) = awaitsIn b (leavesBy b r (beside x)) es
 
 -- ---- a reply's own packets: packet k of these bytes, asked with wLength w, in packets of p; how many there are
 abbrev pub packetOf : List ℕ → ℕ → ℕ → ℕ → List ℕ
@@ -51,12 +53,13 @@ abbrev pub replyTo : Board → List ℕ → List ℕ → List ℕ
 replyTo b image setup = given b (deviceOf image .speed) (event b image (setupEvent setup) .answer)
 
 -- neither a SETUP nor a reset, "where the same reply is lent while it goes out"
-abbrev pub Within : List ℕ → Told → Type 0
-Within reply e = (quiet (e .wire) ≡ true) × (e .reply ≡ reply)
+abbrev pub Within : List ℕ → Happening → Type 0
+Within reply (onWire e) = (quiet (e .wire) ≡ true) × (e .reply ≡ reply)
+Within reply (beside x) = Unit {0}
 
 -- ---- these packets are the reply's first ones: at least packet 0, "each once, in order, none after the last"; "what the host has taken is the beginning of the reply, and all
 -- of it when await was ordered"
-pub record Begins (b : Board) (r : Records) (es : List Told) (bytes : List ℕ) (w p : ℕ) : Type 0 where
+pub record Begins (b : Board) (r : Records) (es : List Happening) (bytes : List ℕ) (w p : ℕ) : Type 0 where
   pub many : ℕ
   pub some : 1 ≤ many
   pub noMore : many ≤ packetsOf bytes w p

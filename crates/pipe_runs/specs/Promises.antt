@@ -3,7 +3,7 @@
 use Prim.Native.Nat.{ℕ, _+_, _≤_, _<_}
 use mathlib.Core.Path.{_≡_}
 use mathlib.Core.Logic.{_⊎_}
-use mathlib.Core.Bool.{Bool, true, false, not}
+use mathlib.Core.Bool.{true, false, not}
 use mathlib.Core.List.{List, [], _∷_}
 use lib.ListN.{length, take}
 use Rattle.octets.specs.Octets.{Bytes}
@@ -31,7 +31,7 @@ use Rattle.pipes.specs.Turns.{mayReply}
 use Rattle.pipes.specs.Pipe.{Told, Records, Heard, lengthsOf, packetSize, heard}
 use Rattle.enumeration.specs.Bodies.{configurationBody}
 use Rattle.enumeration.specs.Enumeration.{enumerated}
-use Rattle.pipe_runs.specs.Runs.{leaves, after, heardIn, powerOn, Resting, aSetup, answeredWith, isSetupPacket, isQuiet, endsAt, eventsAt, eventsIn, deviceAfter, numberAfter, tellsEnd, noEnd}
+use Rattle.pipe_runs.specs.Runs.{Happening, onWire, beside, leaves, leavesBy, after, heardIn, powerOn, Resting, aSetup, answeredWith, isSetupPacket, isQuiet, endsAt, eventsAt, eventsIn, deviceAfter, numberAfter, tellsEnd, noEnd}
 use Rattle.pipe_runs.specs.Packets.{replyTo, Within, Begins}
 use Rattle.pipe_runs.specs.Addresses.{Readdresses}
 use Rattle.pipe_runs.specs.Host.{PlaysOnWire, enumerationOnWire, atRest}
@@ -39,7 +39,7 @@ use Rattle.pipe_runs.specs.Host.{PlaysOnWire, enumerationOnWire, atRest}
 -- ---- 2. "Nothing else moves the device. The device record after a run is that of the library's own events: a setup at each SETUP, a status end at each transfer that has ended,
 -- a reset at each reset, and no other."
 abbrev pub NothingElseMoves : Type 0
-NothingElseMoves = (b : Board) (r : Records) (es : List Told) → after b r es .image ≡ deviceAfter b (r .image) (eventsIn b r es)
+NothingElseMoves = (b : Board) (r : Records) (es : List Happening) → after b r es .image ≡ deviceAfter b (r .image) (eventsIn b r es)
 
 -- and the number of an event is that of its library event, 0 where it has none
 abbrev pub NumbersAreTheLibrarys : Type 0
@@ -48,14 +48,14 @@ NumbersAreTheLibrarys =
 
 -- "So demands 1 to 3 hold from packet to packet." Demand 3: in Configured, with nothing waiting, two runs whose setups concern interfaces, the same ones in the same order for each
 -- interface, leave the same device record, and each interface's setups are answered the same
-abbrev pub requestsIn : Board → Records → List Told → List Event
+abbrev pub requestsIn : Board → Records → List Happening → List Event
 requestsIn b r es = only (λ (e : Event). not (tellsEnd e)) (eventsIn b r es)
 
 abbrev pub OrderDoesNotCount : Type 0
 OrderDoesNotCount =
     (b : Board) → BytesOf b → accepted b ≡ true
     → (r : Records) → FitImage b (r .image) → deviceOf (r .image) .waiting ≡ nothing
-    → (es fs : List Told) → Rearranged b (deviceOf (r .image)) (requestsIn b r es) (requestsIn b r fs)
+    → (es fs : List Happening) → Rearranged b (deviceOf (r .image)) (requestsIn b r es) (requestsIn b r fs)
     → (after b r es .image ≡ after b r fs .image)
     × ((k : ℕ) → imageHeard b (r .image) k (requestsIn b r es) ≡ imageHeard b (r .image) k (requestsIn b r fs))
 
@@ -66,20 +66,20 @@ abbrev pub ReadsTheReply : Type 0
 ReadsTheReply =
     (b : Board) (r : Records) (setup reply : List ℕ) → length (r .pipe) ≡ 16 → length setup ≡ 8 → Bytes setup
     → answeredWith b (r .image) setup ≡ 0 → (setupOf setup .wLength ≡ 0 → ⊥)
-    → (es : List Told) → All (Within reply) es
-    → Begins b r (aSetup setup reply ∷ es) (replyTo b (r .image) setup) (setupOf setup .wLength) (packetSize b (r .image))
+    → (es : List Happening) → All (Within reply) es
+    → Begins b r (onWire (aSetup setup reply) ∷ es) (replyTo b (r .image) setup) (setupOf setup .wLength) (packetSize b (r .image))
 
 -- the same of the application's reply, asked about a setup that reads: its first wLength bytes
 abbrev pub ReadsTheApplications : Type 0
 ReadsTheApplications =
     (b : Board) (r : Records) (reply : List ℕ) → Bytes (r .pipe) → fitsIn (lengthsOf b (r .image) reply) (r .pipe) ≡ true → mayReply (transferOf (r .pipe)) ≡ true
-    → (es : List Told) → All (Within reply) es
-    → (let t = transferOf (r .pipe) in Begins b r (record { wire = Reply; setup = []; reply = reply } ∷ es) (take (t .asked) reply) (t .asked) (t .size))
+    → (es : List Happening) → All (Within reply) es
+    → (let t = transferOf (r .pipe) in Begins b r (onWire (record { wire = Reply; setup = []; reply = reply }) ∷ es) (take (t .asked) reply) (t .asked) (t .size))
 
 -- ---- 4. "An address is taken at the end of its own status stage, and never otherwise, from power-on (idle or stalled): the address byte changes only at a taken in status in after a
 -- SET_ADDRESS that was answered with 0 and no SETUP or reset since, or at a reset."
 abbrev pub OwnAddress : Type 0
-OwnAddress = (b : Board) (r : Records) → Resting (r .pipe) → (es : List Told) (e : Told) → Readdresses b (after b r es) e
+OwnAddress = (b : Board) (r : Records) → Resting (r .pipe) → (es : List Happening) (h : Happening) → Readdresses b (after b r es) h
 
 -- ---- 5. "A status end is told once for each transfer that ended, and never for one that was dropped."
 -- a transfer ends at a packet taken in status in, or at an empty packet in data in and status out
@@ -92,7 +92,7 @@ pub record ToldOnce (b : Board) (r : Records) (e : Told) : Type 0 where
   pub how : EndsBy (transferOf (r .pipe)) (e .wire)
   pub told : eventsAt b r e ≡ StatusEnd ∷ []
   pub rests : leaves b r e .pipe ≡ imageOf idle
-  pub once : (es : List Told) → All isQuiet es → All noEnd (eventsIn b (leaves b r e) es)
+  pub once : (es : List Happening) → All isQuiet es → All noEnd (eventsIn b (leaves b r e) es)
 
 abbrev pub OncePerTransfer : Type 0
 OncePerTransfer = (b : Board) (r : Records) (e : Told) → endsAt b r e ≡ true → ToldOnce b r e
@@ -106,12 +106,13 @@ abbrev pub endsIn : List Event → ℕ
 endsIn [] = 0
 endsIn (e ∷ es) = pick (tellsEnd e) 1 0 + endsIn es
 
-abbrev pub setupsIn : List Told → ℕ
+abbrev pub setupsIn : List Happening → ℕ
 setupsIn [] = 0
-setupsIn (e ∷ es) = pick (isSetupPacket (e .wire)) 1 0 + setupsIn es
+setupsIn (onWire e ∷ es) = pick (isSetupPacket (e .wire)) 1 0 + setupsIn es
+setupsIn (beside x ∷ es) = setupsIn es
 
 abbrev pub AtMostOnePerSetup : Type 0
-AtMostOnePerSetup = (b : Board) (r : Records) → Resting (r .pipe) → (es : List Told) → endsIn (eventsIn b r es) ≤ setupsIn es
+AtMostOnePerSetup = (b : Board) (r : Records) → Resting (r .pipe) → (es : List Happening) → endsIn (eventsIn b r es) ≤ setupsIn es
 
 -- ---- 6. "No pipe record locks the device out: whatever the sixteen bytes, the next SETUP is answered as from idle."
 abbrev pub NoLockOut : Type 0
@@ -130,11 +131,11 @@ RefusedSendsNothing =
     (b : Board) (r : Records) (setup reply : List ℕ) → length (r .pipe) ≡ 16 → length setup ≡ 8
     → (answeredWith b (r .image) setup ≡ 0 → ⊥) → (answeredWith b (r .image) setup ≡ 10 → ⊥)
     → (heard b r (aSetup setup reply) .order ≡ stall)
-    × ((es : List Told) → All isQuiet es → All SendsNothing (heardIn b (leaves b r (aSetup setup reply)) es))
+    × ((es : List Happening) → All isQuiet es → All SendsNothing (heardIn b (leaves b r (aSetup setup reply)) es))
 
 -- the same of every pipe at rest, by whatever it stalled
 abbrev pub RestSendsNothing : Type 0
-RestSendsNothing = (b : Board) (r : Records) → Resting (r .pipe) → (es : List Told) → All isQuiet es → All SendsNothing (heardIn b r es)
+RestSendsNothing = (b : Board) (r : Records) → Resting (r .pipe) → (es : List Happening) → All isQuiet es → All SendsNothing (heardIn b r es)
 
 -- ---- 8. "Enumeration, packet by packet: a host that resets, reads the device descriptor, sets an address, reads every configuration and string whole, and sets a configuration,
 -- taking each packet that is handed over, reads exactly the set's bytes and ends with a Configured device, for every accepted set, speed and address." From power-on, after any run
@@ -150,7 +151,7 @@ EnumeratesFrom Start =
 
 -- what a run from power-on leaves
 pub data SincePowerOn (b : Board) : Records → Type 0 where
-  ran : (es : List Told) → SincePowerOn b (after b powerOn es)
+  ran : (es : List Happening) → SincePowerOn b (after b powerOn es)
 
 abbrev pub EnumeratesByPackets : Type 0
 EnumeratesByPackets = EnumeratesFrom SincePowerOn
@@ -165,16 +166,17 @@ abbrev pub Lent : Records → Told → Type 0
 Lent r e = transferOf (r .pipe) .block ≡ inReply → transferOf (r .pipe) .length ≤ length (e .reply)
 
 -- at each event of a run; what is lent as setup is bytes, as every slice is
-abbrev pub AllLent : Board → Records → List Told → Type 0
+abbrev pub AllLent : Board → Records → List Happening → Type 0
 AllLent b r [] = Unit {0}
-AllLent b r (e ∷ es) = Lent r e × Bytes (e .setup) × AllLent b (leaves b r e) es
+AllLent b r (onWire e ∷ es) = Lent r e × Bytes (e .setup) × AllLent b (leaves b r e) es
+AllLent b r (beside x ∷ es) = AllLent b (leavesBy b r (beside x)) es
 
 abbrev pub AlwaysFits : Type 0
 AlwaysFits =
-    (b : Board) (r : Records) → Resting (r .pipe) → (es : List Told) → AllLent b r es
+    (b : Board) (r : Records) → Resting (r .pipe) → (es : List Happening) → AllLent b r es
     → (e : Told) → Lent (after b r es) e → fitsIn (lengthsOf b (after b r es .image) (e .reply)) (after b r es .pipe) ≡ true
 
 abbrev pub NeverEight : Type 0
 NeverEight =
-    (b : Board) → BytesOf b → (es : List Told) → AllLent b powerOn es → (e : Told) → Lent (after b powerOn es) e
+    (b : Board) → BytesOf b → (es : List Happening) → AllLent b powerOn es → (e : Told) → Lent (after b powerOn es) e
     → heard b (after b powerOn es) e .number ≡ 8 → ⊥

@@ -1,4 +1,4 @@
--- Runs of pipe events by any host and any application, and the library's own events that they are.
+-- Runs of pipe events by any host and any application, between which the board tells its other events, and the library's own events that they are.
 use Prim.Native.Nat.{ℕ}
 use mathlib.Core.Path.{_≡_}
 use mathlib.Core.Bool.{Bool, true, false}
@@ -14,7 +14,7 @@ use Rattle.events.specs.declared.Event.{Event}
 use Rattle.events.specs.declared.Event.the-variants.{Request, Malformed, StatusEnd, BusReset, Halt, PacketPassed, Power, Suspend, Resume, Wake}
 use Rattle.events.specs.Answer.{numberOf}
 use Rattle.events.specs.Step.{setupEvent, event}
-use Rattle.order.specs.Run.{run, answers}
+use Rattle.order.specs.Run.{run}
 use Rattle.pipes.specs.declared.Wire.{Wire}
 use Rattle.pipes.specs.declared.Wire.the-variants.{Setup, Taken, Received, Reset, Reply, Room, Accept, Refuse, Unknown}
 use Rattle.pipes.specs.Transfer.{idle, stalled}
@@ -22,15 +22,38 @@ use Rattle.pipes.specs.Image.{transferOf, imageOf, fitsIn}
 use Rattle.pipes.specs.Turns.{turned}
 use Rattle.pipes.specs.Pipe.{Told, Records, Heard, lengthsOf, heard}
 
--- the records that an event leaves; those after a run; what the events of a run get
+-- ---- what happens in a run: an event of the pipe; or, PIPE 45, "the other events (power, halt, packets passed, suspend, resume, wake) are free at any time"
+pub data Other : Type 0 where
+  halt packetPassed power : ℕ → Other
+  suspend resume wake : Other
+
+abbrev pub otherEvent : Other → Event
+otherEvent (halt a) = Halt a
+otherEvent (packetPassed a) = PacketPassed a
+otherEvent (power source) = Power source
+otherEvent suspend = Suspend
+otherEvent resume = Resume
+otherEvent wake = Wake
+
+pub data Happening : Type 0 where
+  onWire : Told → Happening
+  beside : Other → Happening
+
+-- the records that an event leaves; those after a run; what the pipe's events of a run get
 abbrev pub leaves : Board → Records → Told → Records
 leaves b r e = heard b r e .left
 
-abbrev pub after : Board → Records → List Told → Records
-after b = run (leaves b)
+abbrev pub leavesBy : Board → Records → Happening → Records
+leavesBy b r (onWire e) = leaves b r e
+leavesBy b r (beside x) = record { image = event b (r .image) (otherEvent x) .image; pipe = r .pipe }
 
-abbrev pub heardIn : Board → Records → List Told → List Heard
-heardIn b = answers (heard b) (leaves b)
+abbrev pub after : Board → Records → List Happening → Records
+after b = run (leavesBy b)
+
+abbrev pub heardIn : Board → Records → List Happening → List Heard
+heardIn b r [] = []
+heardIn b r (onWire e ∷ es) = heard b r e ∷ heardIn b (leaves b r e) es
+heardIn b r (beside x ∷ es) = heardIn b (leavesBy b r (beside x)) es
 
 -- ---- power-on: the fresh record that opening leaves, and a pipe record of zeros
 abbrev pub powerOn : Records
@@ -73,8 +96,9 @@ quiet (Room n) = true
 quiet Accept = true
 quiet Refuse = true
 
-abbrev pub isQuiet : Told → Type 0
-isQuiet e = quiet (e .wire) ≡ true
+abbrev pub isQuiet : Happening → Type 0
+isQuiet (onWire e) = quiet (e .wire) ≡ true
+isQuiet (beside x) = Unit {0}
 
 -- ---- a transfer ends at an event: the pipe record fits, and by the rules it has ended
 abbrev pub endsAt : Board → Records → Told → Bool
@@ -98,9 +122,10 @@ eventsBy b r e Refuse = ifEnded (endsAt b r e)
 abbrev pub eventsAt : Board → Records → Told → List Event
 eventsAt b r e = pick (eqb (length (r .pipe)) 16) (eventsBy b r e (e .wire)) []
 
-abbrev pub eventsIn : Board → Records → List Told → List Event
+abbrev pub eventsIn : Board → Records → List Happening → List Event
 eventsIn b r [] = []
-eventsIn b r (e ∷ es) = eventsAt b r e ++ eventsIn b (leaves b r e) es
+eventsIn b r (onWire e ∷ es) = eventsAt b r e ++ eventsIn b (leaves b r e) es
+eventsIn b r (beside x ∷ es) = otherEvent x ∷ eventsIn b (leavesBy b r (beside x)) es
 
 -- the device record after library events
 abbrev pub deviceAfter : Board → List ℕ → List Event → List ℕ
