@@ -35,10 +35,10 @@ use Rattle.enumeration.specs.Enumeration.{deviceLines, configurationLines, othe
 use Rattle.enumeration.proofs.Asking.{raw, other-code}
 use Rattle.enumeration.proofs.Playing.{Stays, all-below, all-append, all-map, all-flat}
 use Rattle.enumeration.proofs.Enumerates as enumeration
-use Rattle.pipe_runs.specs.Host.{WireLine, PlaysOnWire, wire, transferFor, transferOn, transfersOn, configurationsLines, readLines, sizeFor, enumerationOnWire, atRest}
+use Rattle.pipe_runs.specs.Host.{WireLine, PlaysOnWire, ReadsWhole, wire, transferFor, transferOn, transfersOn, configurationsLines, readLines, sizeFor, enumerationOnWire, atRest}
 use Rattle.pipe_runs.specs.Promises.{EnumeratesAnyhow}
 use Rattle.pipe_runs.proofs.Playing.{playedOut, next}
-use Rattle.pipe_runs.proofs.OnWire.{oneTransfer}
+use Rattle.pipe_runs.proofs.OnWire.{oneTransfer, oneReads}
 
 -- ---- a line that is a request answered 0, and none that could ask for a test mode
 abbrev Asks : Line → Type 0
@@ -96,6 +96,16 @@ module _ (b : Board) (octets : BytesOf b) (ok : accepted b ≡ true) where
         (oneTransfer b octets ok r s (other-code (isSome (b .high)) s other) (rw q at x) (ap (λ (z : Seen). z .number) y ∙ n)
         (enumeration.still-end b octets ok r still) (ap (λ (z : Seen). z .reads) y) rest last p)
 
+    one-reads : (l : Line) → Stays b d l → Asks l → ReadsWhole (sizeFor b (d .speed)) l
+    one-reads l (a, x, y) (s, q, other, n) =
+        subst (λ (e : Event). flatMap (λ (x : WireLine). x .1 .packet) (transferFor (sizeFor b (d .speed)) e (l .1 .reads)) ≡ l .1 .reads) (sym q)
+        (oneReads b octets ok r s (other-code (isSome (b .high)) s other) (rw q at x) (ap (λ (z : Seen). z .number) y ∙ n)
+        (enumeration.still-end b octets ok r still) (ap (λ (z : Seen). z .reads) y))
+
+    each-reads : (ls : List Line) → All (Stays b d) ls → All Asks ls → All (ReadsWhole (sizeFor b (d .speed))) ls
+    each-reads [] all asks = tt
+    each-reads (l ∷ ls) (x, all) (y, asks) = (one-reads l x y, each-reads ls all asks)
+
     each : (ls : List Line) → All (Stays b d) ls → All Asks ls → {rest : List WireLine} {last : Records} → PlaysOnWire b (atRest d) rest last
         → PlaysOnWire b (atRest d) (transfersOn (sizeFor b (d .speed)) ls ++ rest) last
     unfolding flatMap
@@ -150,5 +160,15 @@ module _ (b : Board) (octets : BytesOf b) (ok : accepted b ≡ true) where
         (oneTransfer b octets ok at-addressed (raw 0x00 0x09 value 0 0) (other-code (isSome (b .high)) (raw 0x00 0x09 value 0 0) refl)
         (enumeration.by-configuration b octets ok d from speed good a low high i there) refl (enumeration.still-end b octets ok at-end refl) refl [] _ playedOut))))
 
+    pub readsWhole : All (ReadsWhole (sizeFor b speed)) (deviceLines (deviceBody (setFor b speed)) ++ readLines b speed)
+    readsWhole =
+        let at-reset = enumeration.at-reset b octets ok d from speed good a low high i there in
+        let at-addressed = enumeration.at-addressed b octets ok d from speed good a low high i there in
+        let device = deviceLines (deviceBody (setFor b speed)) in
+        all-append (ReadsWhole (sizeFor b speed)) device (readLines b speed)
+        (each-reads at-reset refl device (enumeration.device-stays b octets ok at-reset refl) (device-asks (deviceBody (setFor b speed))))
+        (each-reads at-addressed refl (readLines b speed) (read-stays at-addressed refl refl) (read-asks b speed))
+
 pub enumeratesAnyhow : EnumeratesAnyhow
-enumeratesAnyhow b octets ok r (fit, long) calm speed good a low high i there = playsOnWire b octets ok r fit long calm speed good a low high i there
+enumeratesAnyhow b octets ok r (fit, long) calm speed good a low high i there =
+    (playsOnWire b octets ok r fit long calm speed good a low high i there, readsWhole b octets ok r fit long calm speed good a low high i there)

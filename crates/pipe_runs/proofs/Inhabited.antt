@@ -32,11 +32,11 @@ use Rattle.pipes.specs.Sending.{sent}
 use Rattle.pipes.specs.Pipe.{Told, Records, packetSize, heard}
 use Rattle.pipes.proofs.Inverse.{image-length}
 use Rattle.enumeration.specs.Bodies.{configurationBody}
-use Rattle.enumeration.specs.Enumeration.{enumerated}
+use Rattle.enumeration.specs.Enumeration.{deviceLines, enumerated}
 use Rattle.pipe_runs.specs.Runs.{power, suspend, Happening, onWire, beside, leaves, after, heardIn, powerOn, isIdle, aSetup, answeredWith, isQuiet, endsAt, eventsAt, eventsIn, deviceAfter, noEnd, addressIn}
 use Rattle.pipe_runs.specs.Packets.{sentIn, awaitsIn, replyTo, Within, Begins}
 use Rattle.pipe_runs.specs.Addresses.{Readdresses}
-use Rattle.pipe_runs.specs.Host.{PlaysOnWire, WireLine, wire, sends, awaits, isOver, enumerationOnWire, atRest}
+use Rattle.pipe_runs.specs.Host.{PlaysOnWire, WireLine, ReadsWhole, readLines, sizeFor, wire, sends, awaits, isOver, enumerationOnWire, atRest}
 use Rattle.pipe_runs.specs.Promises.{requestsIn, ToldOnce, SendsNothing, ran}
 use Rattle.pipe_runs.proofs.Promises.{nothingElseMoves, readsTheReply, readsTheApplications, ownAddress, oncePerTransfer, neverForADropped, orderDoesNotCount, noLockOut, refusedSendsNothing, enumeratesByPackets, neverEight}
 
@@ -70,25 +70,34 @@ oneS : bNumConfigurations (deviceBody (setFor S 0)) ≡ 1
 unfolding computed
 oneS = refl
 
+sizeS : sizeFor S 0 ≡ 8
+unfolding computed
+sizeS = refl
+
 pub enumeratesS : PlaysOnWire S powerOn (enumerationOnWire S 0 5 0) (atRest (enumerated 0 5 (bConfigurationValue (configurationBody (setFor S 0) 0)) (deviceOf (powerOn .image))))
-enumeratesS = enumeratesByPackets S bytesS acceptedS powerOn (ran []) calm 0 refl 5 (omega arith) (omega arith) 0 (omega (arith, oneS))
+enumeratesS = enumeratesByPackets S bytesS acceptedS powerOn (ran []) calm 0 refl 5 (omega arith) (omega arith) 0 (omega (arith, oneS)) .0
+
+-- and all that it reads
+pub readsAllS : All (ReadsWhole 8) (deviceLines (deviceBody (setFor S 0)) ++ readLines S 0)
+readsAllS = subst (λ (p : ℕ). All (ReadsWhole p) (deviceLines (deviceBody (setFor S 0)) ++ readLines S 0)) sizeS
+    (enumeratesByPackets S bytesS acceptedS powerOn (ran []) calm 0 refl 5 (omega arith) (omega arith) 0 (omega (arith, oneS)) .1)
 
 oneT : bNumConfigurations (deviceBody (setFor T 0)) ≡ 1
 unfolding computed
 oneT = refl
 
 pub enumeratesT : PlaysOnWire T powerOn (enumerationOnWire T 0 127 0) (atRest (enumerated 0 127 (bConfigurationValue (configurationBody (setFor T 0) 0)) (deviceOf (powerOn .image))))
-enumeratesT = enumeratesByPackets T bytesT acceptedT powerOn (ran []) calm 0 refl 127 (omega arith) (omega arith) 0 (omega (arith, oneT))
+enumeratesT = enumeratesByPackets T bytesT acceptedT powerOn (ran []) calm 0 refl 127 (omega arith) (omega arith) 0 (omega (arith, oneT)) .0
 
 onePair : (bNumConfigurations (deviceBody (setFor pair 0)) ≡ 1) × (bNumConfigurations (deviceBody (setFor pair 1)) ≡ 1)
 unfolding computed
 onePair = (refl, refl)
 
 pub enumeratesFull : PlaysOnWire pair powerOn (enumerationOnWire pair 0 7 0) (atRest (enumerated 0 7 (bConfigurationValue (configurationBody (setFor pair 0) 0)) (deviceOf (powerOn .image))))
-enumeratesFull = enumeratesByPackets pair bytesPair acceptedPair powerOn (ran []) calm 0 refl 7 (omega arith) (omega arith) 0 (omega (arith, onePair .0))
+enumeratesFull = enumeratesByPackets pair bytesPair acceptedPair powerOn (ran []) calm 0 refl 7 (omega arith) (omega arith) 0 (omega (arith, onePair .0)) .0
 
 pub enumeratesHigh : PlaysOnWire pair powerOn (enumerationOnWire pair 1 7 0) (atRest (enumerated 1 7 (bConfigurationValue (configurationBody (setFor pair 1) 0)) (deviceOf (powerOn .image))))
-enumeratesHigh = enumeratesByPackets pair bytesPair acceptedPair powerOn (ran []) calm 1 refl 7 (omega arith) (omega arith) 0 (omega (arith, onePair .1))
+enumeratesHigh = enumeratesByPackets pair bytesPair acceptedPair powerOn (ran []) calm 1 refl 7 (omega arith) (omega arith) 0 (omega (arith, onePair .1)) .0
 
 -- ---- S once more: the host reads the device, breaks in with SET_ADDRESS after two packets, and takes its status stage
 abbrev device : Told

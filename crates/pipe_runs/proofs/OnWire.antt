@@ -3,12 +3,12 @@ use Prim.Native.Nat.{ℕ, zero, suc, _+_, _-_, _*_, _/_, _%_, _≤_, _<_}
 use native.Mathlib.Omega.{arith}
 use mathlib.Core.Path.{_≡_, refl, sym, ap, subst, _∙_}
 use mathlib.Core.Bool.{Bool, true, false, _&&_}
-use mathlib.Core.List.{List, [], _∷_, _++_, map}
+use mathlib.Core.List.{List, [], _∷_, _++_, map, flatMap}
 use lib.ListN.{length}
 use lib.Dec.{eqb, leb}
 use borrow.Author.Tests.{eqb-true, eqb-false, lt-ltb, leb-true}
 use Rattle.octets.specs.Octets.{Bytes}
-use Rattle.octets.specs.Sentences.{pick, from, every, isSome}
+use Rattle.octets.specs.Sentences.{pick, from, every, isSome, upTo}
 use Rattle.octets.proofs.Sentences.{cases, conjunct, every-member}
 use Rattle.sets.specs.Opening.{Board, BytesOf}
 use Rattle.sets.specs.View.{accepted}
@@ -27,7 +27,8 @@ use Rattle.events.specs.Answer.{numberOf, gives, done}
 use Rattle.events.specs.Step.{Reply, replyOf, setupEvent, answerSetup, asksTestMode, step, event}
 use Rattle.laws.proofs.Recipients.{let-through}
 use Rattle.promises.specs.Images.{onImage, stepSized}
-use Rattle.packets.specs.Packets.{packet}
+use Rattle.packets.specs.Packets.{canCut, packet}
+use Rattle.packets.proofs.Sizes.{not-longer}
 use Rattle.pipes.specs.declared.Transfer.{Transfer}
 use Rattle.pipes.specs.Transfer.{idle, send, statusIn, withStage, fits}
 use Rattle.pipes.specs.Image.{transferOf, imageOf}
@@ -40,6 +41,7 @@ use Rattle.pipe_runs.specs.Runs.{answeredWith}
 use Rattle.pipe_runs.specs.Packets.{packetAt, packetOf, packetsOf, given, replyTo}
 use Rattle.pipe_runs.specs.Host.{WireLine, PlaysOnWire, setupBytes, aSetupOf, sends, withoutData, takesNext, takesLast, inPackets, transferFor, sizeFor, atRest}
 use Rattle.pipe_runs.proofs.Courses.{Fit, many, next-number}
+use Rattle.pipe_runs.proofs.Cutting.{whole, some-packet}
 use Rattle.pipe_runs.proofs.Replies as replies
 use Rattle.pipe_runs.proofs.Playing.{next, Ending, takesStatus, takes}
 
@@ -95,6 +97,37 @@ tabled state s p =
     largest : (r : Row) (v : ℕ) → r .index ≤ 65535 → r .string ≤ 65535 → largestIndex r v ≤ 65535
     largest r v p q = cases (eqb (v / 256) 3) (λ z. rw z q) (λ z. rw z p)
 
+-- a packet's number is at most wLength
+few : (t : Transfer) (m : ℕ) → canCut (t .length) (t .asked) (t .size) ≡ true → m < many t → m ≤ t .asked
+few t m can l = small (t .length) (t .asked) (t .size) m (eqb-true (packet (t .length) (t .asked) (t .size) m .number) 0 (next-number (t .length) (t .asked) (t .size) m can ∙ lt-ltb m (many t) l))
+
+-- ---- the packets of a transfer, put together
+after-first : (bytes : List ℕ) (w p : ℕ) (ks : List ℕ) → flatMap (λ (x : WireLine). x .1 .packet) (map (takesNext bytes w p) ks ++ takesLast) ≡ flatMap (packetOf bytes w p) ks
+unfolding flatMap
+after-first bytes w p [] = refl
+after-first bytes w p (k ∷ ks) = ap (λ (x : List ℕ). packetOf bytes w p k ++ x) (after-first bytes w p ks)
+
+first-of : (n : ℕ) → 0 < n → upTo n ≡ 0 ∷ from 1 (n - 1)
+unfolding from
+first-of zero h = absurd (omega arith)
+first-of (suc n) h = let e : suc n - 1 ≡ n = omega arith in rw e
+
+put-together : (p : ℕ) (s : Setup) (bytes : List ℕ) → canCut (length bytes) (s .wLength) p ≡ true
+    → flatMap (λ (x : WireLine). x .1 .packet) (transferFor p (Request s) bytes) ≡ bytes
+unfolding flatMap
+put-together p s bytes can = go (eqb (s .wLength) 0) refl
+  where
+    none : (l : List ℕ) → length l ≤ 0 → [] ≡ l
+    none [] h = refl
+    none (x ∷ l) h = absurd (omega arith)
+
+    go : (x : Bool) → eqb (s .wLength) 0 ≡ x → flatMap (λ (x : WireLine). x .1 .packet) (pick x (withoutData s) (inPackets p s bytes)) ≡ bytes
+    go true z = let w = eqb-true (s .wLength) 0 z in none bytes (omega (arith, not-longer (length bytes) (s .wLength) p can))
+    go false z =
+        let n = packetsOf bytes (s .wLength) p in
+        ap (λ (x : List ℕ). packetOf bytes (s .wLength) p 0 ++ x) (after-first bytes (s .wLength) p (from 1 (n - 1)))
+        ∙ ap (flatMap (packetOf bytes (s .wLength) p)) (sym (first-of n (some-packet (length bytes) (s .wLength) p can (eqb-false (s .wLength) 0 z)))) ∙ whole bytes (s .wLength) p can
+
 -- ---- one transfer
 module _ (b : Board) (octets : BytesOf b) (ok : accepted b ≡ true) {d mid left : Device} (r : Ready b d) (s : Setup) (unasked : asksTestMode (isSome (b .high)) s ≡ false)
     {a : Answer} (steps : step b d (Request s) ≡ gives a mid) (answered : numberOf a ≡ 0) (ended : step b mid StatusEnd ≡ done left)
@@ -132,6 +165,37 @@ module _ (b : Board) (octets : BytesOf b) (ok : accepted b ≡ true) {d mid left
   fit : Fit (lengthsOf b (event b image (setupEvent (setupBytes s)) .image) []) t
   fit = replies.fit b (atRest d) (setupBytes s) [] idle-long refl (small-bytes s fields) answers
 
+  -- ---- what the library's answer gives, and by which size it is cut
+  abbrev here : List ℕ
+  here = replyTo b image (setupBytes s)
+
+  size-back : packetSize b image ≡ sizeFor b (d .speed)
+  unfolding deviceOf records.imageOf
+  size-back = refl
+
+  speed-back : deviceOf image .speed ≡ d .speed
+  unfolding deviceOf records.imageOf
+  speed-back = refl
+
+  reads-so : here ≡ bytes
+  reads-so = ap (λ speed. given b speed (event b image (setupEvent (setupBytes s)) .answer)) speed-back ∙ ap (λ (x : Reply). given b (d .speed) (x .answer)) shown ∙ reads
+
+  same-length : setupOf (setupBytes s) .wLength ≡ s .wLength
+  same-length = ap (λ (x : Setup). x .wLength) (setup-back s)
+
+  can-cut : canCut (length bytes) (s .wLength) (sizeFor b (d .speed)) ≡ true
+  can-cut =
+      let can = replies.can b (atRest d) (setupBytes s) [] idle-long refl (small-bytes s fields) answers in
+      let long = replies.lies b (atRest d) (setupBytes s) [] idle-long refl (small-bytes s fields) answers .long in
+      subst (λ (x : List ℕ). canCut (length x) (s .wLength) (sizeFor b (d .speed)) ≡ true) reads-so
+      (subst (λ (p : ℕ). canCut (length here) (s .wLength) p ≡ true) size-back
+      (subst (λ (w : ℕ). canCut (length here) w (packetSize b image) ≡ true) same-length
+      (subst (λ (n : ℕ). canCut n (t .asked) (t .size) ≡ true) (sym long) can)))
+
+  -- ---- what is read of it, put together
+  pub oneReads : flatMap (λ (x : WireLine). x .1 .packet) (transferFor (sizeFor b (d .speed)) (Request s) bytes) ≡ bytes
+  oneReads = put-together (sizeFor b (d .speed)) s bytes can-cut
+
   module _ (rest : List WireLine) (last : Records) (then : PlaysOnWire b (atRest left) rest last) where
     without-data : s .wLength ≡ 0 → PlaysOnWire b (atRest d) (withoutData s ++ rest) last
     unfolding fits sent transferOf imageOf
@@ -142,9 +206,6 @@ module _ (b : Board) (octets : BytesOf b) (ok : accepted b ≡ true) {d mid left
         (takesStatus (withStage statusIn t) refl size f ending then)
 
     -- with data: packet 0 at the SETUP, each further one when the one before is taken
-    abbrev here : List ℕ
-    here = replyTo b image (setupBytes s)
-
     abbrev so : List ℕ → ℕ → ℕ → Type 0
     so bytes w p =
         PlaysOnWire b (atRest d) (((aSetupOf s, sends (packetOf bytes w p 0)) ∷ (map (takesNext bytes w p) (from 1 (packetsOf bytes w p - 1)) ++ takesLast)) ++ rest) last
@@ -158,29 +219,16 @@ module _ (b : Board) (octets : BytesOf b) (ok : accepted b ≡ true) {d mid left
         let some = replies.some b (atRest d) (setupBytes s) [] idle-long refl (small-bytes s fields) answers asks in
         let n : packetsOf here (t .asked) (t .size) ≡ many t = rw (lies .long) in
         let m = packetsOf here (t .asked) (t .size) - 1 in
-        let given0 : eqb (packet (t .length) (t .asked) (t .size) m .number) 0 ≡ true
-        = next-number (t .length) (t .asked) (t .size) m can ∙ lt-ltb m (many t) (omega arith) in
-        let low = small (t .length) (t .asked) (t .size) m (eqb-true _ 0 given0) in
+        let low = few t m can (omega arith) in
         let wide = fit .sized .asked-fits in
         next (atRest d) (aSetupOf s) (heard b (atRest d) (aSetupOf s)) refl
         (ap (λ (h : Heard). record { number = h .number; order = h .order; packet = pick (eqb (h .order) send) (packetAt b (atRest d) (aSetupOf s)) [] }) begins ∙ ap sends first)
         (subst (λ (h : Heard). PlaysOnWire b (h .left) ((map (takesNext here (t .asked) (t .size)) (from 1 m) ++ takesLast) ++ rest) last) (sym begins)
         (takes b (event b image (setupEvent (setupBytes s)) .image) (records.imageOf left) t here lies ending rest last then m 0 (omega arith) (omega arith) fit))
 
-    size-back : packetSize b image ≡ sizeFor b (d .speed)
-    unfolding deviceOf records.imageOf
-    size-back = refl
-
-    speed-back : deviceOf image .speed ≡ d .speed
-    unfolding deviceOf records.imageOf
-    speed-back = refl
-
-    reads-so : here ≡ bytes
-    reads-so = ap (λ speed. given b speed (event b image (setupEvent (setupBytes s)) .answer)) speed-back ∙ ap (λ (x : Reply). given b (d .speed) (x .answer)) shown ∙ reads
-
     with-data : (s .wLength ≡ 0 → ⊥) → PlaysOnWire b (atRest d) (inPackets (sizeFor b (d .speed)) s bytes ++ rest) last
     with-data asks =
-        let size : setupOf (setupBytes s) .wLength ≡ s .wLength = ap (λ (x : Setup). x .wLength) (setup-back s) in
+        let size = same-length in
         subst (λ (x : List ℕ). so x (s .wLength) (sizeFor b (d .speed))) reads-so
         (subst (λ (p : ℕ). so here (s .wLength) p) size-back
         (subst (λ (w : ℕ). so here w (packetSize b image)) size (data-so (λ z. asks (sym size ∙ z)))))

@@ -98,6 +98,10 @@ transferFor p Wake bytes = []
 abbrev pub transferOn : ℕ → Line → List WireLine
 transferOn p l = transferFor p (l .0) (l .1 .reads)
 
+-- what the host reads of it, its packets put together, is what the request's line says
+abbrev pub ReadsWhole : ℕ → Line → Type 0
+ReadsWhole p l = flatMap (λ (x : WireLine). x .1 .packet) (transferOn p l) ≡ l .1 .reads
+
 abbrev pub transfersOn : ℕ → List Line → List WireLine
 transfersOn p ls = flatMap (transferOn p) ls
 

@@ -1,10 +1,10 @@
--- THE PROMISES of the pipe (docs/PIPE.md), for every run of wire events by any host and any application. The first is the exports' contract; 2 to 8 stand here, proved in
--- proofs/Promises and applied in proofs/Inhabited.
+-- THE PROMISES of the pipe (docs/PIPE.md, 50 to 57), for every run by any host and any application, the board's other events between the pipe's. The first, PIPE 50, is the
+-- exports' contract; the other seven stand here, proved in proofs/Promises and applied in proofs/Inhabited.
 use Prim.Native.Nat.{ℕ, _+_, _≤_, _<_}
 use mathlib.Core.Path.{_≡_}
 use mathlib.Core.Logic.{_⊎_}
 use mathlib.Core.Bool.{true, false, not}
-use mathlib.Core.List.{List, [], _∷_}
+use mathlib.Core.List.{List, [], _∷_, _++_}
 use lib.ListN.{length, take}
 use Rattle.octets.specs.Octets.{Bytes}
 use Rattle.octets.specs.Sentences.{pick, only, isSome}
@@ -30,14 +30,14 @@ use Rattle.pipes.specs.Image.{transferOf, imageOf, fitsIn}
 use Rattle.pipes.specs.Turns.{mayReply}
 use Rattle.pipes.specs.Pipe.{Told, Records, Heard, lengthsOf, packetSize, heard}
 use Rattle.enumeration.specs.Bodies.{configurationBody}
-use Rattle.enumeration.specs.Enumeration.{enumerated}
+use Rattle.enumeration.specs.Enumeration.{deviceLines, enumerated}
 use Rattle.pipe_runs.specs.Runs.{Happening, onWire, beside, leaves, leavesBy, after, heardIn, powerOn, Resting, aSetup, answeredWith, isSetupPacket, isQuiet, endsAt, eventsAt, eventsIn, deviceAfter, numberAfter, tellsEnd, noEnd}
 use Rattle.pipe_runs.specs.Packets.{replyTo, Within, Begins}
 use Rattle.pipe_runs.specs.Addresses.{Readdresses}
-use Rattle.pipe_runs.specs.Host.{PlaysOnWire, enumerationOnWire, atRest}
+use Rattle.pipe_runs.specs.Host.{PlaysOnWire, ReadsWhole, readLines, sizeFor, enumerationOnWire, atRest}
 
--- ---- 2. "Nothing else moves the device. The device record after a run is that of the library's own events: a setup at each SETUP, a status end at each transfer that has ended,
--- a reset at each reset, and no other."
+-- ---- PIPE 51: "Nothing else moves the device. The device record after a run is that of the library's own events: a setup at each SETUP, a status end at each transfer that has ended,
+-- a reset at each reset, and no other"; and the board's other events, told beside the pipe
 abbrev pub NothingElseMoves : Type 0
 NothingElseMoves = (b : Board) (r : Records) (es : List Happening) → after b r es .image ≡ deviceAfter b (r .image) (eventsIn b r es)
 
@@ -59,7 +59,7 @@ OrderDoesNotCount =
     → (after b r es .image ≡ after b r fs .image)
     × ((k : ℕ) → imageHeard b (r .image) k (requestsIn b r es) ≡ imageHeard b (r .image) k (requestsIn b r fs))
 
--- ---- 3. "What the host reads is the reply, where the same reply is lent while it goes out": of a SETUP that is answered 0 and asks for bytes, whatever follows it but a SETUP and a
+-- ---- PIPE 52: "What the host reads is the reply, where the same reply is lent while it goes out": of a SETUP that is answered 0 and asks for bytes, whatever follows it but a SETUP and a
 -- reset. "Of a transfer's packets the k-th that is handed over is the cutter's packet k, each once, in order, none after the last; what the host has taken is the beginning of the
 -- reply, and all of it when await was ordered."
 abbrev pub ReadsTheReply : Type 0
@@ -76,12 +76,12 @@ ReadsTheApplications =
     → (es : List Happening) → All (Within reply) es
     → (let t = transferOf (r .pipe) in Begins b r (onWire (record { wire = Reply; setup = []; reply = reply }) ∷ es) (take (t .asked) reply) (t .asked) (t .size))
 
--- ---- 4. "An address is taken at the end of its own status stage, and never otherwise, from power-on (idle or stalled): the address byte changes only at a taken in status in after a
--- SET_ADDRESS that was answered with 0 and no SETUP or reset since, or at a reset."
+-- ---- PIPE 53: "An address is taken at the end of its own status stage, and never otherwise, in runs from idle or stalled: the address byte changes only at a taken in status in
+-- after a SET_ADDRESS that was answered with 0, with no SETUP of 8 bytes and no reset answered with 0 since; or at a reset"
 abbrev pub OwnAddress : Type 0
 OwnAddress = (b : Board) (r : Records) → Resting (r .pipe) → (es : List Happening) (h : Happening) → Readdresses b (after b r es) h
 
--- ---- 5. "A status end is told once for each transfer that ended, and never for one that was dropped."
+-- ---- PIPE 54: "A status end is told once for each transfer that ended, and never for one that was dropped."
 -- a transfer ends at a packet taken in status in, or at an empty packet in data in and status out
 pub data EndsBy (t : Transfer) : Wire → Type 0 where
   byTaken : t .stage ≡ statusIn → EndsBy t Taken
@@ -114,13 +114,13 @@ setupsIn (beside x ∷ es) = setupsIn es
 abbrev pub AtMostOnePerSetup : Type 0
 AtMostOnePerSetup = (b : Board) (r : Records) → Resting (r .pipe) → (es : List Happening) → endsIn (eventsIn b r es) ≤ setupsIn es
 
--- ---- 6. "No pipe record locks the device out: whatever the sixteen bytes, the next SETUP is answered as from idle."
+-- ---- PIPE 55: "No pipe record locks the device out: whatever the sixteen bytes, the next SETUP is answered as from idle."
 abbrev pub NoLockOut : Type 0
 NoLockOut =
     (b : Board) (image pipe setup reply : List ℕ) → length pipe ≡ 16 → length setup ≡ 8
     → heard b (record { image = image; pipe = pipe }) (aSetup setup reply) ≡ heard b (record { image = image; pipe = imageOf idle }) (aSetup setup reply)
 
--- ---- 7. "A refused setup sends nothing: from stalled on, no packet until the next SETUP or reset." None goes out, none may come in, none is awaited
+-- ---- PIPE 56: "A refused setup sends nothing: from stalled on, no packet until the next SETUP or reset." None goes out, none may come in, none is awaited
 pub record SendsNothing (h : Heard) : Type 0 where
   pub sends : h .order ≡ send → ⊥
   pub receives : h .order ≡ receive → ⊥
@@ -137,7 +137,7 @@ RefusedSendsNothing =
 abbrev pub RestSendsNothing : Type 0
 RestSendsNothing = (b : Board) (r : Records) → Resting (r .pipe) → (es : List Happening) → All isQuiet es → All SendsNothing (heardIn b r es)
 
--- ---- 8. "Enumeration, packet by packet: a host that resets, reads the device descriptor, sets an address, reads every configuration and string whole, and sets a configuration,
+-- ---- PIPE 57: "Enumeration, packet by packet: a host that resets, reads the device descriptor, sets an address, reads every configuration and string whole, and sets a configuration,
 -- taking each packet that is handed over, reads exactly the set's bytes and ends with a Configured device, for every accepted set, speed and address." From power-on, after any run
 -- that ends in no test mode
 abbrev pub EnumeratesFrom : (Board → Records → Type 0) → Type 0
@@ -148,6 +148,7 @@ EnumeratesFrom Start =
     → (address : ℕ) → 1 ≤ address → address ≤ 127
     → (i : ℕ) → i < bNumConfigurations (deviceBody (setFor b speed))
     → PlaysOnWire b r (enumerationOnWire b speed address i) (atRest (enumerated speed address (bConfigurationValue (configurationBody (setFor b speed) i)) (deviceOf (r .image))))
+    × All (ReadsWhole (sizeFor b speed)) (deviceLines (deviceBody (setFor b speed)) ++ readLines b speed)
 
 -- what a run from power-on leaves
 pub data SincePowerOn (b : Board) : Records → Type 0 where
@@ -160,7 +161,7 @@ EnumeratesByPackets = EnumeratesFrom SincePowerOn
 abbrev pub EnumeratesAnyhow : Type 0
 EnumeratesAnyhow = EnumeratesFrom (λ b r. FitImage b (r .image) × (length (r .pipe) ≡ 16))
 
--- ---- and: from power-on no event of a run gets 8, where the application's reply is lent while it goes out
+-- ---- PIPE 44: where "the application's reply is lent at each event while it goes out", no event of a run from power-on gets 8
 -- the reply that is lent is not shorter than the pipe record says
 abbrev pub Lent : Records → Told → Type 0
 Lent r e = transferOf (r .pipe) .block ≡ inReply → transferOf (r .pipe) .length ≤ length (e .reply)
