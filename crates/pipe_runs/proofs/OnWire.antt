@@ -222,7 +222,8 @@ module _ (b : Board) (octets : BytesOf b) (ok : accepted b ≡ true) {d mid left
         let low = few t m can (omega arith) in
         let wide = fit .sized .asked-fits in
         next (atRest d) (aSetupOf s) (heard b (atRest d) (aSetupOf s)) refl
-        (ap (λ (h : Heard). record { number = h .number; order = h .order; packet = pick (eqb (h .order) send) (packetAt b (atRest d) (aSetupOf s)) [] }) begins ∙ ap sends first)
+        (_∙_ {b = sends (packetAt b (atRest d) (aSetupOf s))}
+        (ap (λ (h : Heard). record { number = h .number; order = h .order; packet = pick (eqb (h .order) send) (packetAt b (atRest d) (aSetupOf s)) [] }) begins) (ap sends first))
         (subst (λ (h : Heard). PlaysOnWire b (h .left) ((map (takesNext here (t .asked) (t .size)) (from 1 m) ++ takesLast) ++ rest) last) (sym begins)
         (takes b (event b image (setupEvent (setupBytes s)) .image) (records.imageOf left) t here lies ending rest last then m 0 (omega arith) (omega arith) fit))
 
