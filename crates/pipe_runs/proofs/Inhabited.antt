@@ -24,12 +24,12 @@ use Rattle.promises.specs.Keeps.{FitImage, imageFits}
 use Rattle.promises.specs.Rearranged.{eventsOf, Rearranged}
 use Rattle.promises.specs.Pairs.{pair, acceptedPair, bytesPair}
 use Rattle.pipes.specs.declared.Wire.{Wire}
-use Rattle.pipes.specs.declared.Wire.the-variants.{Taken, Received, Reset, Reply}
-use Rattle.pipes.specs.Transfer.{idle, stall, fits}
+use Rattle.pipes.specs.declared.Wire.the-variants.{Taken, Received, Reset, Reply, Room, Accept}
+use Rattle.pipes.specs.Transfer.{idle, stall, fits, nothing, send, receive, ask}
 use Rattle.pipes.specs.Image.{transferOf, imageOf}
-use Rattle.pipes.specs.Turns.{taken, received, replied, turned}
+use Rattle.pipes.specs.Turns.{taken, received, replied, turned, roomed, accepted}
 use Rattle.pipes.specs.Sending.{sent}
-use Rattle.pipes.specs.Pipe.{Told, Records, packetSize, heard}
+use Rattle.pipes.specs.Pipe.{Told, Records, packetSize, heard, Heard}
 use Rattle.pipes.proofs.Inverse.{image-length}
 use Rattle.enumeration.specs.Bodies.{configurationBody}
 use Rattle.enumeration.specs.Enumeration.{deviceLines, enumerated}
@@ -263,3 +263,30 @@ rearranged = record { one = refl; other = refl; same = sameEvents }
 
 pub orderT : after T atT oneOrder .image ≡ after T atT otherOrder .image
 orderT = orderDoesNotCount T bytesT acceptedT atT fitT (ap (λ (d : Device). d .waiting) backT) oneOrder otherOrder (rw (backT, oneRequests, otherRequests) rearranged) .0
+
+-- ---- a vendor's request that writes 10 bytes: the application has room for them, 8 and 2 come, it accepts, and the host takes the empty packet
+abbrev writes : List Told
+writes = asks 0x4001000000000A00 ∷ wire (Room 16) ∷ wire (Received 8) ∷ wire (Received 2) ∷ wire Accept ∷ wire Taken ∷ []
+
+pub ordersS : map (λ (h : Heard). h .order) (heardIn S powerOn (runs writes)) ≡ ask ∷ receive ∷ receive ∷ ask ∷ send ∷ nothing ∷ []
+unfolding computed heard transferOf imageOf fits turned taken received roomed accepted
+ordersS = refl
+
+-- ---- T: the serial number, string 3, from the serial block; and its reset in the middle of it
+pub sentT : sentIn T powerOn (runs (asks 0x800603030904FF00 ∷ wire Taken ∷ wire (Received 0) ∷ [])) ≡ bytes 4 0x04033700 ∷ []
+unfolding computed heard transferOf imageOf fits turned taken received sent
+sentT = refl
+
+pub movesT : (es : List Happening) → after T powerOn es .image ≡ deviceAfter T (powerOn .image) (eventsIn T powerOn es)
+movesT es = nothingElseMoves T powerOn es
+
+pub ownT : (es : List Happening) (h : Happening) → Readdresses T (after T powerOn es) h
+ownT es h = ownAddress T powerOn isIdle es h
+
+-- ---- the pair, reset to high speed: its qualifier is one packet of 10 bytes, of the set in use
+pub sentPair : sentIn pair powerOn (runs (wire (Reset 1) ∷ asks 0x8006000600004000 ∷ wire Taken ∷ [])) ≡ bytes 10 0x0A060002000000400100 ∷ []
+unfolding computed heard transferOf imageOf fits turned taken sent
+sentPair = refl
+
+pub ownPair : (es : List Happening) (h : Happening) → Readdresses pair (after pair powerOn es) h
+ownPair es h = ownAddress pair powerOn isIdle es h
