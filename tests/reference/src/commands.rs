@@ -11,6 +11,7 @@ use crate::fault::{self, Fault};
 use crate::files;
 use crate::makers;
 use crate::octets::kebab;
+use crate::pipe_runs::{self, EVENTS, ORDERS, STAGES};
 use crate::runs;
 use crate::serve::serve;
 use crate::strikes;
@@ -26,6 +27,7 @@ const DEFAULT_PAIRS: usize = 100_000;
 const DEFAULT_PAIR_CALLS: usize = 200_000;
 const DEFAULT_PORT_CALLS: usize = 100_000;
 const DEFAULT_STRIKES: usize = 200_000;
+const DEFAULT_WIRE_CALLS: usize = 200_000;
 const DEFAULT_RUNS: usize = 20_000;
 const DEFAULT_SUPERS: usize = 100_000;
 
@@ -40,6 +42,9 @@ const PAIR_NUMBERS: [u8; 19] = [0, 1, 2, 3, 4, 5, 6, 7, 8, 9, 10, 11, 12, 13, 14
 /// Those of an event at a port.
 const PORT_NUMBERS: [u8; 13] = [0, 7, 8, 9, 10, 11, 12, 13, 14, 16, 17, 18, 19];
 
+/// Those of an event of the wire.
+const WIRE_NUMBERS: [u8; 11] = [0, 7, 8, 9, 10, 11, 12, 13, 14, 16, 17];
+
 /// So many differences are enough to choose the smallest from.
 const PATIENCE: usize = 1_000;
 
@@ -47,10 +52,10 @@ pub const USAGE: &str = "\
 reference vectors [--least N] FILE..            answers every question of the files, at least N (1) in each, and compares
 reference run-vectors --program CMD [--least N] FILE..
                                                 the same, and through a harness
-reference compare --program CMD [--sets N] [--calls N] [--pairs N] [--pair-calls N] [--port-calls N] [--strikes N] [--writes N] [--dumps N] [--trims N]
+reference compare --program CMD [--sets N] [--calls N] [--pairs N] [--pair-calls N] [--port-calls N] [--strikes N] [--wire-calls N] [--writes N] [--dumps N] [--trims N]
                   [--supers N] [--seed S] [--fault NAME]
                                                 sets through opening, calls over the whole boundary, or both; the same with two sets lent; events at ports;
-                                                runs from power-on, whole and with the other drivers' events struck;
+                                                runs from power-on, whole and with the other drivers' events struck; events of the wire;
                                                 streams of pieces; dumps; sets to trim; SuperSpeed sets, opened and written;
                                                 from 100,000 sets and 200,000 calls on each rule and number must be reached
 reference faults --program CMD [--seed S]       every planted fault must be noticed
@@ -195,7 +200,9 @@ fn compare(arguments: &Arguments) -> Verdict {
     let (pairs, pair_calls) = (arguments.number("pairs")?, arguments.number("pair-calls")?);
     let port_calls = arguments.number("port-calls")?;
     let strikes = arguments.number("strikes")?;
-    let both = [sets, calls, writes, dumps, trims, supers, pairs, pair_calls, port_calls, strikes].iter().all(Option::is_none);
+    let wire_calls = arguments.number("wire-calls")?;
+    let named = [sets, calls, writes, dumps, trims, supers, pairs, pair_calls, port_calls, strikes, wire_calls];
+    let both = named.iter().all(Option::is_none);
     let mut right = true;
     if let Some(pairs) = pairs {
         right &= compare_pairs(arguments, pairs)?;
@@ -205,6 +212,9 @@ fn compare(arguments: &Arguments) -> Verdict {
     }
     if let Some(calls) = strikes {
         right &= compare_strikes(arguments, calls)?;
+    }
+    if let Some(calls) = wire_calls {
+        right &= compare_wires(arguments, calls)?;
     }
     if let Some(calls) = port_calls {
         right &= compare_ports(arguments, calls)?;
@@ -286,6 +296,23 @@ fn compare_ports(arguments: &Arguments, calls: usize) -> Verdict {
         println!("{unlike}");
     }
     Ok(same & unlike.is_none() & reached(&numbered(&numbers, &PORT_NUMBERS), calls >= DEFAULT_PORT_CALLS))
+}
+
+/// Every event in every stage, every order and every number.
+fn compare_wires(arguments: &Arguments, calls: usize) -> Verdict {
+    let mut comparison = Comparison::start(arguments.program()?, PATIENCE).map_err(told)?;
+    let tally = pipe_runs::wires(&mut comparison, calls, arguments.seed()?, arguments.fault()?);
+    let numbers = comparison.numbers;
+    let same = ended(comparison, "pipe", "events")?;
+    let demanded = calls >= DEFAULT_WIRE_CALLS;
+    let in_stages = STAGES.iter().zip(tally.met).flat_map(|(stage, counts)| {
+        let of_event = move |(event, count): (&&str, usize)| (format!("{event} in {stage}"), count);
+        EVENTS.iter().zip(counts).map(of_event).collect::<Vec<_>>()
+    });
+    let in_stages: Vec<(String, usize)> = in_stages.collect();
+    let orders: Vec<(String, usize)> = ORDERS.iter().map(|order| format!("order {order}")).zip(tally.orders).collect();
+    let met = reached(&in_stages, demanded) & reached(&orders, demanded);
+    Ok(same & met & reached(&numbered(&numbers, &WIRE_NUMBERS), demanded))
 }
 
 /// The law holds in every run, and each premise is needed: a run without it is noticed.
@@ -392,6 +419,8 @@ fn faults(arguments: &Arguments) -> Verdict {
             super_draft::opening(&mut comparison, DEFAULT_SUPERS, seed, fault);
         } else if fault::PORTS.contains(&fault) {
             runs::ports(&mut comparison, DEFAULT_PORT_CALLS, seed, fault);
+        } else if fault::PIPE.contains(&fault) {
+            pipe_runs::wires(&mut comparison, DEFAULT_WIRE_CALLS, seed, fault);
         } else if fault::STRIKES.contains(&fault) {
             runs::strikes(&mut comparison, DEFAULT_STRIKES, seed, fault);
         } else {

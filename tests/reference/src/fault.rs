@@ -135,6 +135,23 @@ faults! {
         HaltStopsEveryEndpoint StatusOfAnyHalt InterfaceClearsWakeup AlternateOfHighestInterface PacketPassedDropsTestMode
         HaltFeatureSuspends SettingTakenByNeighbour
     }
+    PIPE {
+        LongerPipePasses SetupOnAnyPipe SetupNeedsFittingPipe DroppedTransferEnds PipeOfFullSet TwoBytesAreNoBlock NoSizeFits
+        StageEightFits BlockFourFits AnyDirectionFits LastBytesIgnored ReplyAboveAskedFits ReplyOutsideBlockFits
+        TooManyReceivedFit WrongSetupLengthStalls WrongStateAsks ApplicationNotAsked DirectionIgnored PacketSizeOfFullSet
+        ResetSpeedByLowByte SpeedNotTold ResetKeepsTransfer RefusedResetEndsTransfer MisfitBecomesIdle PacketOpensSet
+        TakenEndsStatusOut SamePacketAgain PacketSkipped EndsWithoutStatus EarlyStatusIgnored AnyPacketIsStatus
+        StrayPacketEndsStatusIn ShortPacketPasses EmptyPacketPasses LongPacketPasses BytesOfEachPacketAtTheStart
+        BytesTakenUnasked RefusedUnasked AcceptedUnasked ReplyToAWrite ReplyWithoutData RoomForARead BytesRefusedAllTheSame
+        RefusedBytesAccepted AcceptedWithoutItsData ReplyLongerThanAsked ReplyLiesInSet RoomNotMeasured RoomOneMore
+        StallKeepsTransfer StallNotOrdered EndedTransferStays RefusedEndKeepsTransfer StatusEndNotTold TestModeNotEntered
+        PacketFromTheStart RoomIsPacketSize
+    }
+    LOOP {
+        EndpointsNeverClosed FirstEndpointSkipped OneEndpointOnly EndpointsNotChangedBySetConfiguration
+        EndpointsNotChangedBySetInterface TestModeByItsByte EventsGoToTheFirstPort HardwareOfTheFirstPort
+        PacketOfOldBytes ReplyNotLentAgain AddressFollowedAtSetup EarlyStatusNotExpected
+    }
     LISTER {
         AttributesInsteadOfTransferType PacketSizeByLowByte IndexInsteadOfValue FirstSettingsOnly
         SettingsInsteadOfInterfaces
@@ -144,7 +161,7 @@ faults! {
 impl Fault {
     /// All that show at the C boundary.
     pub fn at_boundary() -> impl Iterator<Item = Fault> {
-        [OPENING, EVENTS, PACKETS, ENDPOINTS, WRITER, DUMPS, TRIM, PAIRS, SPEEDS, PORTS, STRIKES, SUPER]
+        [OPENING, EVENTS, PACKETS, ENDPOINTS, WRITER, DUMPS, TRIM, PAIRS, SPEEDS, PORTS, STRIKES, SUPER, PIPE]
             .into_iter()
             .flatten()
             .copied()
@@ -155,7 +172,7 @@ impl Fault {
     }
 
     pub fn named(name: &str) -> Option<Fault> {
-        let every = Fault::at_boundary().chain(LISTER.iter().copied()).chain([Fault::None]);
+        let every = Fault::at_boundary().chain(LISTER.iter().chain(LOOP).copied()).chain([Fault::None]);
         every.into_iter().find(|fault| fault.name() == name)
     }
 }

@@ -20,6 +20,8 @@ mod opening;
 mod packets;
 mod pair;
 mod pair_draft;
+mod pipe;
+mod pipe_runs;
 mod ports;
 mod protocol;
 mod questions;
