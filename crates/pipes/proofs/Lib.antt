@@ -1,0 +1,4 @@
+pub mod Packets
+pub mod Inverse
+pub mod Fitting
+pub mod Looking

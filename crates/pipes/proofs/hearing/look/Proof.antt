@@ -1,0 +1,45 @@
+-- `pipes::hearing::look` meets its contract: by its length, and by whether the library hears of it. No axiom.
+use mathlib.Core.Path.{sym, _∙_}
+use borrow.Author.Tests.{eq-eqb, ne-eqb}
+use Rattle.pipes.proofs.Looking.{looked-moves, pipe-looked-moves}
+use borrow.Author.Needs.{needs}
+use Rattle.pipes.proofs.hearing.look.Statement.{statement}
+use Rattle.pipes.proofs.hearing.look.Tie as tie
+
+unheard-requires : tie.Need-unheard-requires
+unheard-requires c κs = search needs
+
+returns : tie.Need-returns
+returns c = let e = ne-eqb _ _ (c .before .if1 .taken) in (rw (c .unheard .ensures, e), rw e)
+
+tells-requires : tie.Need-tells-requires
+tells-requires c κs = search needs
+
+returns-2 : tie.Need-returns-2
+returns-2 c = let e = eq-eqb _ _ (c .before .before .if1 .left) in let t = sym (c .before .tells .ensures) ∙ c .if2 .taken in (rw (e, t), rw (e, t))
+
+move-on-requires : tie.Need-move-on-requires
+move-on-requires c κs = search needs
+
+same-length : tie.Need-same-length
+same-length c = search needs
+
+returns-3 : tie.Need-returns-3
+returns-3 c =
+    let a = c .before .before .before .before .before .before .before .before .args in
+    let e = c .before .before .before .before .before .before .if1 .left in
+    let t = sym (c .before .before .before .before .before .tells .ensures) ∙ c .before .before .before .before .if2 .left in
+    let m = c .before .before .move-on .ensures in
+    (m .0 ∙ sym (looked-moves (a .lengths) (a .wire) (a .pipe .now) e t), m .1 ∙ sym (pipe-looked-moves (a .lengths) (a .wire) (a .pipe .now) e t))
+
+pub look-spec : {M : Type 1} → statement M
+look-spec =
+    tie.close
+    (tie.spec
+    unheard-requires
+    returns
+    tells-requires
+    returns-2
+    move-on-requires
+    same-length
+    returns-3)
