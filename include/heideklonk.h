@@ -291,6 +291,62 @@ uint8_t hk_two_port_event(const uint8_t *full, size_t full_length, const uint8_t
                           uint8_t event, uint8_t value, const uint8_t *setup, size_t setup_length,
                           uint8_t bytes[2], uint8_t *count, hk_part *part);
 
+/* ---- The pipe: control transfers of endpoint zero, from packet to packet (docs/PIPE.md).
+ *
+ * The firmware keeps a pipe record of HK_PIPE_LENGTH bytes beside the image, all zero at power-on, and tells what the
+ * peripheral has met; each event is answered with one order to the peripheral. A board that uses the pipe makes none of the
+ * calls for a setup, a status end and a bus reset beside it; all other calls stay as they are. */
+#define HK_PIPE_LENGTH 16
+
+/* The events of the pipe. The last four are the application's, when it is asked. */
+#define HK_PIPE_SETUP 0    /* a SETUP packet: reads setup */
+#define HK_PIPE_TAKEN 1    /* the host has acknowledged the packet that was handed over */
+#define HK_PIPE_RECEIVED 2 /* a packet of value bytes has come from the host, 0 for an empty one */
+#define HK_PIPE_RESET 3    /* a bus reset: value is the speed */
+#define HK_PIPE_REPLY 4    /* the application answers with the bytes lent as reply */
+#define HK_PIPE_ROOM 5     /* the application has room for value bytes of the host's */
+#define HK_PIPE_ACCEPT 6   /* the application takes the request, or its bytes */
+#define HK_PIPE_REFUSE 7   /* the application does not */
+
+/* The orders, out[0]. */
+#define HK_ORDER_NOTHING 0
+#define HK_ORDER_SEND 1    /* hand over one packet: the two bytes, as many as out[1] says, or where that is 0 the part */
+#define HK_ORDER_AWAIT 2   /* wait for the host's empty packet: all data is out */
+#define HK_ORDER_RECEIVE 3 /* be ready for one packet of at most out[4] + 256 x out[5] bytes */
+#define HK_ORDER_STALL 4   /* stall endpoint zero until the next SETUP */
+#define HK_ORDER_ASK 5     /* nothing yet: ask the application, about the setup or about its bytes */
+
+/* The stages, pipe[0]. */
+#define HK_STAGE_IDLE 0
+#define HK_STAGE_ASKING_SETUP 1
+#define HK_STAGE_DATA_IN 2 /* with HK_ORDER_SEND be ready for the host's empty packet too: it may end the stage early */
+#define HK_STAGE_STATUS_OUT 3
+#define HK_STAGE_DATA_OUT 4 /* pipe[8] + 256 x pipe[9] bytes have come */
+#define HK_STAGE_ASKING_BYTES 5
+#define HK_STAGE_STATUS_IN 6
+#define HK_STAGE_STALLED 7
+
+/* Any event of the pipe, by its number HK_PIPE_... value is read by HK_PIPE_RECEIVED, HK_PIPE_RESET and HK_PIPE_ROOM alone
+ * (else 0), setup by HK_PIPE_SETUP alone (else NULL and 0). All of out and *part are always written: out is the order, how
+ * many bytes count, the two bytes and the room; a part that is not handed back is the set's first 0 bytes. The
+ * application's reply is lent at every event while it goes out, unchanged; where there is none it is NULL and 0.
+ *
+ * Numbers are those of hk_setup, hk_status_end and hk_bus_reset_to; the order says what to do. HK_RECORD_DOES_NOT_FIT: also
+ * where pipe_length is not HK_PIPE_LENGTH, or, but for a setup and a reset, where the pipe record does not fit; then nothing
+ * changes, and the next SETUP is answered all the same. HK_SETUP_LENGTH_WRONG: nothing changes and nothing is ordered. Any
+ * other event number is a setup that is not 8 bytes. */
+uint8_t hk_pipe_event(const uint8_t *set, size_t set_length, const uint8_t *serial, size_t serial_length,
+                      uint8_t *image, size_t image_length, uint8_t *pipe, size_t pipe_length,
+                      const uint8_t *reply, size_t reply_length, uint8_t event, uint16_t value,
+                      const uint8_t *setup, size_t setup_length, uint8_t out[6], hk_part *part);
+
+/* The same on a board that lends two sets, as hk_two_event. */
+uint8_t hk_two_pipe_event(const uint8_t *full, size_t full_length, const uint8_t *high, size_t high_length,
+                          const uint8_t *serial, size_t serial_length, uint8_t *image, size_t image_length,
+                          uint8_t *pipe, size_t pipe_length, const uint8_t *reply, size_t reply_length,
+                          uint8_t event, uint16_t value, const uint8_t *setup, size_t setup_length,
+                          uint8_t out[6], hk_part *part);
+
 /* A second way to answer any event on an image, by its number: for boards with large sets. What the event asks of the
  * selected configuration is collected while the set is checked, so that no configuration is walked through twice.
  * Number, image, bytes, count and part are proved to be those of the calls above, for every input, so that a board may use

@@ -136,16 +136,19 @@ faults! {
         HaltFeatureSuspends SettingTakenByNeighbour
     }
     PIPE {
-        LongerPipePasses SetupOnAnyPipe SetupNeedsFittingPipe DroppedTransferEnds PipeOfFullSet TwoBytesAreNoBlock NoSizeFits
-        StageEightFits BlockFourFits AnyDirectionFits LastBytesIgnored ReplyAboveAskedFits ReplyOutsideBlockFits
-        TooManyReceivedFit WrongSetupLengthStalls WrongStateAsks ApplicationNotAsked DirectionIgnored PacketSizeOfFullSet
-        ResetSpeedByLowByte SpeedNotTold ResetKeepsTransfer RefusedResetEndsTransfer MisfitBecomesIdle PacketOpensSet
-        TakenEndsStatusOut SamePacketAgain PacketSkipped EndsWithoutStatus EarlyStatusIgnored AnyPacketIsStatus
-        StrayPacketEndsStatusIn ShortPacketPasses EmptyPacketPasses LongPacketPasses BytesOfEachPacketAtTheStart
-        BytesTakenUnasked RefusedUnasked AcceptedUnasked ReplyToAWrite ReplyWithoutData RoomForARead BytesRefusedAllTheSame
-        RefusedBytesAccepted AcceptedWithoutItsData ReplyLongerThanAsked ReplyLiesInSet RoomNotMeasured RoomOneMore
-        StallKeepsTransfer StallNotOrdered EndedTransferStays RefusedEndKeepsTransfer StatusEndNotTold TestModeNotEntered
-        PacketFromTheStart RoomIsPacketSize
+        LongerPipePasses SetupOnAnyPipe SetupNeedsFittingPipe NoSizeFits StageEightFits BlockFourFits AnyDirectionFits
+        LastBytesIgnored ReplyAboveAskedFits ReplyOutsideBlockFits TooManyReceivedFit WrongSetupLengthStalls
+        WrongStateAsks ResetSpeedByLowByte ResetKeepsTransfer RefusedResetEndsTransfer MisfitBecomesIdle
+        PacketOpensSet TakenEndsStatusOut AnyPacketIsStatus RefusedUnasked AcceptedUnasked ReplyToAWrite
+        ReplyWithoutData RoomForARead AcceptedWithoutItsData StallKeepsTransfer RefusedEndKeepsTransfer
+        RoomIsPacketSize
+    }
+    TRANSFERS {
+        DroppedTransferEnds PipeOfFullSet TwoBytesAreNoBlock ApplicationNotAsked DirectionIgnored PacketSizeOfFullSet
+        SpeedNotTold SamePacketAgain PacketSkipped EndsWithoutStatus EarlyStatusIgnored StrayPacketEndsStatusIn
+        ShortPacketPasses EmptyPacketPasses LongPacketPasses BytesOfEachPacketAtTheStart BytesTakenUnasked
+        BytesRefusedAllTheSame RefusedBytesAccepted ReplyLongerThanAsked ReplyLiesInSet RoomNotMeasured RoomOneMore
+        StallNotOrdered EndedTransferStays StatusEndNotTold TestModeNotEntered PacketFromTheStart
     }
     LOOP {
         EndpointsNeverClosed FirstEndpointSkipped OneEndpointOnly EndpointsNotChangedBySetConfiguration
@@ -161,7 +164,7 @@ faults! {
 impl Fault {
     /// All that show at the C boundary.
     pub fn at_boundary() -> impl Iterator<Item = Fault> {
-        [OPENING, EVENTS, PACKETS, ENDPOINTS, WRITER, DUMPS, TRIM, PAIRS, SPEEDS, PORTS, STRIKES, SUPER, PIPE]
+        [OPENING, EVENTS, PACKETS, ENDPOINTS, WRITER, DUMPS, TRIM, PAIRS, SPEEDS, PORTS, STRIKES, SUPER, PIPE, TRANSFERS]
             .into_iter()
             .flatten()
             .copied()

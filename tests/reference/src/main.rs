@@ -34,6 +34,7 @@ mod serve;
 mod strikes;
 mod super_draft;
 mod superspeed;
+mod transfers;
 mod trim;
 mod vectors;
 mod writer;

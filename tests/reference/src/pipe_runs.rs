@@ -7,6 +7,7 @@ use crate::compare::Comparison;
 use crate::draft::Draft;
 use crate::events::{Event, Lent};
 use crate::fault::Fault;
+use crate::octets::hex;
 use crate::pair::Boards;
 use crate::pair_draft::{any_pair, valid_pair};
 use crate::pipe::{self, Heard, Transfer, Wire, AT_REST, PIPE_LENGTH};
@@ -30,31 +31,76 @@ pub struct Tally {
 
 /// Runs and single events, of one set and of two.
 pub fn wires(comparison: &mut Comparison, calls: usize, seed: u64, fault: Fault) -> Tally {
-    let mut asker = Asker { comparison, random: Random::new(seed), fault, tally: Tally::default() };
-    while asker.comparison.calls < calls && !asker.comparison.stopped() {
+    draw(seed, fault, usize::MAX, &mut |lent, call| {
+        comparison.ask(lent, Call::pipe(lent, call));
+        comparison.calls < calls && !comparison.stopped()
+    })
+}
+
+/// The same as a file of vectors: at least so many questions, of small sets.
+pub fn vectors(questions: usize, seed: u64) -> String {
+    let mut lines = vec![VECTORS_BEGIN.to_string()];
+    let (mut lends, mut asked) = (Vec::new(), 0);
+    draw(seed, Fault::None, LONGEST_IN_VECTORS, &mut |lent, call| {
+        let blocks = [&call.image, &call.pipe, &call.reply, &call.setup];
+        if blocks.iter().any(|block| block.len() > LONGEST_IN_VECTORS) {
+            return true;
+        }
+        let high = lent.high.as_ref().map_or("none".to_string(), |high| hex(high));
+        let blocks = [("set", hex(&lent.set)), ("high", high), ("serial", hex(&lent.serial))];
+        let blocks = blocks.into_iter().chain([("record", hex(&call.image)), ("pipe", hex(&call.pipe)), ("reply", hex(&call.reply))]);
+        let now: Vec<String> = blocks.map(|(name, bytes)| format!("{name} {bytes}")).collect();
+        lines.extend(now.iter().filter(|line| !lends.contains(*line)).cloned());
+        lends = now;
+        let call = Call::pipe(lent, call);
+        lines.push(format!("{} -> {}", call.question(), call.answer_words(&call.answer(lent))));
+        asked += 1;
+        asked < questions
+    });
+    lines.join("\n") + "\n"
+}
+
+const VECTORS_BEGIN: &str = "# the pipe: drawn and answered by tests/reference\nrules l2 l6 l7 l12";
+const LONGEST_IN_VECTORS: usize = 400;
+
+/// Hands each call over until it is told to stop; sets are no longer than this.
+fn draw(seed: u64, fault: Fault, longest: usize, each: &mut Each) -> Tally {
+    let mut asker = Asker { each, goes_on: true, random: Random::new(seed), fault, longest, tally: Tally::default() };
+    while asker.goes_on {
         asker.visit();
     }
     asker.tally
 }
 
-struct Asker<'a> {
-    comparison: &'a mut Comparison,
+type Each<'a> = dyn FnMut(&Arc<Lent>, PipeCall) -> bool + 'a;
+
+struct Asker<'a, 'b> {
+    each: &'a mut Each<'b>,
+    goes_on: bool,
     random: Random,
     fault: Fault,
+    longest: usize,
     tally: Tally,
 }
 
-impl Asker<'_> {
-    fn visit(&mut self) {
+impl Asker<'_, '_> {
+    /// One set or two, acceptable mostly.
+    fn board(&mut self) -> Lent {
         let accepted = self.random.percent(90);
-        let lent = Arc::new(if self.random.percent(50) {
+        if self.random.percent(50) {
             let (full, high, serial) = if accepted { valid_pair(&mut self.random) } else { any_pair(&mut self.random) };
-            Lent::two(full, high, serial, self.fault)
-        } else {
-            let draft = Draft::valid(&mut self.random);
-            let (set, serial) = if accepted { (draft.set(), draft.serial) } else { any_set(&mut self.random) };
-            Lent::new(set, serial, self.fault)
-        });
+            return Lent::two(full, high, serial, self.fault);
+        }
+        let draft = Draft::valid(&mut self.random);
+        let (set, serial) = if accepted { (draft.set(), draft.serial) } else { any_set(&mut self.random) };
+        Lent::new(set, serial, self.fault)
+    }
+
+    fn visit(&mut self) {
+        let lent = Arc::new(self.board());
+        if lent.set.len() + lent.high.as_ref().map_or(0, Vec::len) > self.longest {
+            return;
+        }
         if let Ok(boards) = &lent.opened {
             self.run(&lent, boards);
         }
@@ -71,7 +117,7 @@ impl Asker<'_> {
             self.tally.met[usize::from(stage)][event] += 1;
         }
         self.tally.orders[heard.order as usize] += 1;
-        self.comparison.ask(lent, Call::pipe(lent, call));
+        self.goes_on &= (self.each)(lent, call);
         heard
     }
 
@@ -156,6 +202,9 @@ impl Asker<'_> {
 
     fn waited_for(&mut self, transfer: &Transfer) -> Wire {
         match transfer.stage {
+            pipe::ASKING_SETUP if self.random.percent(10) => {
+                Wire::of_number(self.random.pick(&[4, 5, 6, 7]), transfer.asked, &[])
+            }
             pipe::ASKING_SETUP if transfer.asked == 0 => Wire::Accept,
             pipe::ASKING_SETUP if transfer.reads == 1 => Wire::Reply,
             pipe::ASKING_SETUP => {
