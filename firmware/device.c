@@ -65,7 +65,7 @@ static uint8_t tell_power(struct device *device) {
 
 /* The fresh record is at full speed, and says that the bus is the supply: opening cannot know. */
 static uint8_t open_afresh(struct device *device, uint8_t speed) {
-    static const hk_pipe idle = HK_IDLE_PIPE;
+    static const hk_pipe idle = {{HK_STAGE_IDLE}, HK_NO_PART};
     device->pipe = idle;
     uint8_t number = CALL(start)(device->board, own_record(device));
     if (number == HK_DONE && speed != HK_SPEED_FULL)
@@ -78,63 +78,72 @@ static int changes_settings(const uint8_t *setup) {
            (setup[0] == 0x01 && setup[1] == REQUEST_SET_INTERFACE);
 }
 
-/* Where nothing is ordered a transfer may have ended, and the record is followed. A STALL without a number is for what the
- * application does not take, or for a packet of another length than the host said. What the peripheral awaits when all is
- * out it is ready for since the first packet; who is to ask the application knows what about. */
+/* How many of the host's bytes have come, by bytes 8 and 9 of the pipe record. */
+static size_t received_bytes(const struct device *device) {
+    return device->pipe.record[8] | (size_t)device->pipe.record[9] << 8;
+}
+
+/* Where nothing is ordered a transfer may have ended: the record is followed. What the peripheral awaits when all is out it
+ * is ready for since the first packet. A STALL without a number is for what the application does not take, and for a packet
+ * of another length than the host said. */
 static void obey(struct device *device) {
-    const hk_heard *heard = &device->heard;
-    hk_part packet = hk_heard_packet(heard);
-    switch (heard->out.order) {
+    hk_part packet = hk_sent(&device->order);
+    uint8_t number = device->order.number;
+    switch (hk_order_of(&device->order)) {
     case HK_ORDER_NOTHING:
-        conclude(device, heard->number);
+        conclude(device, number);
         break;
     case HK_ORDER_SEND:
-        if (device->pipe.stage == HK_STAGE_DATA_IN)
+        if (device->pipe.record[0] == HK_STAGE_DATA_IN)
             hardware_receive_status();
         hardware_send_packet(packet.start, packet.length);
         break;
     case HK_ORDER_RECEIVE:
-        hardware_receive_packet(device->data.room + hk_pipe_received(&device->pipe), hk_heard_room(heard));
+        hardware_receive_packet(device->room + received_bytes(device), hk_room(&device->order));
         break;
     case HK_ORDER_STALL:
         hardware_stall_endpoint_zero();
-        application_hear(heard->number == HK_DONE ? HK_REQUEST_UNKNOWN : heard->number);
+        application_hear(number == HK_DONE ? HK_REQUEST_UNKNOWN : number);
         break;
     }
 }
 
+static void step(struct device *device, uint8_t event, uint16_t value, const uint8_t *setup) {
+    device->order = CALL(step)(device->board, own_record(device), &device->pipe, event, value, setup);
+}
+
 static void tell_pipe(struct device *device, uint8_t event, uint16_t value) {
-    device->heard = CALL(pipe_tell)(device->board, own_record(device), &device->pipe, device->data.reply, event, value);
+    step(device, event, value, NULL);
     obey(device);
 }
 
-static void lend_nothing(struct device *device) {
-    static const struct application_data nothing = {HK_NO_PART, NULL, 0};
-    device->data = nothing;
+static int asks(const struct device *device) {
+    return hk_order_of(&device->order) == HK_ORDER_ASK;
 }
 
 /* The application's answer is the pipe's next event. */
 static void ask_application(struct device *device, const uint8_t *setup) {
-    lend_nothing(device);
+    struct application_data data = {HK_NO_PART, NULL, 0};
     for (size_t at = 0; at < HK_SETUP_LENGTH; at++)
         device->setup[at] = setup[at];
-    uint8_t answer = application_setup(setup, &device->data);
-    size_t room = device->data.room_length;
-    tell_pipe(device, answer, room < UINT16_MAX ? (uint16_t)room : UINT16_MAX);
+    uint8_t answer = application_setup(setup, &data);
+    device->pipe.reply = data.reply;
+    device->room = data.room;
+    tell_pipe(device, answer, data.room_length < UINT16_MAX ? (uint16_t)data.room_length : UINT16_MAX);
 }
 
 /* The record is followed before the status stage, which tells the host that it is done. */
 static void handle_setup(struct device *device, const uint8_t *setup) {
-    device->heard = CALL(pipe_ask)(device->board, own_record(device), &device->pipe, setup);
-    int asks = device->heard.out.order == HK_ORDER_ASK;
-    if (device->heard.number == HK_SETUP_LENGTH_WRONG)
+    device->pipe.reply = hk_no_part();
+    step(device, HK_PIPE_SETUP, 0, setup);
+    if (device->order.number == HK_SETUP_LENGTH_WRONG)
         hardware_stall_endpoint_zero(); /* the pipe orders nothing: such a peripheral is broken */
-    if (device->heard.number == HK_DONE && changes_settings(setup))
+    if (device->order.number == HK_DONE && changes_settings(setup))
         open_endpoints(device);
-    if (device->heard.number == HK_DONE || asks)
+    if (device->order.number == HK_DONE || asks(device))
         follow_record(device);
     obey(device);
-    if (asks)
+    if (asks(device))
         ask_application(device, setup);
 }
 
@@ -157,8 +166,8 @@ static void handle_packet_taken(struct device *device) {
 /* All the host's bytes may be there: then the application is asked about them. */
 static void handle_packet_received(struct device *device, uint16_t received) {
     tell_pipe(device, HK_PIPE_RECEIVED, received);
-    if (device->heard.out.order == HK_ORDER_ASK)
-        tell_pipe(device, application_take(device->setup, device->data.room, hk_pipe_received(&device->pipe)), 0);
+    if (asks(device))
+        tell_pipe(device, application_take(device->setup, device->room, received_bytes(device)), 0);
 }
 
 /* Only opening mends a record that does not fit, and a bus reset is the time for it: all starts afresh anyhow. */
@@ -166,10 +175,10 @@ static void handle_bus_reset(struct device *device, uint8_t speed) {
 #ifndef DEVICE_TWO_SETS
     speed = HK_SPEED_FULL; /* there is no other */
 #endif
-    device->heard = CALL(pipe_tell)(device->board, own_record(device), &device->pipe, hk_no_part(), HK_PIPE_RESET, speed);
-    if (device->heard.number == HK_RECORD_DOES_NOT_FIT) {
+    step(device, HK_PIPE_RESET, speed, NULL);
+    if (device->order.number == HK_RECORD_DOES_NOT_FIT) {
         application_hear(HK_RECORD_DOES_NOT_FIT);
-        device->heard.number = open_afresh(device, speed);
+        device->order.number = open_afresh(device, speed);
     }
     open_endpoints(device);
     obey(device);
@@ -219,7 +228,6 @@ static void select_port(const struct device *device) {
 uint8_t device_start(struct device *device, const hk_board *board) {
     device->board = board;
     select_port(device);
-    lend_nothing(device);
     uint8_t number = open_afresh(device, HK_SPEED_FULL);
     open_endpoints(device);
     conclude(device, number);

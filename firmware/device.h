@@ -27,10 +27,10 @@ struct device {
 #else
     hk_record record; /* changed by the library alone */
 #endif
-    hk_pipe pipe;         /* the control transfer under way, changed by the library alone */
-    hk_heard heard;       /* what the last event of the pipe gave; a packet's bytes may stand here until it is taken */
-    struct application_data data; /* what the application lends to the transfer */
-    uint8_t setup[HK_SETUP_LENGTH]; /* the request that the application was asked about */
+    hk_pipe pipe;   /* the control transfer under way, its record changed by the library alone */
+    hk_order order; /* what the pipe gave last: a packet's bytes may stand here until it is taken */
+    uint8_t setup[HK_SETUP_LENGTH]; /* a request of the application's own, whose bytes come: */
+    uint8_t *room;                  /* there */
 };
 
 static inline const hk_record *device_record(const struct device *device) {

@@ -15,9 +15,9 @@
  *
  * What the caller owes, for every call:
  *   - A pointer and its length name memory that stays readable for the whole call, and writable where it is not const.
- *   - What a pointer that is not const points to (image, record, row, bytes, count, part, packet, descriptor; of a maker's
- *     call also buffer, written, total, rule, place and hk_trim's set) overlaps nothing else that is passed. What is only
- *     read may overlap other such memory.
+ *   - What a pointer that is not const points to (image, record, row, pipe, bytes, count, out, part, packet, descriptor; of
+ *     a maker's call also buffer, written, total, rule, place and hk_trim's set) overlaps nothing else that is passed. What
+ *     is only read may overlap other such memory.
  *   - A pointer whose length is 0 may be NULL. A set (or reply) of NULL and 0 leaves a part whose start is NULL and whose
  *     length is 0, and that is a valid part. This is tested and not proved.
  *   - A hk_part holds a valid value at the call: HK_NO_PART, or what an earlier call left there.
@@ -89,6 +89,10 @@ typedef struct hk_part {
 /* Marks a call of the second way to answer, for boards with large sets: it stands in another object of a board's archive,
  * which a board that does not call it does not link. */
 #define HK_LARGE
+
+/* Mark the calls for the transfers of endpoint zero, with one set and with two: each stands in an object of its own. */
+#define HK_PIPE
+#define HK_TWO_PIPE
 
 /* Power-on: checks the set and the serial block, and makes the image the fresh record (state Default, address 0).
  *
@@ -291,62 +295,6 @@ uint8_t hk_two_port_event(const uint8_t *full, size_t full_length, const uint8_t
                           uint8_t event, uint8_t value, const uint8_t *setup, size_t setup_length,
                           uint8_t bytes[2], uint8_t *count, hk_part *part);
 
-/* ---- The pipe: control transfers of endpoint zero, from packet to packet (docs/PIPE.md).
- *
- * The firmware keeps a pipe record of HK_PIPE_LENGTH bytes beside the image, all zero at power-on, and tells what the
- * peripheral has met; each event is answered with one order to the peripheral. A board that uses the pipe makes none of the
- * calls for a setup, a status end and a bus reset beside it; all other calls stay as they are. */
-#define HK_PIPE_LENGTH 16
-
-/* The events of the pipe. The last four are the application's, when it is asked. */
-#define HK_PIPE_SETUP 0    /* a SETUP packet: reads setup */
-#define HK_PIPE_TAKEN 1    /* the host has acknowledged the packet that was handed over */
-#define HK_PIPE_RECEIVED 2 /* a packet of value bytes has come from the host, 0 for an empty one */
-#define HK_PIPE_RESET 3    /* a bus reset: value is the speed */
-#define HK_PIPE_REPLY 4    /* the application answers with the bytes lent as reply */
-#define HK_PIPE_ROOM 5     /* the application has room for value bytes of the host's */
-#define HK_PIPE_ACCEPT 6   /* the application takes the request, or its bytes */
-#define HK_PIPE_REFUSE 7   /* the application does not */
-
-/* The orders, out[0]. */
-#define HK_ORDER_NOTHING 0
-#define HK_ORDER_SEND 1    /* hand over one packet: the two bytes, as many as out[1] says, or where that is 0 the part */
-#define HK_ORDER_AWAIT 2   /* wait for the host's empty packet: all data is out */
-#define HK_ORDER_RECEIVE 3 /* be ready for one packet of at most out[4] + 256 x out[5] bytes */
-#define HK_ORDER_STALL 4   /* stall endpoint zero until the next SETUP */
-#define HK_ORDER_ASK 5     /* nothing yet: ask the application, about the setup or about its bytes */
-
-/* The stages, pipe[0]. */
-#define HK_STAGE_IDLE 0
-#define HK_STAGE_ASKING_SETUP 1
-#define HK_STAGE_DATA_IN 2 /* with HK_ORDER_SEND be ready for the host's empty packet too: it may end the stage early */
-#define HK_STAGE_STATUS_OUT 3
-#define HK_STAGE_DATA_OUT 4 /* pipe[8] + 256 x pipe[9] bytes have come */
-#define HK_STAGE_ASKING_BYTES 5
-#define HK_STAGE_STATUS_IN 6
-#define HK_STAGE_STALLED 7
-
-/* Any event of the pipe, by its number HK_PIPE_... value is read by HK_PIPE_RECEIVED, HK_PIPE_RESET and HK_PIPE_ROOM alone
- * (else 0), setup by HK_PIPE_SETUP alone (else NULL and 0). All of out and *part are always written: out is the order, how
- * many bytes count, the two bytes and the room; a part that is not handed back is the set's first 0 bytes. The
- * application's reply is lent at every event while it goes out, unchanged; where there is none it is NULL and 0.
- *
- * Numbers are those of hk_setup, hk_status_end and hk_bus_reset_to; the order says what to do. HK_RECORD_DOES_NOT_FIT: also
- * where pipe_length is not HK_PIPE_LENGTH, or, but for a setup and a reset, where the pipe record does not fit; then nothing
- * changes, and the next SETUP is answered all the same. HK_SETUP_LENGTH_WRONG: nothing changes and nothing is ordered. Any
- * other event number is a setup that is not 8 bytes. */
-uint8_t hk_pipe_event(const uint8_t *set, size_t set_length, const uint8_t *serial, size_t serial_length,
-                      uint8_t *image, size_t image_length, uint8_t *pipe, size_t pipe_length,
-                      const uint8_t *reply, size_t reply_length, uint8_t event, uint16_t value,
-                      const uint8_t *setup, size_t setup_length, uint8_t out[6], hk_part *part);
-
-/* The same on a board that lends two sets, as hk_two_event. */
-uint8_t hk_two_pipe_event(const uint8_t *full, size_t full_length, const uint8_t *high, size_t high_length,
-                          const uint8_t *serial, size_t serial_length, uint8_t *image, size_t image_length,
-                          uint8_t *pipe, size_t pipe_length, const uint8_t *reply, size_t reply_length,
-                          uint8_t event, uint16_t value, const uint8_t *setup, size_t setup_length,
-                          uint8_t out[6], hk_part *part);
-
 /* A second way to answer any event on an image, by its number: for boards with large sets. What the event asks of the
  * selected configuration is collected while the set is checked, so that no configuration is walked through twice.
  * Number, image, bytes, count and part are proved to be those of the calls above, for every input, so that a board may use
@@ -369,6 +317,68 @@ HK_LARGE uint8_t hk_two_table_event(const uint8_t *full, size_t full_length, con
  * out by counting number up until HK_NO_SUCH_PACKET. A reply of 0 bytes where 0 are asked has no packet. */
 uint8_t hk_packet(const uint8_t *reply, size_t reply_length, uint16_t asked, uint32_t size, uint32_t number,
                   hk_part *packet);
+
+/* ---- The transfers of endpoint zero, from packet to packet (docs/PIPE.md).
+ *
+ * The firmware keeps a fourth block beside the image: pipe, the pipe record, HK_PIPE_LENGTH bytes, all zero at power-on,
+ * changed by these calls alone. The peripheral's interrupts are told as events, and each event is answered with one order
+ * to the peripheral. The library hears of setups, status ends and bus resets from these calls: a board that uses them makes
+ * no call of its own for these three events; all other events are free. */
+#define HK_PIPE_LENGTH 16
+
+/* The events of hk_pipe_event and hk_two_pipe_event. The last four are the application's, when it is asked. */
+#define HK_PIPE_SETUP 0    /* a SETUP packet: reads setup */
+#define HK_PIPE_TAKEN 1    /* the host has acknowledged the packet that was handed over */
+#define HK_PIPE_RECEIVED 2 /* a packet of value bytes has come from the host, 0 for an empty one */
+#define HK_PIPE_RESET 3    /* a bus reset: value is the speed */
+#define HK_PIPE_REPLY 4    /* the application answers, with reply */
+#define HK_PIPE_ROOM 5     /* the application has room for value bytes of the host's */
+#define HK_PIPE_ACCEPT 6   /* the application takes the request, or its bytes */
+#define HK_PIPE_REFUSE 7   /* the application does not */
+
+/* The orders to the peripheral: out[0]. */
+#define HK_ORDER_NOTHING 0 /* goes on as it is */
+#define HK_ORDER_SEND 1    /* hands over one packet; in a data stage it is ready for the host's empty packet too */
+#define HK_ORDER_AWAIT 2   /* waits for the host's empty packet: all data is out */
+#define HK_ORDER_RECEIVE 3 /* is ready for one packet of at most out[4] + 256 x out[5] bytes */
+#define HK_ORDER_STALL 4   /* stalls endpoint zero until the next SETUP */
+#define HK_ORDER_ASK 5     /* nothing yet: the application answers with one of the last four events */
+
+/* The stages: pipe[0]. */
+#define HK_STAGE_IDLE 0
+#define HK_STAGE_ASKING_SETUP 1 /* a setup that was refused with HK_REQUEST_UNKNOWN */
+#define HK_STAGE_DATA_IN 2
+#define HK_STAGE_STATUS_OUT 3
+#define HK_STAGE_DATA_OUT 4
+#define HK_STAGE_ASKING_BYTES 5 /* all bytes that a setup announced are there */
+#define HK_STAGE_STATUS_IN 6
+#define HK_STAGE_STALLED 7
+
+/* Any event of endpoint zero's transfers, by its number HK_PIPE_..
+ *
+ * reply is the application's, lent with HK_PIPE_REPLY and then, unchanged, with each event while it goes out; else NULL and
+ * 0. value is read by HK_PIPE_RECEIVED, HK_PIPE_RESET and HK_PIPE_ROOM alone (else 0), setup by HK_PIPE_SETUP alone (else
+ * NULL and 0). All of out and *part are always written. out[0] is the order. With HK_ORDER_SEND the packet is out[1] of the
+ * bytes out[2] and out[3] if out[1] is not 0, else *part, which may be empty. out[4] + 256 x out[5] is the room. What is not
+ * handed back is 0, and the set's first 0 bytes.
+ *
+ * HK_PIPE_SETUP has hk_setup's number; HK_REQUEST_UNKNOWN asks the application, and HK_SETUP_LENGTH_WRONG changes nothing.
+ * An event that ends a transfer has hk_status_end's number, HK_PIPE_RESET hk_bus_reset_to's. All others are HK_DONE, or
+ * HK_RECORD_DOES_NOT_FIT for a pipe record that does not fit; they open no set, and their cost does not grow with it. Any
+ * other event number is a setup that is not 8 bytes. HK_RECORD_DOES_NOT_FIT also for a pipe_length that is not
+ * HK_PIPE_LENGTH, whatever else is passed; nothing is changed. */
+HK_PIPE uint8_t hk_pipe_event(const uint8_t *set, size_t set_length, const uint8_t *serial, size_t serial_length,
+                              uint8_t *image, size_t image_length, uint8_t *pipe, size_t pipe_length,
+                              const uint8_t *reply, size_t reply_length, uint8_t event, uint16_t value,
+                              const uint8_t *setup, size_t setup_length, uint8_t out[6], hk_part *part);
+
+/* The same on a board that lends two sets, as hk_two_event. A part that is not handed back is the full-speed set's first 0
+ * bytes. */
+HK_TWO_PIPE uint8_t hk_two_pipe_event(const uint8_t *full, size_t full_length, const uint8_t *high, size_t high_length,
+                                      const uint8_t *serial, size_t serial_length, uint8_t *image, size_t image_length,
+                                      uint8_t *pipe, size_t pipe_length, const uint8_t *reply, size_t reply_length,
+                                      uint8_t event, uint16_t value, const uint8_t *setup, size_t setup_length,
+                                      uint8_t out[6], hk_part *part);
 
 /* ---- For makers, on a bench computer; no board's. hk_write, hk_super_write and hk_import have arrays of 16,384 bytes in their
  * frames, hk_trim has one of 516; the others need no more stack than a board's call. */

@@ -10,10 +10,9 @@
  *   hk_answer packet = hk_cut(hk_reply(&answer), wLength, size, 0);       the first packet of what it is answered with
  *   number = hk_tell(&board, &record, HK_EVENT_STATUS_END, 0);            any other event
  *
- * or, with a hk_pipe, leaves control transfers to the library, from packet to packet:
+ * or it keeps a hk_pipe too, and tells the library what the peripheral tells:
  *
- *   hk_heard heard = hk_pipe_ask(&board, &record, &pipe, setup);          a SETUP packet has arrived
- *   heard = hk_pipe_tell(&board, &record, &pipe, reply, HK_PIPE_TAKEN, 0); the host has taken a packet
+ *   hk_order order = hk_step(&board, &record, &pipe, HK_PIPE_TAKEN, 0, NULL);
  *
  * Each function is one call of heideklonk.h with blocks and lengths filled in: number, bytes, part and record are that
  * call's, and what its caller owes is owed here too. Functions hk_two_.. are for a board that lends two sets, hk_port_..
@@ -48,37 +47,6 @@ typedef struct hk_answer {
     hk_part part; /* or, where count is 0, this part of what was lent */
 } hk_answer;
 
-/* The control transfer under way at endpoint zero: HK_IDLE_PIPE at power-on, changed by the library alone. A number of two
- * bytes has its low byte first. */
-typedef struct hk_pipe {
-    uint8_t stage;      /* HK_STAGE_.. */
-    uint8_t block;      /* where the reply lies: 0 nowhere, 1 the set in use, 2 the serial block, 3 the application's */
-    uint8_t place[2];   /* the reply's place there */
-    uint8_t length[2];  /* and its length */
-    uint8_t asked[2];   /* wLength */
-    uint8_t moved[2];   /* data in: the number of the packet under way; data out: the bytes received */
-    uint8_t size;       /* bMaxPacketSize0 */
-    uint8_t reads;      /* 1: its data goes to the host */
-    uint8_t zeros[4];
-} hk_pipe;
-
-#define HK_IDLE_PIPE { HK_STAGE_IDLE, 0, {0, 0}, {0, 0}, {0, 0}, {0, 0}, 0, 0, {0, 0, 0, 0} }
-
-/* What an event of the pipe orders, byte by byte as hk_pipe_event writes it. */
-typedef struct hk_out {
-    uint8_t order;    /* HK_ORDER_.. */
-    uint8_t count;    /* HK_ORDER_SEND: so many of */
-    uint8_t bytes[2]; /* these are the packet, */
-    uint8_t room[2];  /* HK_ORDER_RECEIVE: at most so many bytes, the low byte first */
-} hk_out;
-
-/* What an event of the pipe gives. */
-typedef struct hk_heard {
-    uint8_t number; /* HK_DONE, or why not */
-    hk_out out;
-    hk_part part; /* HK_ORDER_SEND: where out.count is 0, this part is the packet */
-} hk_heard;
-
 /* The arguments of the calls below; not for firmware. */
 #define HK_LENT(board) (board)->set, (board)->set_length, (board)->serial, (board)->serial_length
 #define HK_TWO_LENT(board) \
@@ -86,8 +54,7 @@ typedef struct hk_heard {
 #define HK_IMAGE(record) (uint8_t *)(record), sizeof(hk_record)
 #define HK_SETUP_LENT(setup) (setup), (setup) == NULL ? 0 : HK_SETUP_LENGTH
 #define HK_INTO(answer) (answer).bytes, &(answer).count, &(answer).part
-#define HK_PIPE_LENT(pipe) (uint8_t *)(pipe), sizeof(hk_pipe)
-#define HK_HEARD_INTO(heard) (uint8_t *)&(heard).out, &(heard).part
+#define HK_TRANSFER(pipe) (pipe)->record, sizeof(pipe)->record, (pipe)->reply.start, (pipe)->reply.length
 
 /* An event's number is mostly a constant. Where the compiler can be told, only that event's call is left of hk_tell. */
 #ifdef __GNUC__
@@ -120,26 +87,6 @@ static inline hk_answer hk_cut(hk_part reply, uint16_t asked, uint32_t size, uin
     hk_answer packet = {0, {0, 0}, 0, HK_NO_PART};
     packet.number = hk_packet(reply.start, reply.length, asked, size, number, &packet.part);
     return packet;
-}
-
-/* HK_ORDER_SEND: the packet. Bytes that are no part stand in what was heard: keep it until the packet is taken. */
-static inline hk_part hk_heard_packet(const hk_heard *heard) {
-    hk_part packet = heard->part;
-    if (heard->out.count > 0) {
-        packet.start = heard->out.bytes;
-        packet.length = heard->out.count;
-    }
-    return packet;
-}
-
-/* HK_ORDER_RECEIVE: the most that the next packet may have. */
-static inline uint16_t hk_heard_room(const hk_heard *heard) {
-    return (uint16_t)(heard->out.room[0] | heard->out.room[1] << 8);
-}
-
-/* HK_ORDER_RECEIVE and HK_ORDER_ASK: the bytes that have come so far. */
-static inline uint16_t hk_pipe_received(const hk_pipe *pipe) {
-    return (uint16_t)(pipe->moved[0] | pipe->moved[1] << 8);
 }
 
 /* ---- A board that lends one set. */
@@ -189,26 +136,6 @@ static inline hk_answer hk_current_endpoint(const hk_board *board, hk_record *re
     return descriptor;
 }
 
-/* hk_pipe_event: the eight bytes of a SETUP packet; NULL for one that has not eight. */
-static inline hk_heard hk_pipe_ask(const hk_board *board, hk_record *record, hk_pipe *pipe, const uint8_t *setup) {
-    hk_heard heard;
-    heard.part = hk_no_part();
-    heard.number = hk_pipe_event(HK_LENT(board), HK_IMAGE(record), HK_PIPE_LENT(pipe), NULL, 0, HK_PIPE_SETUP, 0,
-                                 HK_SETUP_LENT(setup), HK_HEARD_INTO(heard));
-    return heard;
-}
-
-/* Any other event of the pipe, by its number HK_PIPE_.. and its value. reply is the application's while it goes out, at other
- * times a part of 0 bytes. */
-static inline hk_heard hk_pipe_tell(const hk_board *board, hk_record *record, hk_pipe *pipe, hk_part reply, uint8_t event,
-                                    uint16_t value) {
-    hk_heard heard;
-    heard.part = hk_no_part();
-    heard.number = hk_pipe_event(HK_LENT(board), HK_IMAGE(record), HK_PIPE_LENT(pipe), reply.start, reply.length, event,
-                                 value, NULL, 0, HK_HEARD_INTO(heard));
-    return heard;
-}
-
 /* ---- A board that lends two sets: the same with both. */
 
 static inline uint8_t hk_two_start(const hk_board *board, hk_record *record) {
@@ -235,25 +162,8 @@ static inline hk_answer hk_two_current_endpoint(const hk_board *board, hk_record
     return descriptor;
 }
 
-static inline hk_heard hk_two_pipe_ask(const hk_board *board, hk_record *record, hk_pipe *pipe, const uint8_t *setup) {
-    hk_heard heard;
-    heard.part = hk_no_part();
-    heard.number = hk_two_pipe_event(HK_TWO_LENT(board), HK_IMAGE(record), HK_PIPE_LENT(pipe), NULL, 0, HK_PIPE_SETUP, 0,
-                                     HK_SETUP_LENT(setup), HK_HEARD_INTO(heard));
-    return heard;
-}
-
-static inline hk_heard hk_two_pipe_tell(const hk_board *board, hk_record *record, hk_pipe *pipe, hk_part reply,
-                                        uint8_t event, uint16_t value) {
-    hk_heard heard;
-    heard.part = hk_no_part();
-    heard.number = hk_two_pipe_event(HK_TWO_LENT(board), HK_IMAGE(record), HK_PIPE_LENT(pipe), reply.start, reply.length,
-                                     event, value, NULL, 0, HK_HEARD_INTO(heard));
-    return heard;
-}
-
-/* ---- A board with several ports: an event at one of them. The board is that port's, with its serial block; hk_start,
- * hk_current_endpoint, hk_pipe_ask and hk_pipe_tell take the port's own record, &row[port]. */
+/* ---- A board with several ports: an event at one of them. The board is that port's, with its serial block; hk_start
+ * and hk_current_endpoint take the port's own record, &row[port]. */
 
 static inline hk_answer hk_port_ask(const hk_board *board, hk_record *row, size_t row_length, size_t port,
                                     const uint8_t *setup) {
@@ -287,13 +197,62 @@ static inline uint8_t hk_two_port_tell(const hk_board *board, hk_record *row, si
     return hk_two_port_event(HK_TWO_LENT(board), row, row_length, port, event, value, NULL, 0, HK_INTO(answer));
 }
 
+/* ---- The transfers of endpoint zero: a board that tells these events tells no setup, status end or bus reset besides. */
+
+/* What a board keeps of the transfer under way; all zero at power-on. */
+typedef struct hk_pipe {
+    uint8_t record[HK_PIPE_LENGTH]; /* the pipe record */
+    hk_part reply;                  /* the application's: set before HK_PIPE_REPLY, and left until the next SETUP */
+} hk_pipe;
+
+/* What an event of the pipe gets. */
+typedef struct hk_order {
+    uint8_t number; /* HK_DONE, or why not */
+    uint8_t out[6]; /* the order HK_ORDER_.., the count, the two bytes, the room: hk_order_of, hk_sent and hk_room */
+    hk_part part;
+} hk_order;
+
+static inline uint8_t hk_order_of(const hk_order *order) { return order->out[0]; }
+
+/* With HK_ORDER_SEND, the packet. The bytes that are no part stand in the order: keep it until they are handed over. */
+static inline hk_part hk_sent(const hk_order *order) {
+    hk_part packet = order->part;
+    if (order->out[1] > 0) {
+        packet.start = order->out + 2;
+        packet.length = order->out[1];
+    }
+    return packet;
+}
+
+/* With HK_ORDER_RECEIVE, how many bytes the host's packet may have. */
+static inline uint16_t hk_room(const hk_order *order) { return (uint16_t)(order->out[4] + 256 * order->out[5]); }
+
+/* hk_pipe_event: an event by its number HK_PIPE_.. and its value; setup is the eight bytes of a SETUP packet, else NULL. */
+static inline hk_order hk_step(const hk_board *board, hk_record *record, hk_pipe *pipe, uint8_t event, uint16_t value,
+                               const uint8_t *setup) {
+    hk_order order;
+    order.part = hk_no_part();
+    order.number = hk_pipe_event(HK_LENT(board), HK_IMAGE(record), HK_TRANSFER(pipe), event, value,
+                                 HK_SETUP_LENT(setup), order.out, &order.part);
+    return order;
+}
+
+/* The same on a board that lends two sets. */
+static inline hk_order hk_two_step(const hk_board *board, hk_record *record, hk_pipe *pipe, uint8_t event,
+                                   uint16_t value, const uint8_t *setup) {
+    hk_order order;
+    order.part = hk_no_part();
+    order.number = hk_two_pipe_event(HK_TWO_LENT(board), HK_IMAGE(record), HK_TRANSFER(pipe), event, value,
+                                     HK_SETUP_LENT(setup), order.out, &order.part);
+    return order;
+}
+
 #undef HK_LENT
 #undef HK_TWO_LENT
 #undef HK_IMAGE
 #undef HK_SETUP_LENT
 #undef HK_INTO
-#undef HK_PIPE_LENT
-#undef HK_HEARD_INTO
+#undef HK_TRANSFER
 #undef HK_FOLDED
 
 #ifdef __cplusplus

@@ -44,7 +44,7 @@ void show_fault(uint8_t number) {
 
 /* No transfer is under way. */
 static int rests(const struct host *host) {
-    return host->device.pipe.stage == HK_STAGE_IDLE || host->device.pipe.stage == HK_STAGE_STALLED;
+    return host->device.pipe.record[0] == HK_STAGE_IDLE || host->device.pipe.record[0] == HK_STAGE_STALLED;
 }
 
 void check_transfer_ended(struct host *host) {
@@ -53,10 +53,10 @@ void check_transfer_ended(struct host *host) {
 }
 
 void send_stray_out(struct host *host, const char *when) {
-    uint8_t stage = host->device.pipe.stage;
+    uint8_t stage = host->device.pipe.record[0];
     printf("stray OUT packet %s\n", when);
     wire_send_stray_out();
-    if (host->device.pipe.stage != (stage == HK_STAGE_DATA_OUT ? HK_STAGE_STALLED : stage))
+    if (host->device.pipe.record[0] != (stage == HK_STAGE_DATA_OUT ? HK_STAGE_STALLED : stage))
         fail(host, "it counted as a status stage");
     show_fault(wire_heard());
     show_record(host, "");
