@@ -2,3 +2,4 @@ pub mod Packets
 pub mod Inverse
 pub mod Fitting
 pub mod Looking
+pub mod Settling

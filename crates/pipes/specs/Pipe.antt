@@ -54,8 +54,11 @@ abbrev pub packetSize : Board → List ℕ → ℕ
 packetSize b image = bMaxPacketSize0 (deviceBody (setFor b (deviceOf image .speed)))
 
 -- PIPE 7: the blocks that a reply may lie in
+abbrev pub lengthsIn : List ℕ → List ℕ → List ℕ → Lengths
+lengthsIn set serial reply = record { set = length set; serial = length serial; reply = length reply }
+
 abbrev pub lengthsOf : Board → List ℕ → List ℕ → Lengths
-lengthsOf b image reply = record { set = length (setFor b (deviceOf image .speed)); serial = length (b .serial); reply = length reply }
+lengthsOf b image reply = lengthsIn (setFor b (deviceOf image .speed)) (b .serial) reply
 
 -- PIPE 18, 19: "The device record goes through the setup event. The transfer under way is dropped, whatever its stage"; "Number 9: nothing changes, nothing
 -- is ordered; the transfer under way stays"
@@ -187,7 +190,3 @@ looked l w pipe = pick (eqb (length pipe) 16) (pick (tells w) (record { number =
 
 abbrev pub pipeLooked : Lengths → Wire → List ℕ → List ℕ
 pipeLooked l w pipe = pick (eqb (length pipe) 16) (pick (tells w) pipe (pipeMoved l w pipe)) pipe
-
--- what the library's reply makes of the pipe record; at the end of a transfer it is idle already
-abbrev pub settled : ℕ → Wire → List ℕ → List ℕ → Reply → Heard
-settled size w setup pipe r = pick (isSetup w) (begins size setup pipe r) (restarts pipe r)

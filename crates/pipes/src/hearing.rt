@@ -15,9 +15,10 @@ ghost use Prim.Native.Nat.{_<_, _≤_, min};
 ghost use lib.ListN.{length};
 ghost use Rattle.events.specs.Answer.{numberOf};
 ghost use Rattle.pipes.specs.Turns.{replyAt};
-ghost use Rattle.pipes.specs.Pipe.{isSetup, tells, libraryEvent, orderBegun, pipeBegun, turnBegun, pipeReset, movedBy, pipeMoved, unheardMoved, looked, pipeLooked, wireOf};
+ghost use Rattle.pipes.specs.Pipe.{isSetup, tells, libraryEvent, orderBegun, pipeBegun, turnBegun, pipeReset, movedBy, pipeMoved, unheardMoved, looked, pipeLooked, lengthsIn, wireOf};
 
-// What an event gets before the library hears of it: its number, the order, and whether the library has to hear: at a setup, a reset, and a transfer that has ended.
+// What an event gets before the library hears of it: its number, the order, and whether the library has to hear of it: of a setup, a reset, and a
+// transfer that has ended.
 pub struct Moved {
     pub number: u8,
     pub order: u8,
@@ -160,7 +161,7 @@ fn unheard() -> Moved
 }
 
 // Any event, on a pipe record of any length, before the library hears of it.
-pub fn look(lengths: Lengths, wire: Wire, pipe: &mut [u8]) -> Moved
+fn look_at(lengths: Lengths, wire: Wire, pipe: &mut [u8]) -> Moved
     ensures moved { λ r. ⌜ r ≡ looked lengths wire (now (pipe .entry)) ⌝ }
     ensures pipe { λ _. ⌜ now (pipe .exit) ≡ pipeLooked lengths wire (now (pipe .entry)) ⌝ }
 {
@@ -175,4 +176,17 @@ pub fn look(lengths: Lengths, wire: Wire, pipe: &mut [u8]) -> Moved
         };
     }
     move_on(lengths, wire, pipe)
+}
+
+// The same by the blocks that are lent: the set in use, the serial block, the application's reply.
+pub fn look(set: &[u8], serial: &[u8], reply: &[u8], wire: Wire, pipe: &mut [u8]) -> Moved
+    ensures moved { λ r. ⌜ r ≡ looked (lengthsIn (now (set .entry)) (now (serial .entry)) (now (reply .entry))) wire (now (pipe .entry)) ⌝ }
+    ensures pipe { λ _. ⌜ now (pipe .exit) ≡ pipeLooked (lengthsIn (now (set .entry)) (now (serial .entry)) (now (reply .entry))) wire (now (pipe .entry)) ⌝ }
+{
+    let lengths = Lengths {
+        set: set.len(),
+        serial: serial.len(),
+        reply: reply.len(),
+    };
+    look_at(lengths, wire, pipe)
 }

@@ -1,10 +1,10 @@
--- `pipes::hearing::look` meets its contract: by its length, and by whether the library hears of it. No axiom.
+-- `pipes::hearing::look_at` meets its contract: by its length, and by whether the library hears of it. No axiom.
 use mathlib.Core.Path.{sym, _∙_}
 use borrow.Author.Tests.{eq-eqb, ne-eqb}
 use Rattle.pipes.proofs.Looking.{looked-moves, pipe-looked-moves}
 use borrow.Author.Needs.{needs}
-use Rattle.pipes.proofs.hearing.look.Statement.{statement}
-use Rattle.pipes.proofs.hearing.look.Tie as tie
+use Rattle.pipes.proofs.hearing.look_at.Statement.{statement}
+use Rattle.pipes.proofs.hearing.look_at.Tie as tie
 
 unheard-requires : tie.Need-unheard-requires
 unheard-requires c κs = search needs
@@ -32,8 +32,8 @@ returns-3 c =
     let m = c .before .before .move-on .ensures in
     (m .0 ∙ sym (looked-moves (a .lengths) (a .wire) (a .pipe .now) e t), m .1 ∙ sym (pipe-looked-moves (a .lengths) (a .wire) (a .pipe .now) e t))
 
-pub look-spec : {M : Type 1} → statement M
-look-spec =
+pub look-at-spec : {M : Type 1} → statement M
+look-at-spec =
     tie.close
     (tie.spec
     unheard-requires
