@@ -121,14 +121,19 @@ class Heard(collections.namedtuple("Heard", "number order room data place pipe_b
 
     def lines(self):
         yield f"answer  {number_words(self.number)}"
-        packet = f" {count_words(len(self.data), 'byte')}{self.place}" if self.order == SEND else f" at most {count_words(self.room, 'byte')}" if self.order == RECEIVE else ""
-        yield f"order   {ORDERS[self.order]}{packet}"
+        yield f"order   {order_words(self)}"
         if self.data:
             yield f"        {hexadecimal(self.data)}"
         if self.pipe != self.pipe_before:
             yield f"pipe    {pipe_words(self.pipe)}"
             yield f"        {hexadecimal(self.pipe)}"
         yield from left_lines(self.before, self.image)
+
+
+def order_words(heard):
+    """The order, with the packet's length and place, or the room."""
+    sent, room = f" {count_words(len(heard.data), 'byte')}{heard.place}", f" at most {count_words(heard.room, 'byte')}"
+    return ORDERS[heard.order] + {SEND: sent, RECEIVE: room}.get(heard.order, "")
 
 
 # What may stand behind => in a line that goes packet by packet.
@@ -147,27 +152,32 @@ class Transfers:
 
     def play(self, call, image):
         """Prints what comes of a line; gives the phrases that hold, and the record that it leaves."""
-        got = []
-        if call.line.word in HOST:
-            answer = self.peripheral.answer(call.line.word)
-            taken = self.peripheral.packet if call.line.word == "in" and answer == "ACK" else None
-            got = [f"host gets {answer}"] + ([f"host gets {count_words(len(taken), 'byte')}"] if taken is not None else [])
-            print(f"    host    gets {answer if taken is None else count_words(len(taken), 'byte')}")
-            if taken:
-                print(f"            {hexadecimal(taken)}")
-            if answer != "ACK":
-                return [*got, *data_phrases(b""), *pipe_phrases(self.pipe, self.pipe), *left_phrases(image, image)], image
-            self.token_passed(call.line.word)
-        heard = self.hear(call, image)
+        host, taken, heard = self.step(call, image)
+        got = [f"host gets {host}"] if host else []
+        if taken is not None:
+            got.append(f"host gets {count_words(len(taken), 'byte')}")
+        if got:
+            print(f"    {got[-1].replace(' ', '    ', 1)}")
+        if taken:
+            print(f"            {hexadecimal(taken)}")
+        if not heard:
+            return [*got, *data_phrases(b""), *pipe_phrases(self.pipe, self.pipe), *left_phrases(image, image)], image
         for text in heard.lines():
             print(f"    {text}")
         return got + heard.phrases(), heard.image
 
-    def token_passed(self, word):
-        if word == "in":
-            self.peripheral.packet = None
+    def step(self, call, image):
+        """What the host's token gets, the packet that it took, and what the pipe gave, or nothing where it did not hear of it."""
+        if call.line.word not in HOST:
+            return None, None, self.hear(call, image)
+        host, taken = self.peripheral.answer(call.line.word), None
+        if host != "ACK":
+            return host, None, None
+        if call.line.word == "in":
+            taken, self.peripheral.packet = self.peripheral.packet, None
         else:
             self.peripheral.room, self.peripheral.awaits_status = None, False
+        return host, taken, self.hear(call, image)
 
     def hear(self, call, image):
         if call.event in (PIPE_SETUP, RESET):
