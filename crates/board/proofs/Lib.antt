@@ -4,3 +4,4 @@ pub mod EndpointImages
 pub mod TwoSets
 pub mod PortAnswers
 pub mod Elements
+pub mod Piping

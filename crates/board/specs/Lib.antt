@@ -1,4 +1,5 @@
 pub mod Exports
+pub mod Pipes
 pub mod Makers
 pub mod Handing
 pub mod Decided

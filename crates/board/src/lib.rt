@@ -15,6 +15,7 @@ ghost use Rattle.board.specs.Lent.{OpensBytes};
 mod endpoint;
 mod makers;
 mod numbers;
+mod pipe;
 mod ports;
 mod table;
 mod two;

@@ -25,7 +25,7 @@ pub extern "C" fn hk_two_open(full: &[u8], high: &[u8], serial: &[u8], image: &m
 }
 
 // Opening for an event. A function of its own, so that what it lends has given up its place on the stack when the event's parts are lent theirs.
-fn opened(full: &[u8], high: &[u8], serial: &[u8]) -> u8
+pub fn opened(full: &[u8], high: &[u8], serial: &[u8]) -> u8
     ensures { λ r. ⌜ r ≡ openingTwo (now (full .entry)) (now (high .entry)) (now (serial .entry)) ⌝ }
 {
     pairs::opening_two(full, high, serial)

@@ -3,3 +3,4 @@ pub mod Inverse
 pub mod Fitting
 pub mod Looking
 pub mod Settling
+pub mod Ending

@@ -31,15 +31,17 @@ module _ (size : ℕ) (w : Wire) (s : Setup) (a : Answer) (pipe : List ℕ) {r :
       → r ≡ withBytes a order → (r ≡ responds size w s a) × (left ≡ settles size w s a pipe)
   settle-begins k order is e o p q = (
     q ∙ ap (withBytes a) (o ∙ ap (λ (n : ℕ). orderBegun (numberOf a) (turnBegun a s n)) e)
-      ∙ sym (ap (λ (t : Bool). pick t (withBytes a (orderBegun (numberOf a) (turnBegun a s size))) (bare (numberOf a) 0)) is),
+        ∙ sym (ap (λ (t : Bool). pick t (withBytes a (orderBegun (numberOf a) (turnBegun a s size))) (bare (numberOf a) 0)) is),
     p ∙ ap (λ (n : ℕ). pipeBegun (numberOf a) pipe (turnBegun a s n)) e
-      ∙ sym (ap (λ (t : Bool). pick t (pipeBegun (numberOf a) pipe (turnBegun a s size)) (pipeReset (numberOf a) pipe)) is))
+        ∙ sym (ap (λ (t : Bool). pick t (pipeBegun (numberOf a) pipe (turnBegun a s size)) (pipeReset (numberOf a) pipe)) is),
+  )
 
   -- a reset, or a transfer that has ended
   pub settle-restarts : (n : ℕ) → isSetup w ≡ false → n ≡ numberOf a → left ≡ pipeReset n pipe → r ≡ bare n 0 → (r ≡ responds size w s a) × (left ≡ settles size w s a pipe)
   settle-restarts n is e p q = (
     q ∙ ap (λ (m : ℕ). bare m 0) e ∙ sym (ap (λ (t : Bool). pick t (withBytes a (orderBegun (numberOf a) (turnBegun a s size))) (bare (numberOf a) 0)) is),
-    p ∙ ap (λ (m : ℕ). pipeReset m pipe) e ∙ sym (ap (λ (t : Bool). pick t (pipeBegun (numberOf a) pipe (turnBegun a s size)) (pipeReset (numberOf a) pipe)) is))
+    p ∙ ap (λ (m : ℕ). pipeReset m pipe) e ∙ sym (ap (λ (t : Bool). pick t (pipeBegun (numberOf a) pipe (turnBegun a s size)) (pipeReset (numberOf a) pipe)) is),
+  )
 
 -- ---- what is sent lies inside what is lent
 pub sent-inside : (first used serial reply : List ℕ) (order : ℕ) (t : Transfer) → Inside first used serial reply (sent (lengthsIn used serial reply) order t)

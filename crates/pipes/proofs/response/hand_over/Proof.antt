@@ -37,10 +37,14 @@ returns c =
     let piece = c .before .before .before .sent in
     let room = c .before .before .room-for in
     let lens = lengthsIn (a .used .now) (a .serial .now) (a .reply .now) in
-    let s = c .part-of .ensures in
-    (refl, (ap (outBytes (a .response)) (room .ensures ∙ ap (roomFor (a .response .order)) (next .ensures)),
-    hands-piece (a .first .now) (a .used .now) (a .serial .now) (a .reply .now) (a .first .ptr) (a .used .ptr) (a .serial .ptr) (a .reply .ptr) (piece .result)
-    (sent lens (a .response .order) (transferOf (a .pipe .now))) (piece .ensures ∙ ap (sent lens (a .response .order)) (next .ensures)) (s .0) (s .1 .0) (s .1 .1)))
+    let s = c .part-of .ensures in (
+      refl,
+      (
+        ap (outBytes (a .response)) (room .ensures ∙ ap (roomFor (a .response .order)) (next .ensures)),
+        hands-piece (a .first .now) (a .used .now) (a .serial .now) (a .reply .now) (a .first .ptr) (a .used .ptr) (a .serial .ptr) (a .reply .ptr) (piece .result)
+            (sent lens (a .response .order) (transferOf (a .pipe .now))) (piece .ensures ∙ ap (sent lens (a .response .order)) (next .ensures)) (s .0) (s .1 .0) (s .1 .1),
+      ),
+    )
 
 pub hand-over-spec : {M : Type 1} → statement M
 hand-over-spec =

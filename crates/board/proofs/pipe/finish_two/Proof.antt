@@ -1,0 +1,34 @@
+-- `board::pipe::finish_two` meets its contract: the set in use by the speed. No axiom.
+use mathlib.Core.Path.{_∙_}
+use mathlib.Core.Bool.{Bool}
+use lib.Dec.{eqb}
+use Rattle.octets.specs.Sentences.{pick}
+use Rattle.pipes.specs.Image.{transferOf}
+use Rattle.board.proofs.Piping.{first-of, second-of, hands-used}
+use borrow.Author.Needs.{needs}
+use Rattle.board.proofs.pipe.finish_two.Statement.{statement}
+use Rattle.board.proofs.pipe.finish_two.Tie as tie
+
+in-use-requires : tie.Need-in-use-requires
+in-use-requires c κs = search needs
+
+hand-over-requires : tie.Need-hand-over-requires
+hand-over-requires c κs = search needs
+
+returns : tie.Need-returns
+returns c =
+    let a = c .before .before .before .before .before .before .before .before .before .args in
+    let u = c .before .before .before .in-use in
+    let h = c .hand-over .ensures in
+    let full = eqb (a .speed) 0 in (
+      h .0,
+      (
+        h .1 .0,
+        hands-used (a .full .now) (a .serial .now) (a .reply .now) (a .full .ptr) (a .serial .ptr) (a .reply .ptr) (u .result .ptr) (pick full (a .full .ptr) (a .high .ptr)) (a .response .order)
+            (transferOf (a .pipe .now)) (u .result .now) (pick full (a .full .now) (a .high .now)) (u .ensures .0) (u .ensures .1 .0 ∙ first-of full (a .full .ptr) (a .high .ptr))
+            (u .ensures .1 .1 ∙ second-of full (a .full .ptr) (a .high .ptr)) (h .1 .1),
+      ),
+    )
+
+pub finish-two-spec : {M : Type 1} → statement M
+finish-two-spec = tie.close (tie.spec in-use-requires hand-over-requires returns)

@@ -1,0 +1,38 @@
+-- `board::pipe::hk_pipe_event` meets its contract: what the event gets, handed out. No axiom.
+use mathlib.Core.Path.{refl}
+use Rattle.sets.specs.Opening.{lent}
+use Rattle.pipes.specs.Pipe.{wireOf}
+use Rattle.board.specs.Exports.{spotOf}
+use Rattle.board.proofs.Piping.{answers-pipe}
+use borrow.Author.Needs.{needs}
+use Rattle.board.proofs.pipe.hk_pipe_event.Statement.{statement}
+use Rattle.board.proofs.pipe.hk_pipe_event.Tie as tie
+
+wire-of-requires : tie.Need-wire-of-requires
+wire-of-requires c κs = search needs
+
+hear-requires : tie.Need-hear-requires
+hear-requires c κs = search needs
+
+finish-requires : tie.Need-finish-requires
+finish-requires c κs = search needs
+
+same-length : tie.Need-same-length
+same-length c = search needs
+
+same-length-2 : tie.Need-same-length-2
+same-length-2 c = search needs
+
+returns : tie.Need-returns
+returns c =
+    let a = c .before .before .before .before .before .before .before .before .before .before .before .before .before .before .before .before .before .before .args in
+    let wire = c .before .before .before .before .before .before .before .before .before .before .before .wire-of in
+    let h = c .before .before .before .before .before .before .before .before .hear in
+    let f = c .finish .ensures in
+    answers-pipe (lent (a .set .now) (a .serial .now)) (a .image .now) (a .pipe .now) (a .setup .now) (a .reply .now) (a .set .ptr) (a .set .ptr) (a .serial .ptr) (a .reply .ptr) (spotOf (a .set .ptr))
+    (a .set .now) refl refl (wire .result) (wireOf (a .kind) (a .value)) (h .result) _ _ (wire .ensures) (h .ensures) (f .0) (f .1 .0) (f .1 .1)
+
+pub hk-pipe-event-spec : {M : Type 1} → statement M
+hk-pipe-event-spec =
+    tie.close
+    (tie.spec wire-of-requires hear-requires finish-requires same-length same-length-2 returns)
