@@ -1,4 +1,4 @@
-//! The transfers of endpoint zero, by the page "The pipe": the pipe record, and what each event of the wire is answered and orders.
+//! The transfers of endpoint zero (docs/PIPE.md, whose sentences are cited as PIPE n): the pipe record, and what each event of the wire is answered and orders.
 
 use crate::events::{Block, Event, Lent, Part};
 use crate::fault::Fault;
@@ -8,7 +8,7 @@ use crate::record::{FULL_SPEED, NOTHING_WAITS};
 
 pub const PIPE_LENGTH: usize = 16;
 
-/// "stage: 0 idle, 1 asking (a setup), 2 data in, 3 status out, 4 data out, 5 asking (its bytes), 6 status in, 7 stalled"
+/// PIPE 7, byte 0.
 pub const IDLE: u8 = 0;
 pub const ASKING_SETUP: u8 = 1;
 pub const DATA_IN: u8 = 2;
@@ -18,7 +18,7 @@ pub const ASKING_BYTES: u8 = 5;
 pub const STATUS_IN: u8 = 6;
 pub const STALLED: u8 = 7;
 
-/// "where the reply lies: 0 nowhere, 1 the set in use, 2 the serial block, 3 the application's"
+/// PIPE 7, byte 1.
 pub const NOWHERE: u8 = 0;
 pub const IN_SET: u8 = 1;
 pub const IN_SERIAL: u8 = 2;
@@ -38,7 +38,7 @@ pub enum Order {
     Ask,
 }
 
-/// What the peripheral or the application tells.
+/// PIPE 1: what the peripheral or the application tells.
 #[derive(Clone, PartialEq, Eq, Debug)]
 pub enum Wire {
     Setup(Vec<u8>),
@@ -108,7 +108,7 @@ pub struct Transfer {
     pub zeros: [u8; 4],
 }
 
-/// "Idle is all zero"
+/// PIPE 9: "Idle is all zero."
 pub const AT_REST: Transfer =
     Transfer { stage: IDLE, block: 0, place: 0, length: 0, asked: 0, moved: 0, size: 0, reads: 0, zeros: [0; 4] };
 
@@ -138,7 +138,7 @@ impl Transfer {
         bytes
     }
 
-    /// "as many bytes as are still to come, at most bMaxPacketSize0"
+    /// PIPE 28: "as many bytes as are still to come, at most bMaxPacketSize0"
     fn due(&self) -> u16 {
         self.asked.saturating_sub(self.moved).min(u16::from(self.size))
     }
@@ -185,7 +185,7 @@ impl Pipe<'_> {
         Heard { number, order: Order::Nothing, room: 0, bytes: Vec::new(), part: None, pipe, image }
     }
 
-    /// "A pipe record that has not 16 bytes gets 8 at every event, before everything else, and nothing changes."
+    /// PIPE 11, 16: "A pipe record that has not 16 bytes gets 8 at every event, before all else"
     pub fn hear(&self, wire: &Wire) -> Heard {
         let transfer = match self.lent.fault {
             Fault::LongerPipePasses if self.pipe.len() > PIPE_LENGTH => Transfer::read(&self.pipe[..PIPE_LENGTH]),
@@ -204,7 +204,7 @@ impl Pipe<'_> {
                 Pipe { image: &ended.image, ..*self }.setup(setup)
             }
             (Some(_), Wire::Setup(setup)) => self.setup(setup),
-            // "Any other event number is a setup that is not 8 bytes"
+            // PIPE 4: "Any other event number counts as a setup that is not 8 bytes."
             (Some(_), Wire::Other { .. }) => self.setup(&[]),
             (Some(transfer), _) => self.go_on(&transfer, wire),
         }
@@ -217,7 +217,7 @@ impl Pipe<'_> {
 
     // ---- fitting
 
-    /// The set in use, by byte 7 of the device record.
+    /// PIPE 8: by byte 7 of the device record as the event found it.
     fn set_in_use(&self) -> (Block, &[u8]) {
         let high = self.image.get(7).is_some_and(|speed| *speed != FULL_SPEED) && !self.has(Fault::PipeOfFullSet);
         match &self.lent.high {
@@ -236,7 +236,7 @@ impl Pipe<'_> {
         }
     }
 
-    /// "One of 16 bytes fits if .."
+    /// PIPE 12 to 15: "One of 16 bytes fits if .."
     fn fits(&self, transfer: &Transfer) -> bool {
         let stalled_or_idle = transfer.stage == IDLE || transfer.stage == STALLED;
         let no_size = transfer.size == 0 && (stalled_or_idle || self.has(Fault::NoSizeFits));
@@ -254,7 +254,7 @@ impl Pipe<'_> {
 
     // ---- setup and reset, which write the pipe record anew
 
-    /// "the device record goes through the setup event. The transfer under way is dropped, whatever its stage."
+    /// PIPE 18, 19, 22, 23: "The device record goes through the setup event. The transfer under way is dropped"
     fn setup(&self, setup: &[u8]) -> Heard {
         let outcome = self.lent.event(self.image, &Event::Setup(setup.to_vec()));
         let asks = match outcome.number {
@@ -272,7 +272,7 @@ impl Pipe<'_> {
         Heard { bytes: outcome.bytes, ..heard }
     }
 
-    /// "Number 0 and wLength 0: status in, send an empty packet. Number 0 and wLength not 0: data in, send packet 0 of the reply"
+    /// PIPE 20, 21: "Number 0 and wLength 0: status in, send an empty packet."
     fn begin(&self, transfer: Transfer) -> Turn {
         match transfer.asked {
             0 => goes_on(Transfer { stage: STATUS_IN, ..transfer }, Order::Send),
@@ -280,7 +280,7 @@ impl Pipe<'_> {
         }
     }
 
-    /// The transfer of a setup, as if its reply went out.
+    /// PIPE 24: the transfer of a setup, as if its reply went out.
     fn started(&self, setup: &[u8], part: Option<Part>, bytes: usize) -> Transfer {
         let block = match part {
             None => NOWHERE,
@@ -302,7 +302,7 @@ impl Pipe<'_> {
         }
     }
 
-    /// "bMaxPacketSize0 of the set in use"
+    /// PIPE 24: "bMaxPacketSize0 of the set in use"
     fn packet_size(&self) -> u8 {
         let Ok(boards) = &self.lent.opened else { return 0 };
         let set = self.set_in_use().1;
@@ -314,7 +314,7 @@ impl Pipe<'_> {
         board.entries[0].body(set)[7]
     }
 
-    /// "to that speed (a value above 255 counts as 255); where that is 0 the pipe is idle. Where it is refused nothing changes."
+    /// PIPE 3, 32: "Where that is 0 the pipe is idle; else nothing changes."
     fn reset(&self, speed: u16) -> Heard {
         let speed = match self.lent.fault {
             Fault::ResetSpeedByLowByte => speed as u8,
@@ -333,7 +333,7 @@ impl Pipe<'_> {
 
     // ---- the events that look at the transfer
 
-    /// "Every other event gives 8 for one that does not fit, changes nothing and orders nothing."
+    /// PIPE 17, 38: "Every other event gives 8 for one that does not fit"
     fn go_on(&self, transfer: &Transfer, wire: &Wire) -> Heard {
         if !self.fits(transfer) {
             let pipe = if self.has(Fault::MisfitBecomesIdle) { AT_REST.bytes() } else { self.pipe.to_vec() };
@@ -354,7 +354,7 @@ impl Pipe<'_> {
         }
     }
 
-    /// "in data in, send the next packet, or, where there is none, status out, await. In status in: the transfer has ended. In any other stage: nothing."
+    /// PIPE 25, 26: "In status in: the transfer has ended. In any other stage: nothing."
     fn taken(&self, transfer: &Transfer) -> Turn {
         match (transfer.stage, self.lent.fault) {
             (STATUS_OUT, Fault::TakenEndsStatusOut) | (STATUS_IN, _) => self.ends(),
@@ -378,6 +378,7 @@ impl Pipe<'_> {
         packets::packet(usize::from(transfer.length), transfer.asked, u32::from(transfer.size), packet, self.lent.fault)
     }
 
+    /// PIPE 27, 30: "an empty packet ends the transfer; another is the host's error"
     fn received(&self, transfer: &Transfer, length: u16) -> Turn {
         let fault = self.lent.fault;
         match transfer.stage {
@@ -390,7 +391,7 @@ impl Pipe<'_> {
         }
     }
 
-    /// "it must have as many bytes as are still to come, at most bMaxPacketSize0; else stalled, stall"
+    /// PIPE 28, 29: "If more are to come then: receive; if all are there: asking (its bytes), ask."
     fn gather(&self, transfer: &Transfer, length: u16) -> Turn {
         let short = length < transfer.due();
         let passes = match self.lent.fault {
@@ -414,7 +415,7 @@ impl Pipe<'_> {
         goes_on(Transfer { stage: ASKING_BYTES, ..gathered }, Order::Ask)
     }
 
-    /// "The application's events count in asking alone; in any other stage they give 0, change nothing and order nothing."
+    /// PIPE 33, 36, 37: "Its events count in asking alone."
     fn answered(&self, transfer: &Transfer, wire: &Wire) -> Turn {
         let fault = self.lent.fault;
         let of_setup = transfer.stage == ASKING_SETUP;
@@ -444,7 +445,7 @@ impl Pipe<'_> {
         }
     }
 
-    /// "data in with the first wLength bytes of reply, or all of it where it is shorter, and send packet 0"
+    /// PIPE 34: "data in with the first wLength bytes of reply, or all of it where it is shorter"
     fn reply(&self, transfer: &Transfer) -> Turn {
         let longest = if self.has(Fault::ReplyLongerThanAsked) { u16::MAX } else { transfer.asked };
         let length = self.reply.len().min(usize::from(longest)) as u16;
@@ -453,7 +454,7 @@ impl Pipe<'_> {
         goes_on(sent, Order::Send)
     }
 
-    /// "if wLength is at most n, data out, receive; else stalled, stall"
+    /// PIPE 35: "where that is at most n: data out, 0 in bytes 8–9, receive. Else as refuse."
     fn give_room(&self, transfer: &Transfer, room: u16) -> Turn {
         let least = match self.lent.fault {
             Fault::RoomNotMeasured => 0,
@@ -466,7 +467,7 @@ impl Pipe<'_> {
         goes_on(Transfer { stage: DATA_OUT, moved: 0, ..*transfer }, Order::Receive)
     }
 
-    /// "Stalled is all zero but byte 0."
+    /// PIPE 9: "Stalled is all zero but byte 0."
     fn stall(&self, transfer: &Transfer) -> Turn {
         let rest = if self.has(Fault::StallKeepsTransfer) { *transfer } else { AT_REST };
         let order = if self.has(Fault::StallNotOrdered) { Order::Nothing } else { Order::Stall };
@@ -477,7 +478,7 @@ impl Pipe<'_> {
         Turn { transfer: AT_REST, order: Order::Nothing, ended: true }
     }
 
-    /// "the device record goes through the status end event, the pipe is idle, and nothing is ordered; the number is the status end's"
+    /// PIPE 31: "the device record goes through the status end event, the pipe is idle, nothing is ordered"
     fn end(&self, transfer: Transfer) -> Heard {
         let outcome = self.lent.event(self.image, &Event::StatusEnd);
         let waits = self.image.get(2).copied().unwrap_or(NOTHING_WAITS);
@@ -495,7 +496,7 @@ impl Pipe<'_> {
         Heard { pipe, image, ..self.unheard(number) }
     }
 
-    /// The order with what it needs: the packet that goes out, or the room for the next.
+    /// PIPE 39 to 43: the order with what it needs, the packet that goes out or the room for the next.
     fn heard(&self, number: u8, turn: &Turn, image: Vec<u8>) -> Heard {
         let Turn { transfer, order, .. } = turn;
         let sends = *order == Order::Send && transfer.stage == DATA_IN;

@@ -48,7 +48,11 @@ pub fn vectors(questions: usize, seed: u64) -> String {
         }
         let high = lent.high.as_ref().map_or("none".to_string(), |high| hex(high));
         let blocks = [("set", hex(&lent.set)), ("high", high), ("serial", hex(&lent.serial))];
-        let blocks = blocks.into_iter().chain([("record", hex(&call.image)), ("pipe", hex(&call.pipe)), ("reply", hex(&call.reply))]);
+        let blocks = blocks.into_iter().chain([
+            ("record", hex(&call.image)),
+            ("pipe", hex(&call.pipe)),
+            ("reply", hex(&call.reply)),
+        ]);
         let now: Vec<String> = blocks.map(|(name, bytes)| format!("{name} {bytes}")).collect();
         lines.extend(now.iter().filter(|line| !lends.contains(*line)).cloned());
         lends = now;
@@ -325,7 +329,10 @@ impl Asker<'_, '_> {
             7 => forged.reads = self.random.pick(&[2, 128, 255]),
             8 => forged.zeros[self.random.below(4)] = self.random.pick(&[1, 128, 255]),
             9 => forged.place = (room - usize::from(forged.length)) as u16,
-            10 => (forged.block, forged.place, forged.length) = self.random.pick(&[(0, 0, 2), (0, 1, 1), (0, 0, 3), (0, 2, 1)]),
+            10 => {
+                (forged.block, forged.place, forged.length) =
+                    self.random.pick(&[(0, 0, 2), (0, 1, 1), (0, 0, 3), (0, 2, 1)])
+            }
             _ => {}
         }
         forged

@@ -1,5 +1,5 @@
 //! Whole control transfers: a device loop over the pipe, its peripheral in memory, an application that keeps bytes, and a host that breaks in, ends
-//! early, sends strays, too much or too little, and resets. What the host sees is held to the library's own events (the pipe's promises).
+//! early, sends strays, too much or too little, and resets. What the host sees is held to the library's own events (PIPE 51 to 56).
 
 use std::sync::Arc;
 
@@ -42,7 +42,6 @@ struct Peripheral {
 struct Port {
     image: Vec<u8>,
     pipe: Vec<u8>,
-    setup: Vec<u8>,
     reply: Vec<u8>,
     room: Vec<u8>,
     kept: Vec<u8>,
@@ -99,7 +98,8 @@ impl Loop<'_, '_> {
     }
 
     fn open_endpoints(&mut self, port: usize) {
-        let mut open = if self.has(Fault::EndpointsNeverClosed) { self.hardware(port).open.clone() } else { Vec::new() };
+        let mut open =
+            if self.has(Fault::EndpointsNeverClosed) { self.hardware(port).open.clone() } else { Vec::new() };
         let first = u8::from(self.has(Fault::FirstEndpointSkipped));
         let end = if self.has(Fault::OneEndpointOnly) { first + 1 } else { 255 };
         for number in first..end {
@@ -120,7 +120,11 @@ impl Loop<'_, '_> {
             &block[part.offset..part.offset + part.length]
         });
         let handed = !heard.bytes.is_empty() && !self.has(Fault::PacketOfOldBytes);
-        if handed { heard.bytes.clone() } else { part.to_vec() }
+        if handed {
+            heard.bytes.clone()
+        } else {
+            part.to_vec()
+        }
     }
 
     fn obey(&mut self, port: usize, heard: &Heard) {
@@ -162,8 +166,7 @@ impl Loop<'_, '_> {
         self.obey(port, &heard);
         if heard.order == Order::Ask {
             let (answer, reply) = application_setup(&self.ports[port].kept, setup);
-            (self.ports[port].setup, self.ports[port].reply) = (setup.to_vec(), reply);
-            self.ports[port].room = vec![0; MOST_KEPT];
+            (self.ports[port].reply, self.ports[port].room) = (reply, vec![0; MOST_KEPT]);
             self.tell(port, &answer);
         }
     }
@@ -229,7 +232,11 @@ struct Host<'a, 'b> {
 }
 
 fn expect(holds: bool, what: &str) -> Seen {
-    if holds { Ok(()) } else { Err(what.to_string()) }
+    if holds {
+        Ok(())
+    } else {
+        Err(what.to_string())
+    }
 }
 
 impl Host<'_, '_> {
@@ -257,7 +264,10 @@ impl Host<'_, '_> {
             let current = selected.iter().flat_map(|one| &one.settings).filter(|setting| record.is_current(setting));
             let open: Vec<u8> = current.flat_map(|setting| &setting.endpoints).map(|one| one.address).collect();
             let (at, peripheral) = (&self.device.ports[port], &self.device.ports[port].peripheral);
-            expect(at.image == self.known[port].image, "the device record is another than the library's own events leave")?;
+            expect(
+                at.image == self.known[port].image,
+                "the device record is another than the library's own events leave",
+            )?;
             expect(at.kept == self.known[port].kept, "the application has other bytes than the host gave it")?;
             expect(peripheral.address == record.address, "the peripheral answers to another address")?;
             expect(peripheral.open == open, "other endpoints are open than those of the current settings")?;
@@ -270,7 +280,8 @@ impl Host<'_, '_> {
     fn reset(&mut self, port: usize) -> Seen {
         let speed = if self.right.high.is_some() { self.random.pick(&[0, 1, 1]) } else { 0 };
         let kept = self.peripheral(port).clone();
-        *self.peripheral(port) = Peripheral { address: kept.address, open: kept.open, test_mode: kept.test_mode, ..Peripheral::default() };
+        *self.peripheral(port) =
+            Peripheral { address: kept.address, open: kept.open, test_mode: kept.test_mode, ..Peripheral::default() };
         self.device.event(port, &Wire::Reset(speed));
         self.know(port, &Event::BusReset(speed as u8));
         self.check()
@@ -452,8 +463,8 @@ impl Host<'_, '_> {
 pub fn run(lent: &Lent, right: &Lent, random: &mut Random, tally: &mut Tally, ask: &mut Ask) {
     let (image, pipe) = (Record::fresh().image(), AT_REST.bytes());
     let known = Known { image: image.clone(), kept: Vec::new() };
-    let (setup, reply, room, kept) = (Vec::new(), Vec::new(), Vec::new(), Vec::new());
-    let port = Port { image, pipe, setup, reply, room, kept, peripheral: Peripheral::default() };
+    let (reply, room, kept) = (Vec::new(), Vec::new(), Vec::new());
+    let port = Port { image, pipe, reply, room, kept, peripheral: Peripheral::default() };
     let ports = random.pick(&[1, 1, 2]);
     tally.runs += 1;
     let device = Loop { lent, ports: vec![port; ports], ask };
