@@ -1,5 +1,5 @@
 //! Whole control transfers: a device loop over the pipe, its peripheral in memory, an application that keeps bytes, and a host that breaks in, ends
-//! early, sends strays, too much or too little, and resets. What the host sees is held to the library's own events (PIPE 51 to 56).
+//! early, sends strays, too much or too little, and resets. What the host sees is held to the library's own events (PIPE 51 to 57).
 
 use std::sync::Arc;
 
@@ -227,6 +227,10 @@ struct Host<'a, 'b> {
     /// The same sets, without a fault.
     right: &'a Lent,
     known: Vec<Known>,
+    /// Takes every packet and ends every transfer.
+    faithful: bool,
+    /// What it read last.
+    got: Vec<u8>,
     random: &'a mut Random,
     tally: &'a mut Tally,
 }
@@ -277,6 +281,11 @@ impl Host<'_, '_> {
         Ok(())
     }
 
+    /// Whether a host that is not faithful does something else now.
+    fn strays(&mut self, chance: usize) -> bool {
+        !self.faithful && self.random.percent(chance)
+    }
+
     fn reset(&mut self, port: usize) -> Seen {
         let speed = if self.right.high.is_some() { self.random.pick(&[0, 1, 1]) } else { 0 };
         let kept = self.peripheral(port).clone();
@@ -321,11 +330,11 @@ impl Host<'_, '_> {
 
     /// Our empty packet; a stray OUT before it changes nothing.
     fn take_status(&mut self, port: usize) -> Seen {
-        if self.random.percent(20) {
+        if self.strays(20) {
             self.device.event(port, &Wire::Received(0));
             self.check()?;
         }
-        if self.random.percent(12) {
+        if self.strays(12) {
             return Ok(()); // never taken: what comes next drops the transfer
         }
         expect(self.device.ports[port].pipe[0] == STATUS_IN, "the status stage is not there")?;
@@ -336,7 +345,7 @@ impl Host<'_, '_> {
     /// "What the host reads is the reply", whole or, where the host ends early, its beginning.
     fn read(&mut self, port: usize, reply: &[u8], asked: usize) -> Seen {
         let size = self.packet_size(port);
-        let patience = if self.random.percent(30) { self.random.below(4) } else { usize::MAX };
+        let patience = if self.strays(30) { self.random.below(4) } else { usize::MAX };
         let mut got = Vec::new();
         for packet in 0.. {
             if packet == patience {
@@ -351,7 +360,8 @@ impl Host<'_, '_> {
                 break;
             }
         }
-        if self.random.percent(8) {
+        self.got = got;
+        if self.strays(8) {
             return Ok(());
         }
         self.send_status(port)
@@ -442,7 +452,35 @@ impl Host<'_, '_> {
         }
     }
 
+    /// "Enumeration, packet by packet": the host reads exactly the set's bytes and ends with a Configured device.
+    fn enumerate(&mut self, port: usize) -> Seen {
+        self.reset(port)?;
+        let Ok(boards) = &self.right.opened else { return Ok(()) };
+        let board = boards.in_use(self.record(port).speed);
+        let set = self.right.slice(board.block());
+        let address = self.random.between(1, 127) as u16;
+        let value = u16::from(board.configurations[self.random.below(board.configurations.len())].value);
+        let setup =
+            |request_type, code, value, index, length| Setup { request_type, code, value, index, length }.bytes();
+        self.transfer(port, &setup(0, requests::SET_ADDRESS, address, 0, 0))?;
+        for entry in &board.entries {
+            let asked = u16::from_be_bytes([entry.descriptor_type, entry.index]);
+            let length = self.random.pick(&[entry.length as u16, 65_535]);
+            self.transfer(port, &setup(0x80, requests::GET_DESCRIPTOR, asked, entry.language, length))?;
+            expect(self.got == entry.body(set), "the host reads something else than the set's bytes")?;
+        }
+        self.transfer(port, &setup(0, requests::SET_CONFIGURATION, value, 0, 0))?;
+        let record = self.record(port);
+        let configured = record.state == CONFIGURED && u16::from(record.address) == address;
+        expect(configured && u16::from(record.configuration) == value, "the device is not Configured")
+    }
+
     fn run(&mut self) -> Seen {
+        let enumerated = if self.faithful { self.known.len() } else { 0 };
+        for port in 0..enumerated {
+            self.enumerate(port)?;
+        }
+        self.faithful = false;
         for port in 0..self.known.len() {
             self.reset(port)?;
         }
@@ -468,7 +506,9 @@ pub fn run(lent: &Lent, right: &Lent, random: &mut Random, tally: &mut Tally, as
     let ports = random.pick(&[1, 1, 2]);
     tally.runs += 1;
     let device = Loop { lent, ports: vec![port; ports], ask };
-    let seen = Host { device, right, known: vec![known; ports], random, tally: &mut *tally }.run();
+    let faithful = random.percent(30);
+    let known = vec![known; ports];
+    let seen = Host { device, right, known, faithful, got: Vec::new(), random, tally: &mut *tally }.run();
     if let Err(what) = seen {
         tally.noticed.get_or_insert(what);
     }
