@@ -37,7 +37,7 @@ use crate::record::FULL_SPEED;
 pub const FLAGS: u8 = 0x0f;
 
 /// The largest block that either side takes.
-const LONGEST_BLOCK: usize = 100_000;
+const LONGEST_BLOCK: usize = 200_000;
 
 pub enum Command {
     Set(Vec<u8>),
