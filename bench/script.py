@@ -3,7 +3,7 @@ import os, re
 
 from events import read_event
 from packets import Lend, PacketCall, WORDS, goes_by_packets
-from text import Line, Mistake, read_entries, read_lines
+from text import Line, Mistake, read_entries, read_lines, text_of_lines
 from words import EXPECTED_OF_ORDERS, count_words, read_expected
 
 
@@ -28,7 +28,7 @@ class Lending:
     def read(self, path):
         try:
             if self.block == "set" and path.endswith(".txt"):
-                with open(path, encoding="utf-8") as file:
+                with open(path, encoding="utf-8-sig") as file:
                     self.text = read_entries(file)
             else:
                 self.data = read_file(path)
@@ -44,6 +44,23 @@ class Lending:
         if self.at + len(self.data) > len(before):
             raise Mistake(f"the {self.block} has only {count_words(len(before), 'byte')}")
         return before[: self.at] + self.data + before[self.at + len(self.data) :]
+
+
+class LentHere(Lending):
+    """A set whose text stands in the script, between `set here` and `end`."""
+
+    def __init__(self, line, lines):
+        self.line, self.block, self.at, self.data = line, "set", None, b""
+        text = text_of_lines(until_end(line, lines))
+        self.text = [(group[0], entry) for group, entry in zip(text.groups, text.entries)], text.serial
+
+
+def until_end(line, lines):
+    for inner in lines:
+        if inner.text == "end":
+            return
+        yield inner
+    raise line.mistake("this set has no `end`")
 
 
 class Call:
@@ -84,8 +101,9 @@ class Orders:
 def read_script(path):
     """The steps of a script; an error names its line."""
     steps, orders, by_packets = [], None, False
-    with open(path, encoding="utf-8") as file:
-        for line in read_lines(file):
+    with open(path, encoding="utf-8-sig") as file:
+        lines = read_lines(file)
+        for line in lines:
             if line.text == "end" and orders:
                 orders = None
             elif orders:
@@ -94,6 +112,8 @@ def read_script(path):
                 raise line.mistake(f"`{line.word}` is for transfers that are not played packet by packet")
             elif line.word == "orders":
                 steps.append(orders := Orders(line))
+            elif line.text == "set here":
+                steps.append(LentHere(line, lines))
             elif line.word in ("set", "serial", "record"):
                 steps.append(Lending(line, os.path.dirname(path)))
             elif line.word == "pipe":

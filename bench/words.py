@@ -157,3 +157,21 @@ def read_expected(line, text, allowed=EXPECTED):
 def missed(expected, phrases):
     """Those of the expected phrases that do not hold."""
     return [phrase for phrase in expected if (phrase.removeprefix("not ") in phrases) == phrase.startswith("not ")]
+
+
+# The kinds of phrases but those of a record's fields: what came is told by those of the kind that was expected.
+KINDS = [r"\d+", "done|stall|refused", r"no data|[\d,]+ bytes?", "no data|bytes( [0-9A-F]{2})+", r"packets( \d+)+|no data", "record (unchanged|changed)",
+         "record( [0-9A-F]{2})*", r"[\d,]+ ends?", "answers alike", "order .*", r"room \d+", "pipe (unchanged|changed)", "pipe .*", "host gets .*"]
+
+
+def came_instead(expected, phrases):
+    """What an answer has where a phrase was expected of it, or not to be in it."""
+    phrase = expected.removeprefix("not ")
+    kind = next((kind for kind in KINDS if re.fullmatch(kind, phrase)), None)
+    found = [other for other in phrases if (re.fullmatch(kind, other) if kind else not any(re.fullmatch(known, other) for known in KINDS))]
+    number = next((number_words(int(other)) for other in phrases if re.fullmatch(KINDS[0], other)), "no number")
+    if kind == KINDS[0]:
+        return number
+    if kind == KINDS[1] and found:
+        return f"{found[0]}, {number}"
+    return ", ".join(found) or ("answers that differ" if phrase == "answers alike" else "none")

@@ -1,0 +1,280 @@
+"""A fault in words: the rule, the byte by its field, what was found there, and what should stand there or may. The library says rule and byte."""
+import collections
+
+from fields import KINDS, descriptors_in, entries_of, entry_at, field_at, serial_field, word
+from rules import RULES
+from text import CONFIGURATION, DEVICE, ENDPOINT, INTERFACE, STRING, hexadecimal
+from values import language_words
+
+# What the library tells: opening's number, the rule, and the byte, of the serial block where the number is 6.
+Fault = collections.namedtuple("Fault", "number rule place")
+Words = collections.namedtuple("Words", "rule block place field found should allowed remark")
+
+
+def counted(count, noun):
+    return f"{count:,} {noun}{'s' * (count != 1)}"
+
+
+def of_kind(data, kind):
+    return [entry for entry in entries_of(data) if entry.kind == kind]
+
+
+# ---- what has to stand at a byte, and why, where one value alone will do
+def right_offset(data, serial, place):
+    entries = entries_of(data)
+    at = (place - 4) // 8
+    if at == 0:
+        return 4 + 8 * data[2], f"the contents end at byte {4 + 8 * data[2]}"
+    end = entries[at - 1].offset + entries[at - 1].length
+    return end, f"the body before it ends at byte {end}"
+
+
+def right_last_length(data, serial, place):
+    length = len(data) - entries_of(data)[-1].offset
+    return (length, f"the set ends at byte {len(data)}") if length >= 2 else None
+
+
+def right_configurations(data, serial, place):
+    count = len(of_kind(data, CONFIGURATION))
+    return (count, f"there {'are' if count > 1 else 'is'} {counted(count, 'configuration')}") if 1 <= count <= 8 else None
+
+
+def right_index(data, serial, place):
+    before = sum(entry.at < place - 1 for entry in of_kind(data, CONFIGURATION))
+    return before, f"{counted(before, 'configuration')} {'stand' if before != 1 else 'stands'} before it"
+
+
+def right_total(data, serial, place):
+    length = entry_at(data, place).length
+    return length, f"the body has {counted(length, 'byte')}"
+
+
+def settings_in(body):
+    return [at for at in descriptors_in(body) if body[at + 1 : at + 2] == bytes([INTERFACE]) and at + 4 < len(body)]
+
+
+def right_interfaces(data, serial, place):
+    body = entry_at(data, place).body
+    count = len({body[at + 2] for at in settings_in(body)})
+    return (count, f"{counted(count, 'interface number')} {'follow' if count > 1 else 'follows'}") if 1 <= count <= 16 else None
+
+
+def right_endpoints(data, serial, place):
+    entry = entry_at(data, place)
+    here = place - 4 - entry.offset
+    end = min((at for at in settings_in(entry.body) if at > here), default=len(entry.body))
+    count = sum(here < at < end and entry.body[at + 1 : at + 2] == bytes([ENDPOINT]) for at in descriptors_in(entry.body))
+    return count, f"{counted(count, 'endpoint')} {'follow' if count != 1 else 'follows'} before the next interface or the end"
+
+
+def right_string_length(data, serial, place):
+    length = entry_at(data, place).length
+    return (length, f"its entry's length is {length}") if length < 256 else None
+
+
+def always(value):
+    return lambda data, serial, place: (value, "")
+
+
+EXACT = {
+    103: lambda data, serial, place: (len(data), f"the file has {counted(len(data), 'byte')}"),
+    204: right_offset, 205: right_last_length, 309: right_configurations, 310: right_configurations, 311: right_configurations, 401: right_index,
+    407: right_total, 414: right_interfaces, 415: right_interfaces, 419: right_interfaces, 421: right_endpoints, 501: right_string_length,
+    605: lambda data, serial, place: (len(serial), f"the block has {counted(len(serial), 'byte')}"),
+    **{rule: always(0) for rule in (106, 302, 303, 402, 416, 417)}, **{rule: always(18) for rule in (304, 305)},
+    306: always(1), 405: always(2), 502: always(3), 606: always(3),
+}
+
+
+def should_be(data, serial, fault):
+    """The one value that will do, and why; None where there are several or none."""
+    right = EXACT.get(fault.rule)
+    return right(data, serial, fault.place) if right else None
+
+
+# ---- what else helps
+def descriptor_start(data, place):
+    """Where the descriptor of a configuration that holds a byte begins."""
+    entry = entry_at(data, place)
+    return max(entry.offset + at for at in descriptors_in(entry.body) if entry.offset + at <= place)
+
+
+def settings_and_endpoints(data, place):
+    """The configuration's interfaces and endpoints before a byte: where each begins, its type, its interface and alternate setting."""
+    entry, setting = entry_at(data, place), (None, None)
+    for at in descriptors_in(entry.body):
+        if entry.offset + at + 2 > place or at + 3 >= len(entry.body):
+            return
+        if entry.body[at + 1] == INTERFACE:
+            setting = entry.body[at + 2], entry.body[at + 3]
+        if entry.body[at + 1] in (INTERFACE, ENDPOINT):
+            yield entry.offset + at, entry.body[at + 1], setting
+
+
+def remark_before(data, serial, place):
+    """The interface before the one at fault."""
+    start = descriptor_start(data, place)
+    number, alternate = [setting for at, kind, setting in settings_and_endpoints(data, place) if kind == INTERFACE and at < start][-1]
+    return (f"before it stands interface {number}, alternate setting {alternate}: next comes interface {number}, alternate setting {alternate + 1}, "
+            f"or interface {number + 1}, alternate setting 0")
+
+
+def remark_address(data, serial, place):
+    """Where the same address stands before."""
+    *before, (_, _, here) = [row for row in settings_and_endpoints(data, place) if row[1] == ENDPOINT]
+    for at, _, (number, alternate) in before:
+        if data[at + 2] == data[place] and (number != here[0] or alternate == here[1]):
+            return f"the endpoint at byte {at} has it too, in interface {number}, alternate setting {alternate}"
+    return ""
+
+
+def remark_value(data, serial, place):
+    others = [entry for entry in of_kind(data, CONFIGURATION) if entry.offset + 5 < place and entry.body[5:6] == data[place : place + 1]]
+    return f"the configuration at byte {others[0].offset} has it too" if others else ""
+
+
+def remark_order(data, serial, place):
+    entries = entries_of(data)
+    before = entries[(place - 4) // 8 - 1]
+    return f"entry {before.number} before it has type {before.kind}, index {before.index}, language {before.language:04X}"
+
+
+def remark_end(data, serial, place):
+    entry = entry_at(data, place)
+    return f"it would end at byte {place + data[place]}, and its body ends at byte {entry.offset + entry.length}"
+
+
+def languages_of(data):
+    """The languages that string 0 lists; None without string 0."""
+    for entry in of_kind(data, STRING):
+        if (entry.index, entry.language) == (0, 0):
+            return [word(entry.body, at) for at in range(2, len(entry.body) - 1, 2)]
+    return None
+
+
+def language_list(languages):
+    return ", ".join(map(language_words, languages)) or "no language"
+
+
+def missing_languages(data, index):
+    """The listed languages in which a string is not there."""
+    there = {(entry.index, entry.language) for entry in of_kind(data, STRING)}
+    return [language for language in languages_of(data) or [] if (index, language) not in there]
+
+
+def remark_reference(data, serial, place):
+    return f"string {data[place]} is missing in {language_list(missing_languages(data, data[place]))}"
+
+
+def remark_no_list(data, serial, place):
+    """A reference without string 0, or strings without it."""
+    if place >= 4 + 8 * len(entries_of(data)):
+        return f"this names string {data[place]}, and the set has no string 0"
+    near = next((entry for entry in of_kind(data, STRING) if 0 in (entry.index, entry.language)), None)
+    meant = f": entry {near.number} has index {near.index} and language {near.language:04X}, and string 0 has 0 and 0000" if near else ""
+    return f"the set has strings, and no string 0{meant}"
+
+
+def remark_serial(data, serial, place):
+    index = serial_index(data)
+    if not serial:
+        return f"this set names a serial number (string {index}): give a serial block"
+    return f"this set names a serial number (string {index}), and the block has {counted(len(serial), 'byte')}"
+
+
+def serial_index(data):
+    """iSerialNumber of a set whose device is good."""
+    return of_kind(data, DEVICE)[0].body[16]
+
+
+REMARKS = {
+    202: remark_order, 404: remark_end, 418: remark_before, 433: remark_address, 434: remark_address, 436: remark_value,
+    508: lambda data, serial, place: f"the language before it is {language_words(word(data, place - 2))}",
+    509: lambda data, serial, place: f"string 0 lists {language_list(languages_of(data))}",
+    510: remark_no_list, 511: lambda data, serial, place: f"iSerialNumber is {serial_index(data)}", 512: remark_reference,
+    601: lambda data, serial, place: "iSerialNumber is 0: this set names no serial number", 603: remark_serial,
+}
+
+
+# ---- the words
+def lent_for(data, serial, fault):
+    return (serial, "the serial block") if fault.number == 6 else (data, "the set")
+
+
+def in_bytes(value, size):
+    return f"{hexadecimal(value.to_bytes(size, 'little'))} ({value})"
+
+
+def words_of(data, serial, fault):
+    lent, block = lent_for(data, serial, fault)
+    field = serial_field(fault.place) if fault.number == 6 else field_at(data, fault.place)
+    here = lent[field.start : field.start + field.size]
+    exact, remark = should_be(data, serial, fault), REMARKS.get(fault.rule)
+    should = in_bytes(exact[0], field.size) + (f": {exact[1]}" if exact[1] else "") if exact and exact[0] < 256**field.size else ""
+    found = in_bytes(int.from_bytes(here, "little"), len(here)) if here else ""
+    return Words(RULES[fault.rule][0], block, fault.place, field.name, found, should, RULES[fault.rule][1], remark(data, serial, fault.place) if remark else "")
+
+
+def byte_words(words):
+    """The byte, what was found there, and what should be or may."""
+    where = f"byte {words.place} of {words.block}" + (f", {words.field}" if words.field else "")
+    wanted = f"should be {words.should}" if words.should else f"allowed: {words.allowed}"
+    return f"{where}: found {words.found}, {wanted}" if words.found else f"{words.block} is empty"
+
+
+def brief(data, serial, fault):
+    """A fault on one line."""
+    words = words_of(data, serial, fault)
+    return f"rule {fault.rule}: {words.rule}; {byte_words(words)}" + (f"; {words.remark}" if words.remark else "")
+
+
+def descriptor_words(data, entry, place):
+    """The descriptor of a configuration that a byte lies in, and its interface."""
+    setting, words = "", ""
+    for at in descriptors_in(entry.body):
+        if entry.offset + at > place:
+            break
+        kind = entry.body[at + 1] if at + 1 < len(entry.body) else 0
+        if kind == INTERFACE and at + 3 < len(entry.body):
+            setting = f", interface {entry.body[at + 2]}, alternate setting {entry.body[at + 3]}"
+        name = {2: "configuration descriptor", 4: "interface descriptor", 5: "endpoint descriptor"}.get(kind, f"descriptor of type {kind:02X}")
+        words = f"descriptor: {name} at byte {entry.offset + at}{setting}"
+    return words
+
+
+def entry_words(entry):
+    return f"type {entry.kind} ({KINDS.get(entry.kind, 'no type')}), index {entry.index}, language {entry.language:04X}"
+
+
+def where(data, place):
+    """The entry that a byte belongs to, in words."""
+    entries = entries_of(data)
+    if place < 4:
+        return ["in the frame"]
+    if place < 4 + 8 * len(entries):
+        entry = entries[(place - 4) // 8]
+        return [f"entry {entry.number} of the contents: {entry_words(entry)}"]
+    entry = entry_at(data, place)
+    if not entry:
+        return ["behind all bodies"]
+    more = [descriptor_words(data, entry, place)] if entry.kind == CONFIGURATION else []
+    return [f"body of entry {entry.number}: {entry_words(entry)}, at byte {entry.offset}", *more]
+
+
+def dump(data, place):
+    """Three lines of hexadecimal, the byte in brackets."""
+    for start in range(max(0, place // 16 - 1) * 16, min(len(data), place // 16 * 16 + 32), 16):
+        cells = [f"[{byte:02X}]" if start + k == place else f" {byte:02X} " for k, byte in enumerate(data[start : start + 16])]
+        yield f"{start:5}  {''.join(cells).rstrip()}"
+
+
+def explain(data, serial, fault):
+    """All there is to say of a fault."""
+    words = words_of(data, serial, fault)
+    yield f"refused {fault.number}, rule {fault.rule}: {words.rule}"
+    yield f"    {byte_words(words)}"
+    if words.remark:
+        yield f"    {words.remark}"
+    if fault.number != 6:
+        yield from (f"    {line}" for line in where(data, fault.place))
+    yield from (f"        {line}" for line in dump(lent_for(data, serial, fault)[0], fault.place))
