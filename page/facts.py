@@ -6,12 +6,18 @@ sys.path[1:1] = [os.path.join(TOP, "bench")]
 sys.dont_write_bytecode = True
 
 import paths  # noqa: F401 (the bench's own folders)
-import events, text, words
+import events, fields, text, values, words
 from rules import RULES
 
-# The sets to look at first: the texts of makers/, and a set of bench/ that is refused.
-TEXTS = [("Bench set S", "makers/bench.txt"), ("Titrator", "makers/titrator.txt"), ("Laboratory scale", "bench/sets/scale.txt")]
-REFUSED = [("Refused: the balance of spring", "bench/sets/spring.bin")]
+# The texts to start from, by kind: those of makers/ and bench/; a pair has two. The first three, and a set of bench/ that is refused, are the examples.
+TEXTS = [
+    ("one", "Bench set S", "makers/bench.txt"),
+    ("one", "Titrator", "makers/titrator.txt"),
+    ("one", "Laboratory scale", "bench/sets/scale.txt"),
+    ("two", "Titrator", "makers/titrator.txt", "makers/titrator-high.txt"),
+]
+EXAMPLES = 3
+REFUSED = [("Balance of spring (refused)", "bench/sets/spring.bin")]
 
 
 def read(name, mode="r"):
@@ -21,7 +27,7 @@ def read(name, mode="r"):
 
 def rules():
     """The rules of opening, by their numbers."""
-    return [{"number": number, "group": number // 100, "rule": asks, "remedy": "There may stand", "words": may} for number, (asks, may) in RULES.items()]
+    return [{"number": number, "group": number // 100, "rule": asks, "words": may} for number, (asks, may) in RULES.items()]
 
 
 def text_help():
@@ -29,9 +35,12 @@ def text_help():
     return read("makers/write").split('"""')[1].partition("    device ")[2].join(["    device ", ""]).replace("\\\\", "\\")
 
 
+def texts():
+    return [dict(zip(("kind", "name", "text", "high"), (kind, name, *map(read, paths)))) for kind, name, *paths in TEXTS]
+
+
 def examples():
-    texts = [{"name": name, "text": read(path)} for name, path in TEXTS]
-    return texts + [{"name": name, "set": base64.b64encode(read(path, "rb")).decode(), "serial": ""} for name, path in REFUSED]
+    return [{"name": one["name"], "text": one["text"]} for one in texts()[:EXAMPLES]] + [{"name": name, "set": base64.b64encode(read(path, "rb")).decode(), "serial": ""} for name, path in REFUSED]
 
 
 def facts(module):
@@ -39,6 +48,12 @@ def facts(module):
         "numbers": {number: {"name": name, "remark": remark} for number, (name, remark) in words.NUMBERS.items()},
         "fields": text.FIELDS,
         "inHexadecimal": text.IN_HEXADECIMAL.pattern,
+        "frame": fields.FRAME,
+        "entry": fields.ENTRY,
+        "values": values.VALUES,
+        "bits": values.BITS,
+        "units": values.UNITS,
+        "languages": values.LANGUAGES,
         "requests": events.REQUESTS,
         "sizes": events.SIZES,
         "recipients": events.RECIPIENTS,
@@ -46,7 +61,7 @@ def facts(module):
         "descriptors": events.DESCRIPTORS,
         "events": events.EVENTS,
         "rules": rules(),
-        "texts": [{"name": name, "text": read(path)} for name, path in TEXTS],
+        "texts": texts(),
         "textHelp": text_help(),
         "examples": examples(),
         "module": {"bytes": f"{len(module):,}", "sum": hashlib.sha256(module).hexdigest()},

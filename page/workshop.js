@@ -1,37 +1,25 @@
-// The panel where sets are made: of a text, of pieces, of a descriptors file; trimmed; and given back as a text or a descriptors file.
+// The panel where sets are made: of texts, of pieces, of a descriptors file; trimmed; and given back as a text or a descriptors file.
 import { FACTS } from "./facts.js";
 import { byId, button, element, fill, save } from "./element.js";
-import { ruleOf } from "./rules.js";
+import { Texts } from "./texts.js";
+import { faultRows } from "./faultrows.js";
 import { numberWords } from "./host.js";
-import { setOfDump, setOfPieces, setOfText, dumpOfSet } from "./making.js";
+import { setOfDump, setOfPieces, dumpOfSet } from "./making.js";
 import { Mistake, textOf } from "./text.js";
 import { readFile, textOfFile } from "./files.js";
+import { cOf } from "./clanguage.js";
 import { countWords } from "./bytes.js";
 
 const accepted = (words) => element("p", { class: "outcome accepted" }, words);
 const refused = (words) => element("p", { class: "outcome refused" }, words);
-const refusal = (number) => refused(`Refused with ${number}: ${numberWords(number)}`);
-
-// Why the opener would refuse what was made, and the line or the piece that is to blame.
-function reasonLines(reason) {
-    if (reason.words)
-        return [element("p", {}, reason.words)];
-    const rule = ruleOf(reason.rule), blamed = reason.piece;
-    const where = blamed?.line ? `line ${blamed.line.number}: ${blamed.line.text}` : blamed ? `the piece of type ${blamed.type}, index ${blamed.index}` : "";
-    return [
-        element("p", {}, `The opener would refuse the set with ${reason.number}: ${numberWords(reason.number)}.`),
-        rule && element("p", {}, element("strong", {}, `Rule ${rule.number}: `), rule.rule),
-        where && element("p", {}, `See ${where}`),
-    ];
-}
+const refusal = (number, what) => refused(`Refused with ${number}: ${what}. ${number} is ${numberWords(number)}.`);
+const FILES = { one: ["set.bin"], two: ["full.bin", "high.bin"], super: ["set.bin"] };
+const C_NAMES = { one: ["descriptor_set"], two: ["full_speed_set", "high_speed_set"], super: ["descriptor_set"] };
 
 export class Workshop {
     constructor(library, { onmade, lent }) {
         Object.assign(this, { library, onmade, lent });
-        const { text } = byId("maker-form").elements;
-        text.value = FACTS.texts[0].text;
-        text.addEventListener("input", () => this.later());
-        fill(byId("texts"), FACTS.texts.map((one) => button(one.name, () => this.setText(one.text))));
+        this.texts = new Texts(library, { onwritten: (made, name) => this.tell(byId("written"), made, name) });
         fill(byId("text-help"), FACTS.textHelp);
         byId("choose-text").addEventListener("change", (event) => this.take(event.target, ({ bytes }) => this.setText(textOfFile(bytes))));
         byId("choose-pieces").addEventListener("change", (event) => this.take(event.target, ({ bytes, name }) => this.usePieces(bytes, name)));
@@ -48,67 +36,71 @@ export class Workshop {
     }
 
     setText(text) {
-        byId("maker-form").elements.text.value = text;
-        this.write();
-    }
-
-    // While a person types, the set is written a moment after the last letter.
-    later() {
-        clearTimeout(this.waiting);
-        this.waiting = setTimeout(() => this.write(), 150);
+        this.texts.set(text);
     }
 
     look() {
-        if (!this.looked)
-            this.write();
-        this.looked = true;
-    }
-
-    write() {
-        this.looked = true;
-        this.tell(byId("written"), setOfText(this.library, byId("maker-form").elements.text.value, this.kind()), "written set");
-    }
-
-    kind() {
-        return this.lent().kind === "super" && this.library.has("hk_super_write") ? "super" : "one";
+        this.texts.look();
     }
 
     usePieces(bytes, name) {
-        this.tell(byId("of-files"), setOfPieces(this.library, bytes, this.lent().serial, this.kind()), name);
+        this.tell(byId("of-files"), setOfPieces(this.library, bytes, this.lent().serial, this.lent().kind === "super" ? "super" : "one"), name);
     }
 
     useDump(bytes, name) {
         this.tell(byId("of-files"), setOfDump(this.library, bytes), name);
     }
 
-    // What came of it: the set, to be saved and looked at, or why there is none.
+    // What came of it, and of what: the sets, to be saved and looked at, or why there are none.
     tell(place, made, name) {
-        const look = (set, words) => () => this.onmade(set, made.serial, words, this.kind());
+        place.className = `made verdict ${made.number === 0 ? "accepted" : "refused"}`;
         if (made.mistake)
-            return fill(place, refused(`The text cannot be read: ${made.mistake}`));
-        if (made.number !== 0) {
-            const laid = made.reason?.set;
-            return fill(place, refusal(made.number), made.reason && reasonLines(made.reason), laid && button("Look at the refused set", look(laid, `${name}, refused`)));
-        }
-        return fill(place, accepted(`Wrote ${countWords(made.set.length, "byte")}; the set is accepted.`), element("div", { class: "buttons" },
-            button("Save set.bin", () => save("set.bin", made.set), { class: "save-set" }),
-            button("Save unit.bin", () => save("unit.bin", made.serial)),
-            made.pieces && button("Save pieces.bin", () => save("pieces.bin", made.pieces)),
-            button("Look at it", look(made.set, name))));
+            return fill(place, refused(`Not read: ${name}. ${made.mistake}`), made.line && this.texts.lead(made.line, made.text));
+        if (made.number !== 0)
+            return fill(place, refusal(made.number, name), made.reason && this.reasonRows(made), made.reason?.set && this.lookButton(made, [made.reason.set], `${name}, refused`));
+        const lengths = made.sets.map((set, at) => `${FILES[made.kind][at]}: ${countWords(set.length, "byte")}`).join(", ");
+        return fill(place, accepted(`Accepted: ${name}. Wrote ${lengths}.`), this.saveButtons(made, name));
+    }
+
+    // Why the opener would refuse what was made: each fault, and the line or the piece that is to blame.
+    reasonRows({ reason, serial, number }) {
+        if (reason.words)
+            return element("p", {}, reason.words);
+        const line = (fault) => (fault.line ? this.texts.lead(fault.line) : pieceWords(fault));
+        return [
+            number !== reason.number && element("p", {}, `The opener would refuse the set with ${reason.number}: ${numberWords(reason.number)}.`),
+            faultRows(reason.faults, { set: reason.set, serial, line }),
+        ];
+    }
+
+    lookButton({ serial, kind }, sets, name) {
+        const words = sets.length > 1 ? "Look at them" : name.endsWith("refused") ? "Look at the refused set" : "Look at it";
+        return button(words, () => this.onmade({ kind, sets, serial, name }));
+    }
+
+    saveButtons(made, name) {
+        const { kind, sets, serial, pieces } = made, files = FILES[kind];
+        const inC = () => cOf(sets.map((bytes, at) => ({ name: C_NAMES[kind][at], bytes })), serial, kind, `${name}: accepted`);
+        return element("div", { class: "buttons" },
+            sets.map((set, at) => button(`Save ${files[at]}`, () => save(files[at], set), at === 0 ? { class: "save-set" } : {})),
+            button("Save unit.bin", () => save("unit.bin", serial)),
+            pieces && button("Save pieces.bin", () => save("pieces.bin", pieces)),
+            button("Save as C arrays", () => save("sets.c", inC()), { class: "save-c" }),
+            this.lookButton(made, sets, name));
     }
 
     // ---- the set that is lent
     trim() {
         const { sets: [set], serial } = this.lent(), { number, written } = this.library.trim(set, serial);
         if (number !== 0)
-            return fill(byId("of-lent"), refusal(number));
+            return fill(byId("of-lent"), refusal(number, "the set above"));
         const strings = countWords(set[2] - written[2], "string"), bytes = countWords(set.length - written.length, "byte"), left = countWords(written.length, "byte");
         const words = set.length === written.length ? "Nothing to trim: every string is named." : `Trimmed: ${strings} less, ${bytes} less, ${left} left.`;
         return fill(byId("of-lent"), accepted(words),
             element("p", { class: "quiet" }, "A string that only a class descriptor or your own host program names is dropped too: keep a copy of the set."),
             element("div", { class: "buttons" },
                 button("Save trimmed.bin", () => save("trimmed.bin", written)),
-                button("Look at it", () => this.onmade(written, serial, "trimmed set", "one"))));
+                button("Look at it", () => this.onmade({ sets: [written], serial, name: "trimmed set" }))));
     }
 
     toText() {
@@ -127,7 +119,7 @@ export class Workshop {
     toDump() {
         const { sets: [set], serial } = this.lent(), { number, written } = dumpOfSet(this.library, set, serial);
         if (number !== 0)
-            return fill(byId("of-lent"), refusal(number));
+            return fill(byId("of-lent"), refusal(number, "the set above"));
         const words = `A descriptors file of ${countWords(written.length, "byte")}, without the strings.`;
         return fill(byId("of-lent"), accepted(words), button("Save descriptors", () => save("descriptors", written)));
     }
@@ -136,6 +128,7 @@ export class Workshop {
     lend(board) {
         fill(byId("of-lent"));
         byId("lent-tools").hidden = board.kind !== "one";
-        byId("maker-kind").textContent = `It is written as a ${this.kind() === "super" ? "SuperSpeed set" : "set for a board that lends one set, at full speed"}.`;
     }
 }
+
+const pieceWords = ({ piece }) => (piece ? `the piece of type ${piece.type}, index ${piece.index}` : "");

@@ -1,13 +1,21 @@
-"""native.py HOST: what the native programs say of the sets that the page is shown, as JSON: the lister, the bench host, makers/read, the makers'
-program's trim, export and, of recorded devices, import; and the sets that it writes of the texts."""
+"""native.py HOST HARNESS: what the native programs say of the sets that the page is shown, as JSON: the lister, the bench host, makers/read, the makers'
+program's trim, export and, of recorded devices, import; what makers/explain says of refused sets; and the sets that are written of the texts."""
 import json, os, random, re, subprocess, sys, tempfile
 
 sys.path.insert(1, os.path.dirname(os.path.dirname(os.path.abspath(__file__))))
 sys.dont_write_bytecode = True
 
-from shared import EMULATE, TOP, enumerations, recordings
+from shared import EMULATE, TOP, enumerations, recordings, script
 from pieces import CONFIGURATION, DEVICE, S_DEVICE, a_set, configuration, endpoint, interface
 from text import Mistake, piece, read_entries, text_of
+
+sys.path[1:1] = [os.path.join(TOP, "page"), os.path.join(TOP, "bench")]
+from facts import TEXTS as TEMPLATES
+from faults import brief
+from kinds import looks_like
+from mending import faults_of
+from pairing import laid_out, mirrors
+from served import Served
 
 TEXTS = ["makers/bench.txt", "makers/titrator.txt", "bench/sets/scale.txt", "bench/sets/hasty.txt"]
 SETS = [("bench/sets/counter.bin", "bench/sets/counter.unit"), ("bench/sets/timer.bin", "bench/sets/timer-unit.bin"), ("bench/sets/spring.bin", None)]
@@ -101,15 +109,79 @@ def misread(count):
         yield read_as("\n".join(" ".join(line) for line in lines))
 
 
+# ---- refused sets
+def refused_examples():
+    """The guide's examples of sets that are lent alone."""
+    guide = script("tests", "makers", "examples")
+    with open(guide.GUIDE, encoding="utf-8") as file:
+        text = file.read()
+    sets = guide.read_sets(guide.read_blocks(text))
+    return [(example, *guide.changed(sets, example)) for example, _ in guide.read_examples(text, sets) if "+" not in example]
+
+
+def changed_titrators(data, serial, count):
+    """The titrator with one to four bytes changed."""
+    drawn = random.Random(2)
+    for at in range(count):
+        changed = bytearray(data)
+        for _ in range(drawn.randint(1, 4)):
+            changed[drawn.choice([drawn.randrange(len(data)), drawn.randrange(60, 243)])] = drawn.choice([0, 1, 2, 3, 7, 64, 128, 255, drawn.randrange(256)])
+        yield f"titrator {at}, changed", bytes(changed), serial
+
+
+def refused(room, library, sets):
+    """Every fault of each, and what it looks like."""
+    def ask(data, serial):
+        return explained(room, {"set.bin": data, "unit.bin": serial})
+
+    for name, data, serial in sets:
+        briefs = [brief(data, serial, fault) for fault in faults_of(data, serial, ask)]
+        if briefs:
+            yield {"name": name, "set": data.hex(), "serial": serial.hex(), "briefs": briefs, "looks": looks_like(data, serial, library)}
+
+
+# ---- texts of every kind
+def read_text(path):
+    entries, serial = read_entries(read(path).decode().splitlines())
+    return [entry for _, entry in entries], serial
+
+
+def templates(room):
+    """The sets of each text that the page offers to start from."""
+    for kind, name, *paths in TEMPLATES:
+        texts = [read_text(path) for path in paths]
+        serial = next((serial for _, serial in texts if serial), b"")
+        if kind == "two":
+            (full, _), (high, _) = texts
+            sets = [laid_out(full + list(mirrors(high))).hex(), laid_out(high + list(mirrors(full))).hex()]
+        else:
+            pieces = b"".join(map(piece, texts[0][0]))
+            sets = [room.program("maker write" + " super" * (kind == "super"), {"pieces.bin": pieces, "unit.bin": serial}, "set.bin")[1]]
+        yield {"kind": kind, "name": name, "sets": sets, "serial": serial.hex()}
+
+
+def other_kinds(templates):
+    """Sets that are no single full-speed set."""
+    for one in templates:
+        if one["kind"] != "one":
+            yield from ((f"{one['name']}, {one['kind']} {at}", bytes.fromhex(data), bytes.fromhex(one["serial"])) for at, data in enumerate(one["sets"]))
+    entries, serial = read_text("makers/titrator-high.txt")
+    yield "the titrator's high-speed text alone", laid_out(entries), serial
+
+
 def main():
-    host = os.path.abspath(sys.argv[1])
-    with tempfile.TemporaryDirectory() as folder:
+    host, harness = map(os.path.abspath, sys.argv[1:])
+    with tempfile.TemporaryDirectory() as folder, Served([EMULATE, harness]) as library:
         room = Room(folder)
+        offered, titrator = list(templates(room)), read_text("makers/titrator.txt")
         texts = [written(room, path) for path in TEXTS]
         sets = [(path, read(path), read(unit) if unit else b"") for path, unit in SETS]
         sets += [(text["name"], bytes.fromhex(text["set"]), bytes.fromhex(text["serial"])) for text in texts if text["set"]]
         json.dump({
             "texts": texts,
+            "templates": offered,
+            "kinds": list(refused(room, library, other_kinds(offered))),
+            "explained": list(refused(room, library, [*refused_examples(), *changed_titrators(laid_out(titrator[0]), titrator[1], 60)])),
             "misread": list(misread(400)),
             "sets": [told(room, host, *one) for one in sets],
             "recorded": [told(room, host, *one) for one in enumerations()],

@@ -9,7 +9,8 @@ const [folder, module, natively, ...vectors] = process.argv.slice(2);
 const script = (name) => import(pathToFileURL(join(folder, `${name}.js`)));
 const { Library } = await script("library"), { Board } = await script("board"), { Host, stepLines } = await script("host");
 const { listing } = await script("set"), { Mistake, piece, readEntries, textOf } = await script("text");
-const { dumpOfSet, setOfDump, setOfText } = await script("making"), { joined } = await script("bytes"), { recordWords } = await script("record");
+const { dumpOfSet, pairOfTexts, setOfDump, setOfText } = await script("making"), { joined } = await script("bytes"), { recordWords } = await script("record");
+const { brief } = await script("faults"), { faultsOf } = await script("mending"), { likenessOf } = await script("likeness"), { FACTS } = await script("facts");
 const { subsequence } = await import("./transcript.mjs");
 
 const library = await Library.load(readFileSync(module)), native = JSON.parse(readFileSync(natively, "utf8"));
@@ -46,9 +47,25 @@ for (const { source, ...expected } of native.misread)
     hold("a text with mistakes", JSON.stringify(readAs(source)), JSON.stringify(expected));
 for (const { name, source, set } of native.texts) {
     const made = setOfText(library, source);
-    hold(`the set of ${name}`, made.number === 0 ? textOfBytes(made.set) : null, set);
+    hold(`the set of ${name}`, made.number === 0 ? textOfBytes(made.sets[0]) : null, set);
 }
 console.log(`${native.misread.length + native.texts.length} texts read as makers/write reads them`);
+
+for (const { kind, name, text, high } of FACTS.texts) {
+    const expected = native.templates.find((one) => one.kind === kind && one.name === name), made = kind === "two" ? pairOfTexts(library, text, high) : setOfText(library, text, kind);
+    hold(`the sets of ${name}, ${kind}`, made.number === 0 ? made.sets.map(textOfBytes).join(" ") : made.mistake ?? made.number, expected.sets.join(" "));
+}
+console.log(`${FACTS.texts.length} texts to start from give the native programs' sets`);
+
+// ---- refused sets
+let faults = 0;
+for (const { name, set, serial, briefs, looks } of [...native.explained, ...native.kinds]) {
+    const [bytes, block] = [bytesOf(set), bytesOf(serial)], found = faultsOf(library, bytes, block).map((fault) => brief(bytes, block, fault));
+    hold(`the faults of ${name}`, found.join("\n"), briefs.join("\n"));
+    hold(`what ${name} looks like`, likenessOf(library, bytes, block)?.words ?? "", looks);
+    faults += found.length;
+}
+console.log(`${faults} faults of ${native.explained.length + native.kinds.length} refused sets told as makers/explain tells them, and what each looks like`);
 
 // ---- sets
 const sets = [...native.sets, ...native.recorded];
@@ -74,7 +91,7 @@ console.log(`${sets.length} sets listed, read as a text, trimmed, exported and e
 
 for (const { name, dump, set } of native.dumps) {
     const made = setOfDump(library, bytesOf(dump));
-    hold(`the import of ${name}`, made.number === 0 ? textOfBytes(made.set) : null, set);
+    hold(`the import of ${name}`, made.number === 0 ? textOfBytes(made.sets[0]) : null, set);
 }
 console.log(`${native.dumps.length} recorded devices imported as the importer does`);
 console.log(`scripts: ${failures} failed`);

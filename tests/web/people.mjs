@@ -1,0 +1,227 @@
+// The page as a maker meets it first: sets without their serial block, texts with mistakes, what was typed and a reload, sets compared and saved as C.
+import { execFileSync } from "node:child_process";
+import { dropFile, dropSet, freshName, hold, holdWords, openPanel, textOf, typeText, verdict } from "./room.mjs";
+
+const bytesOf = (text) => Buffer.from(text, "hex");
+const titrator = (native) => native.sets.find(({ name }) => name.includes("titrator"));
+const pressExample = (browser, words) => browser.call((name) => [...document.querySelectorAll("#examples button")].find((one) => one.textContent.includes(name)).click(), words);
+
+// ---- a set that names a serial number, without a serial block
+const NO_SERIAL = "This set names a serial number (string 3): give a serial block";
+
+async function checkNoSerial(browser, room, native) {
+    const { set } = titrator(native), refused = async (what) => {
+        hold(`${what} is refused`, await verdict(browser), "Refused with 6");
+        holdWords(`${what}, and why`, await textOf(browser, "#verdict"), NO_SERIAL);
+    };
+    await openPanel(browser, "set");
+    await dropFile(browser, room, "titrator.bin", bytesOf(set));
+    await refused("a set without its serial block");
+    await dropFile(browser, room, "titrator.hex", set.match(/../g).join(" "));
+    await refused("the same as hexadecimal text");
+    await pressExample(browser, "Titrator");
+    await browser.press("#no-serial");
+    await refused("the titrator, its serial block emptied");
+    await dropFile(browser, room, "nothing.bin", "");
+    hold("an empty file is refused", await verdict(browser), "Refused with 1");
+    holdWords("an empty file, and why", await textOf(browser, "#verdict"), "The set is empty");
+    for (const panel of ["enumeration", "requests", "compare", "make", "set"])
+        await openPanel(browser, panel);
+    console.log("sets without their serial block and an empty file are told");
+}
+
+// ---- what a verdict is about stands in it
+async function checkSubject(browser) {
+    await openPanel(browser, "set");
+    await pressExample(browser, "Titrator");
+    hold("the verdict says of what", await textOf(browser, "#verdict h2"), "Accepted: Titrator");
+    await openPanel(browser, "make");
+    await typeText(browser, "device\nconfiguration bMaxPower 251\ninterface");
+    holdWords("the text's verdict says of what", await textOf(browser, "#written .outcome"), "Refused with 21: the text");
+    const grounds = await browser.evaluate("['verdict', 'written'].map((id) => getComputedStyle(document.getElementById(id)).backgroundColor)");
+    const [good, bad] = await browser.evaluate(`['accepted', 'refused'].map((name) => {
+        const one = document.body.appendChild(document.createElement('div'));
+        one.className = 'verdict ' + name;
+        const colour = getComputedStyle(one).backgroundColor;
+        one.remove();
+        return colour;
+    })`);
+    hold("no green stands beside a refused text", grounds[0] !== good && grounds[1] === bad);
+}
+
+// ---- texts: the line at fault, with rule and byte
+async function checkLines(browser) {
+    const told = async (text) => {
+        await typeText(browser, text);
+        return textOf(browser, "#written");
+    };
+    await openPanel(browser, "make");
+    const nine = "device\nconfiguration\ninterface\n# three remarks\n#\n#\n#\n#\nbytes 0A 21 11 01 00 01 22 3F 00";
+    holdWords("a class descriptor's bLength", await told(nine), "line 9: bLength says 10, 9 bytes stand here");
+    holdWords("bytes! takes it so", await told(`${nine.replace("bytes 0A", "bytes! 0A")}\nbytes! 00`), "Accepted");
+    const endpoint = await told("device\nconfiguration\ninterface\nendpoint\nendpoint bEndpointAddress 0x82 bmAttributes 2 wMaxPacketSize 9");
+    holdWords("an endpoint's fault has its line", endpoint, "Line 5: endpoint bEndpointAddress 0x82 bmAttributes 2 wMaxPacketSize 9");
+    holdWords("an endpoint's fault has its rule", endpoint, "Rule 428");
+    holdWords("an endpoint's fault has its byte and field", endpoint, "wMaxPacketSize: found 09 00 (9), allowed: 08 00, 10 00, 20 00 or 40 00");
+    const missing = await told("languages 0x0407 en-US\nstring 1 0x0407 a\ndevice\nconfiguration\ninterface iInterface 1");
+    holdWords("a missing string has the reference's line", missing, "Line 5: interface iInterface 1");
+    holdWords("a missing string, by language", missing, "String 1 is missing in 0409 (en-US)");
+    const several = await told("device bMaxPacketSize0 7\nconfiguration bMaxPower 251\ninterface bInterfaceNumber 1\nendpoint bInterval 0");
+    for (const words of ["Line 1: ", "Line 2: ", "Line 3: ", "Line 4: ", "3 more faults"])
+        holdWords("every fault of a text is told", several, words);
+    await browser.evaluate("document.querySelectorAll('#written .to-line')[3].click()");
+    hold("a fault leads to its line", await browser.evaluate("(({ value, selectionStart, selectionEnd }) => value.slice(selectionStart, selectionEnd))(document.getElementById('text'))"), "endpoint bInterval 0");
+    console.log("texts with faults: each by rule, byte and line");
+}
+
+// ---- every fault, in the native program's words
+async function checkFaults(browser, room, native) {
+    let faults = 0;
+    const chosen = native.explained.filter((_, at) => at % Math.ceil(native.explained.length / 12) === 0);
+    await openPanel(browser, "set");
+    for (const { name, set, serial, briefs } of chosen) {
+        await dropSet(browser, room, { name: "broken.bin", set, serial });
+        const rules = await browser.evaluate("[...document.querySelectorAll('#verdict .rule')].map((one) => one.textContent)");
+        hold(`the faults of ${name}`, rules.map((rule) => /\d+/.exec(rule)[0]).join(" "), briefs.map((brief) => /\d+/.exec(brief)[0]).join(" "));
+        faults += briefs.length;
+    }
+    await pressExample(browser, "Titrator");
+    await browser.evaluate("heideklonk.page.changeByte(0, 80, 0xA4)");
+    holdWords("what should stand there", await textOf(browser, "#verdict"), "wTotalLength: found A4 00 (164), should be A5 00 (165): the body has 165 bytes");
+    console.log(`${faults} faults of ${chosen.length} refused sets told as makers/explain tells them`);
+}
+
+// ---- what was typed survives a reload, and can be undone
+const reload = (browser) => browser.reload("document.body?.dataset.ready === 'yes'");
+
+async function checkReload(browser) {
+    const text = () => browser.evaluate("document.getElementById('text').value"), own = "# my own\ndevice idProduct 7\nconfiguration\ninterface\n";
+    await openPanel(browser, "make");
+    const before = await text();
+    await typeText(browser, own);
+    await browser.evaluate("[...document.querySelectorAll('#texts button')].at(-1).click()");
+    hold("another text is started", (await text()) !== own);
+    await browser.press("#undo-text");
+    hold("and undone", await text(), own);
+    await reload(browser);
+    hold("what was typed survives a reload", await text(), own);
+    hold("so does the panel", await browser.evaluate("document.querySelector('[aria-selected=true]').id"), "tab-make");
+    await browser.evaluate("document.getElementById('text').focus()");
+    for (let count = 0; count < 8 && (await text()) !== before; count++)
+        await browser.send("Input.dispatchKeyEvent", { type: "keyDown", key: "z", windowsVirtualKeyCode: 90, modifiers: 2 });
+    hold("what was typed is undone by keys, after a reload too", await text(), before);
+    await openPanel(browser, "set");
+    await pressExample(browser, "Laboratory scale");
+    await browser.evaluate("heideklonk.page.changeByte(0, 3, 1)");
+    await reload(browser);
+    hold("a changed set survives a reload", await textOf(browser, "#verdict h2"), "Refused with 1: Laboratory scale, changed");
+    await browser.press("#undo");
+    hold("a changed byte is undone", await textOf(browser, "#verdict h2"), "Accepted: Laboratory scale");
+    await browser.press("#redo");
+    hold("and done again", await verdict(browser), "Refused with 1");
+    console.log("what was typed survives a reload, and can be undone");
+}
+
+// ---- two sets side by side
+async function checkCompare(browser, room, native) {
+    const { set, serial } = titrator(native), other = Buffer.from(set, "hex");
+    other[67] = 8;
+    await dropSet(browser, room, { name: "titrator.bin", set, serial });
+    await openPanel(browser, "compare");
+    await browser.chooseFiles("#choose-other", [room.file(freshName("other.bin"), other)]);
+    await browser.until("document.querySelectorAll('.compared tbody tr').length > 0");
+    const rows = () => browser.evaluate("[...document.querySelectorAll('.compared tbody tr')].map((row) => [...row.children].map((cell) => cell.textContent).join(' | '))");
+    hold("the field that differs", (await rows()).slice(0, 2).join("; "), "device | ; bMaxPacketSize0 | 64 | 8");
+    hold("the rest is alike", (await rows()).length, 3);
+    await browser.press("#keep-other");
+    holdWords("a set and itself", await textOf(browser, "#differences"), "Byte for byte the same");
+    await browser.evaluate("heideklonk.page.useExample({ name: 'S', set: 'PwACAAEAAAAUABIAAgAAACYAGQASAQAC/wAACDQSeFYAAQAAAAEJAhkAAQEAgDIJBAAAAf8AAAAHBYEDCAAK', serial: '' })");
+    const only = (await rows()).filter((row) => row.includes("not there"));
+    hold("what only one has is told", only.length > 10 && only.every((row) => row.includes("only here")));
+    console.log("two sets stand side by side");
+}
+
+// ---- C arrays
+const PRINT = "#include <stdio.h>\nint main(void) { for (unsigned at = 0; at < sizeof ARRAY; at++) printf(\"%02x\", ARRAY[at]); return 0; }\n";
+
+function compiled(room, source, array) {
+    const path = room.file("arrays.c", `${source}\n${PRINT.replaceAll("ARRAY", array)}`), program = `${path}.out`;
+    execFileSync("cc", ["-std=c99", "-Wall", "-Wextra", "-Werror", "-pedantic", "-o", program, path]);
+    return execFileSync(program).toString();
+}
+
+async function checkC(browser, room, native) {
+    for (const { name, set, serial } of native.sets) {
+        await dropSet(browser, room, { name, set, serial });
+        await browser.press("#save-c");
+        const source = (await room.savedFile("sets.c"))?.toString() ?? "";
+        hold(`${name} as a C array`, compiled(room, source, "descriptor_set"), set);
+        if (serial !== "")
+            hold(`the serial block of ${name} as a C array`, compiled(room, source, "serial_block"), serial);
+    }
+    console.log(`${native.sets.length} sets saved as C arrays, which compile to the same bytes`);
+}
+
+// ---- other kinds: told as what they look like, and texts of them
+async function checkLikeness(browser, room, native) {
+    await openPanel(browser, "set");
+    for (const { name, set, serial, looks } of native.kinds) {
+        await dropSet(browser, room, { name: "kind.bin", set, serial });
+        const hint = await textOf(browser, "#verdict .hinted strong");
+        hold(`what ${name} looks like`, (hint ?? "").toLowerCase(), looks && `${looks}.`.toLowerCase());
+    }
+    const high = native.kinds.find(({ looks }) => looks.includes("high-speed set of a pair"));
+    await dropSet(browser, room, { name: "high.bin", set: high.set, serial: high.serial });
+    await browser.press("#take-for");
+    hold("it is taken for that", await browser.evaluate("[heideklonk.page.lent.kind, heideklonk.page.lent.high.bytes.length].join(' ')"), `two ${high.set.length / 2}`);
+    await browser.press("#undo");
+    console.log(`${native.kinds.length} sets of other kinds told as what they look like`);
+}
+
+async function chooseKind(browser, kind) {
+    await browser.call((value) => {
+        document.getElementById("make-kind").value = value;
+        document.getElementById("make-kind").dispatchEvent(new Event("change"));
+    }, kind);
+}
+
+async function checkKindTexts(browser, room, native) {
+    await openPanel(browser, "make");
+    for (const { kind, name, sets, serial } of native.templates) {
+        await chooseKind(browser, kind);
+        await browser.call((wanted) => [...document.querySelectorAll("#texts button")].find((one) => one.textContent === wanted).click(), name);
+        holdWords(`the text of ${name}, ${kind}`, await textOf(browser, "#written .outcome"), "Accepted");
+        const files = kind === "two" ? ["full.bin", "high.bin"] : ["set.bin"];
+        for (const [at, file] of [...files, "unit.bin"].entries()) {
+            await browser.call((wanted) => [...document.querySelectorAll("#written button")].find((one) => one.textContent === `Save ${wanted}`).click(), file);
+            hold(`${file} of ${name}, ${kind}`, (await room.savedFile(file))?.toString("hex"), [...sets, serial][at]);
+        }
+    }
+    await chooseKind(browser, "one");
+    console.log(`${native.templates.length} texts to start from, of all kinds, give the native programs' sets`);
+}
+
+// ---- a phone's width, with all that can be said
+async function checkNarrow(browser, room, native) {
+    const wide = native.explained.reduce((most, one) => (one.briefs.length > most.briefs.length ? one : most));
+    await browser.size(360, 780);
+    await dropSet(browser, room, { name: "a-set-with-a-long-name-that-has-no-space-to-be-broken-at.bin", ...wide, name: "long" });
+    for (const panel of ["set", "compare", "make"]) {
+        await openPanel(browser, panel);
+        hold(`a refused set fits a phone (${panel})`, await browser.evaluate("document.documentElement.scrollWidth <= innerWidth"));
+    }
+    await browser.size(1200, 900);
+}
+
+export async function checkPeople(browser, room, native) {
+    await checkNoSerial(browser, room, native);
+    await checkSubject(browser);
+    await checkLines(browser);
+    await checkFaults(browser, room, native);
+    await checkReload(browser);
+    await checkCompare(browser, room, native);
+    await checkC(browser, room, native);
+    await checkLikeness(browser, room, native);
+    await checkKindTexts(browser, room, native);
+    await checkNarrow(browser, room, native);
+}
