@@ -15,6 +15,7 @@ TEXTS = [
     ("one", "Titrator", "makers/titrator.txt"),
     ("one", "Laboratory scale", "bench/sets/scale.txt"),
     ("two", "Titrator", "makers/titrator.txt", "makers/titrator-high.txt"),
+    ("super", "Bench set S", "makers/bench-super.txt"),
 ]
 EXAMPLES = 3
 REFUSED = [("Balance of spring (refused)", "bench/sets/spring.bin")]

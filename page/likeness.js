@@ -1,7 +1,7 @@
 // What else a refused set may be, as makers/kinds.py says it: a set of a pair, a high-speed device's, a SuperSpeed one. The library opens it as each.
 import { TYPE } from "./descriptors.js";
 import { entriesOf, bodyOf } from "./set.js";
-import { mirrors } from "./making.js";
+import { mirrors } from "./pairs.js";
 import { laidOut } from "./layout.js";
 import { Mistake } from "./text.js";
 import { kindsOf } from "./board.js";

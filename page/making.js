@@ -3,6 +3,7 @@
 import { TYPE, cut } from "./descriptors.js";
 import { faultsOf } from "./mending.js";
 import { laidOut } from "./layout.js";
+import { blamedSet, pairCauses, pairOfEntries } from "./pairs.js";
 import { Mistake, lineAt, piece, readEntries } from "./text.js";
 import { alike, joined, littleEndian, word } from "./bytes.js";
 import { KINDS } from "./board.js";
@@ -67,25 +68,6 @@ export function setOfText(library, text, kind = "one") {
 }
 
 // ---- pairs
-// What a set says of the other speed: types 6 and 7, from the entries of the other.
-export function mirrors(entries) {
-    const device = entries.find(({ type }) => type === TYPE.DEVICE)?.body ?? NO_BYTES;
-    if (device.length < 18)
-        throw new Mistake("there is no device descriptor of 18 bytes to make type 6 of");
-    const qualifier = joined([Uint8Array.of(10, TYPE.DEVICE_QUALIFIER), device.slice(2, 8), device.slice(17, 18), Uint8Array.of(0)]);
-    const others = entries.filter(({ type }) => type === TYPE.CONFIGURATION).map(({ index, body }) =>
-        ({ type: TYPE.OTHER_SPEED, index, language: 0, body: joined([body.slice(0, 1), Uint8Array.of(TYPE.OTHER_SPEED), body.slice(2)]) }));
-    return [{ type: TYPE.DEVICE_QUALIFIER, index: 0, language: 0, body: qualifier }, ...others];
-}
-
-// The two sets of a board of two speeds; types 6 and 7 are made here.
-export function pairOfEntries(full, high) {
-    const laid = [laidOut([...full, ...mirrors(high)]), laidOut([...high, ...mirrors(full)])];
-    if (laid.includes(null))
-        throw new Mistake("so many pieces, or bytes, are more than a set can count");
-    return { sets: laid.map(({ set }) => set) };
-}
-
 function readOne(text, at) {
     try {
         return readEntries(text);
@@ -106,8 +88,9 @@ function oneSerial(full, high) {
 export function pairOfTexts(library, fullText, highText) {
     return unlessMistaken(() => {
         const [full, high] = [fullText, highText].map(readOne), serial = oneSerial(full.serial, high.serial);
-        const { sets } = pairOfEntries(full.entries, high.entries), { number } = library.open("hk_two_open", sets, serial);
-        return { number, kind: "two", sets, serial, reason: number === 0 ? null : { number, faults: [] } };
+        const sets = pairOfEntries(full.entries, high.entries), { number } = library.open("hk_two_open", sets, serial);
+        const at = number === 0 || number > 6 ? null : blamedSet(library, { sets, serial, number });
+        return { number, kind: "two", sets, serial, reason: number === 0 ? null : { number, faults: [], at, causes: number === 24 ? pairCauses(sets) : null } };
     });
 }
 

@@ -102,7 +102,7 @@ class Line {
     }
 }
 
-function* readLines(text) {
+export function* readLines(text) {
     let number = 0;
     for (const whole of text.split(/\r\n|\r|\n/)) {
         number++;

@@ -5,14 +5,15 @@ import { History } from "./history.js";
 import { keep, recall } from "./memory.js";
 import { pairOfTexts, setOfText } from "./making.js";
 import { KINDS, kindsOf } from "./board.js";
+import { highSpeedText } from "./highspeed.js";
 
 const PAUSE = 150; // milliseconds after the last letter
-const NAMES = { one: "the text below", two: "the two texts below", super: "the SuperSpeed text below" };
+const NAMES = { one: "this text", two: "these two texts", super: "this SuperSpeed text" };
 const LABELS = { one: "Text of the set, full speed", two: "Text of the full-speed set", super: "Text of the SuperSpeed set" };
 
-// The text that is there first of a kind.
+// The text that is there first of a kind: the one set's, the pair's two, the SuperSpeed set's.
 const firstText = (kind) => FACTS.texts.find((one) => one.kind === kind) ?? { text: "", high: "" };
-const FIRST = { kind: "one", full: firstText("one").text, high: firstText("two").high, super: firstText("super").text };
+const FIRST = { kind: "one", one: firstText("one").text, two: firstText("two").text, high: firstText("two").high, super: firstText("super").text };
 
 const isState = (state) => state !== null && Object.keys(FIRST).every((key) => typeof state[key] === "string") && state.kind in KINDS;
 
@@ -47,7 +48,7 @@ export class Texts {
     // What stands in the fields, as a state.
     typed() {
         const { state } = this.history, { text, high } = this.fields;
-        return { ...state, [state.kind === "super" ? "super" : "full"]: text.value, ...(state.kind === "two" && { high: high.value }) };
+        return { ...state, [state.kind]: text.value, ...(state.kind === "two" && { high: high.value }) };
     }
 
     // While a person types, the set is written a moment after the last letter.
@@ -74,8 +75,18 @@ export class Texts {
 
     // Another text in the place of the one that is asked for.
     set(text, high) {
-        const { kind } = this;
-        this.change({ ...this.typed(), [kind === "super" ? "super" : "full"]: text, ...(high !== undefined && { high }) });
+        this.setAll(this.kind, text, high);
+    }
+
+    // Texts of a kind that may be another one.
+    setAll(kind, text, high) {
+        this.change({ ...this.typed(), kind, [kind]: text, ...(high !== undefined && { high }) });
+    }
+
+    // The pair of the text for one set: at high speed with that speed's sizes and intervals.
+    pairOfOne() {
+        const { one } = this.typed();
+        this.setAll("two", one, highSpeedText(one));
     }
 
     key(event) {
@@ -99,12 +110,12 @@ export class Texts {
     show() {
         const { state } = this.history, { text, high } = this.fields;
         byId("make-kind").value = state.kind;
-        text.value = state.kind === "super" ? state.super : state.full;
+        text.value = state[state.kind];
         high.value = state.high;
         byId("text-label").textContent = LABELS[state.kind];
         byId("high-form").hidden = state.kind !== "two";
         const starts = FACTS.texts.filter(({ kind }) => kind === state.kind);
-        fill(byId("texts"), starts.map((one) => button(one.name, () => this.set(one.text, one.high))));
+        fill(byId("texts"), starts.map((one) => button(one.name, () => this.set(one.text, one.high))), state.kind === "two" && button("The text for one set", () => this.pairOfOne()));
     }
 
     look() {
@@ -118,7 +129,7 @@ export class Texts {
         byId("undo-text").disabled = !this.history.canUndo;
         byId("redo-text").disabled = !this.history.canRedo;
         keep("texts", this.history.kept());
-        const made = state.kind === "two" ? pairOfTexts(library, state.full, state.high) : setOfText(library, state.kind === "super" ? state.super : state.full, state.kind);
+        const made = state.kind === "two" ? pairOfTexts(library, state.two, state.high) : setOfText(library, state[state.kind], state.kind);
         this.onwritten(made, NAMES[state.kind]);
     }
 

@@ -5,6 +5,7 @@ import { KINDS } from "./board.js";
 import { faultsOf } from "./mending.js";
 import { faultRows } from "./faultrows.js";
 import { likenessOf } from "./likeness.js";
+import { blamedSet, pairCauses } from "./pairs.js";
 import { numberWords } from "./host.js";
 import { shapeOf, treeOf } from "./set.js";
 import { guess } from "./files.js";
@@ -12,20 +13,9 @@ import { countWords } from "./bytes.js";
 
 const STUMBLED = "The library accepts this set; this page, which reads it for show alone, stumbles:";
 const NOTICED = "What this page noticed while reading it for show (the library decides):";
-const NO_BYTES = new Uint8Array(0);
-const UNCOUNTED = Uint8Array.of(12, 0, 1, 0, 0, 0, 0, 0, 0, 0, 0, 0); // its frame is good, and its contents are not
-
-// Of two sets, which one a number from 1 to 6 is about: with another set in the second's place, the first one's number stays.
-function blamedSet(library, board) {
-    if (board.kind !== "two" || board.number > 6)
-        return 0;
-    const [empty, uncounted] = [NO_BYTES, UNCOUNTED].map((other) => library.open("hk_two_open", [board.sets[0], other], board.serial).number);
-    return empty === uncounted ? 0 : 1;
-}
-
 // What there is to say of a board's sets: the number, and for a refusal the faults, the first of them the library's.
 export function judge(library, board) {
-    const { number, kind } = board, judged = { number, kind, set: number === 0 ? 0 : blamedSet(library, board), faults: [] };
+    const { number, kind } = board, judged = { number, kind, set: kind === "two" ? blamedSet(library, board) : 0, faults: [] };
     if (number === 0 || kind !== "one" || !library.has("hk_explain"))
         return judged;
     const faults = faultsOf(library, board.sets[0], board.serial);
@@ -87,8 +77,9 @@ export function showVerdict(place, board, judged, { show, useAs }) {
     const subject = element("span", { class: "subject" }, judged.name);
     fill(place,
         element("h2", {}, accepted ? ["Accepted: ", subject] : [`Refused with ${judged.number}${which}: `, subject]),
-        accepted ? acceptedWords(board) : element("p", { class: "number" }, `${judged.number} is ${numberWords(judged.number)}.`),
+        accepted ? acceptedWords(board) : element("p", { class: "number" }, `Number ${judged.number}: ${numberWords(judged.number)}.`),
         faultRows(judged.faults, { set: board.sets[0], serial: board.serial, show }),
+        judged.number === 24 && element("ul", { class: "causes" }, pairCauses(board.sets).map((words) => element("li", {}, words))),
         hint(board, useAs),
         accepted ? null : groupRules(judged.number),
         remarks(board, judged, show));

@@ -5,14 +5,16 @@ import { Texts } from "./texts.js";
 import { faultRows } from "./faultrows.js";
 import { numberWords } from "./host.js";
 import { setOfDump, setOfPieces, dumpOfSet } from "./making.js";
+import { withoutMirrors } from "./pairs.js";
 import { Mistake, textOf } from "./text.js";
 import { readFile, textOfFile } from "./files.js";
 import { cOf } from "./clanguage.js";
+import { KINDS } from "./board.js";
 import { countWords } from "./bytes.js";
 
 const accepted = (words) => element("p", { class: "outcome accepted" }, words);
 const refused = (words) => element("p", { class: "outcome refused" }, words);
-const refusal = (number, what) => refused(`Refused with ${number}: ${what}. ${number} is ${numberWords(number)}.`);
+const refusal = (number, what) => [refused(`Refused with ${number}: ${what}.`), element("p", {}, `Number ${number}: ${numberWords(number)}.`)];
 const FILES = { one: ["set.bin"], two: ["full.bin", "high.bin"], super: ["set.bin"] };
 const C_NAMES = { one: ["descriptor_set"], two: ["full_speed_set", "high_speed_set"], super: ["descriptor_set"] };
 
@@ -57,7 +59,7 @@ export class Workshop {
         if (made.mistake)
             return fill(place, refused(`Not read: ${name}. ${made.mistake}`), made.line && this.texts.lead(made.line, made.text));
         if (made.number !== 0)
-            return fill(place, refusal(made.number, name), made.reason && this.reasonRows(made), made.reason?.set && this.lookButton(made, [made.reason.set], `${name}, refused`));
+            return fill(place, made.reason?.number ? refused(`Refused with ${made.number}: ${name}.`) : refusal(made.number, name), made.reason && this.reasonRows(made), made.reason?.set && this.lookButton(made, [made.reason.set], `${name}, refused`));
         const lengths = made.sets.map((set, at) => `${FILES[made.kind][at]}: ${countWords(set.length, "byte")}`).join(", ");
         return fill(place, accepted(`Accepted: ${name}. Wrote ${lengths}.`), this.saveButtons(made, name));
     }
@@ -68,7 +70,9 @@ export class Workshop {
             return element("p", {}, reason.words);
         const line = (fault) => (fault.line ? this.texts.lead(fault.line) : pieceWords(fault));
         return [
-            number !== reason.number && element("p", {}, `The opener would refuse the set with ${reason.number}: ${numberWords(reason.number)}.`),
+            element("p", {}, `${number === reason.number ? "Number" : "The opener would refuse the set with"} ${reason.number}: ${numberWords(reason.number)}.`),
+            typeof reason.at === "number" && element("p", {}, `It is about the ${KINDS.two.sets[reason.at]}, of the ${reason.at === 0 ? "first" : "second"} text.`),
+            reason.causes && element("ul", { class: "causes" }, reason.causes.map((words) => element("li", {}, words))),
             faultRows(reason.faults, { set: reason.set, serial, line }),
         ];
     }
@@ -104,11 +108,13 @@ export class Workshop {
     }
 
     toText() {
-        const { sets: [set], serial } = this.lent();
+        const { kind, sets, serial } = this.lent();
         try {
-            const text = textOf(set, serial);
-            this.setText(text);
-            fill(byId("of-lent"), accepted("Its text stands above."), button("Save set.txt", () => save("set.txt", text)));
+            const texts = kind === "two" ? sets.map((set) => textOf(withoutMirrors(set), serial)) : [textOf(sets[0], serial)];
+            this.texts.setAll(kind, ...texts);
+            const files = kind === "two" ? ["full.txt", "high.txt"] : ["set.txt"];
+            fill(byId("of-lent"), accepted(texts.length > 1 ? "Their texts stand above." : "Its text stands above."),
+                element("div", { class: "buttons" }, texts.map((text, at) => button(`Save ${files[at]}`, () => save(files[at], text)))));
         } catch (error) {
             if (!(error instanceof Mistake))
                 throw error;
@@ -127,7 +133,8 @@ export class Workshop {
     // A new set is lent: what was told of the old one goes.
     lend(board) {
         fill(byId("of-lent"));
-        byId("lent-tools").hidden = board.kind !== "one";
+        byId("trim").hidden = byId("to-dump").hidden = board.kind !== "one";
+        byId("to-text").textContent = board.sets.length > 1 ? "Texts of the sets" : "Text of the set";
     }
 }
 

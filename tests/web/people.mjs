@@ -37,7 +37,7 @@ async function checkSubject(browser) {
     hold("the verdict says of what", await textOf(browser, "#verdict h2"), "Accepted: Titrator");
     await openPanel(browser, "make");
     await typeText(browser, "device\nconfiguration bMaxPower 251\ninterface");
-    holdWords("the text's verdict says of what", await textOf(browser, "#written .outcome"), "Refused with 21: the text");
+    holdWords("the text's verdict says of what", await textOf(browser, "#written .outcome"), "Refused with 21: this text");
     const grounds = await browser.evaluate("['verdict', 'written'].map((id) => getComputedStyle(document.getElementById(id)).backgroundColor)");
     const [good, bad] = await browser.evaluate(`['accepted', 'refused'].map((name) => {
         const one = document.body.appendChild(document.createElement('div'));
@@ -201,6 +201,39 @@ async function checkKindTexts(browser, room, native) {
     console.log(`${native.templates.length} texts to start from, of all kinds, give the native programs' sets`);
 }
 
+// A pair: its texts, what is wrong with it, and the texts of a pair that is lent.
+async function checkPairs(browser, room, native) {
+    const told = () => textOf(browser, "#written"), type = (id, change) => browser.call((name, [from, to]) => {
+        const field = document.getElementById(name);
+        field.value = field.value.replace(from, to);
+        field.dispatchEvent(new Event("input"));
+    }, id, change).then(() => new Promise((wake) => setTimeout(wake, 400)));
+    const { sets: [full, high], serial } = native.templates.find(({ kind }) => kind === "two");
+    await openPanel(browser, "make");
+    await chooseKind(browser, "two");
+    holdWords("a pair's texts are there to start from", await told(), "Accepted: these two texts");
+    await type("high-text", ["wMaxPacketSize 512", "wMaxPacketSize 511"]);
+    holdWords("which text of a pair is refused", await told(), "It is about the high-speed set, of the second text");
+    await type("high-text", ["wMaxPacketSize 511", "wMaxPacketSize many"]);
+    holdWords("a mistake in the second text", await told(), "high-speed text, line 17: many is no number");
+    await openPanel(browser, "set");
+    const changed = Buffer.from(high, "hex");
+    changed[changed.indexOf(Buffer.from([10, 6])) + 8] = 2;
+    await browser.call((...blocks) => {
+        const [set, wrong, unit] = blocks.map((hex, at) => ({ name: `block ${at}`, bytes: Uint8Array.from(hex.match(/../g), (pair) => parseInt(pair, 16)) }));
+        heideklonk.page.use({ kind: "two", set, high: wrong, serial: unit });
+    }, full, changed.toString("hex"), serial);
+    hold("a pair that does not go together", await verdict(browser), "Refused with 24");
+    holdWords("and why", await textOf(browser, "#verdict .causes"), "high-speed set: type 6, index 0, has 02 at byte 8 of its body, and the other set makes it 01");
+    await openPanel(browser, "make");
+    await browser.press("#to-text");
+    holdWords("the texts of a pair that is lent, types 6 and 7 made anew", await told(), "Accepted: these two texts");
+    await browser.press("#texts button:last-child");
+    holdWords("a pair of the text for one set", await told(), "these two texts");
+    await chooseKind(browser, "one");
+    console.log("pairs: their texts, and why one is refused");
+}
+
 // ---- a phone's width, with all that can be said
 async function checkNarrow(browser, room, native) {
     const wide = native.explained.reduce((most, one) => (one.briefs.length > most.briefs.length ? one : most));
@@ -223,5 +256,6 @@ export async function checkPeople(browser, room, native) {
     await checkC(browser, room, native);
     await checkLikeness(browser, room, native);
     await checkKindTexts(browser, room, native);
+    await checkPairs(browser, room, native);
     await checkNarrow(browser, room, native);
 }

@@ -59,6 +59,13 @@ export async function takePicture(open, page, program, file) {
     }
 }
 
+// The part of two remarks where they part.
+function parting(one, other) {
+    const at = [...one].findIndex((letter, place) => letter !== other[place]);
+    return at < 0 ? [one.slice(-40), other.slice(-40)] : [one, other].map((text) => text.slice(Math.max(0, at - 20), at + 60));
+}
+
 export async function checkPicture(browser, file) {
-    hold(`${file} is of today's page (tests/page --picture takes it anew)`, remarkOf(readFileSync(file)), await pose(browser));
+    const [stored, today] = [remarkOf(readFileSync(file)) ?? "no remark", await pose(browser)];
+    hold(`${file} is of today's page (tests/page --picture takes it anew)`, ...(stored === today ? [true, true] : parting(stored, today)));
 }

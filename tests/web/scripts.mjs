@@ -10,7 +10,7 @@ const script = (name) => import(pathToFileURL(join(folder, `${name}.js`)));
 const { Library } = await script("library"), { Board } = await script("board"), { Host, stepLines } = await script("host");
 const { listing } = await script("set"), { Mistake, piece, readEntries, textOf } = await script("text");
 const { dumpOfSet, pairOfTexts, setOfDump, setOfText } = await script("making"), { joined } = await script("bytes"), { recordWords } = await script("record");
-const { brief } = await script("faults"), { faultsOf } = await script("mending"), { likenessOf } = await script("likeness"), { FACTS } = await script("facts");
+const { brief } = await script("faults"), { faultsOf } = await script("mending"), { likenessOf } = await script("likeness"), { FACTS } = await script("facts"), { highSpeedText } = await script("highspeed");
 const { subsequence } = await import("./transcript.mjs");
 
 const library = await Library.load(readFileSync(module)), native = JSON.parse(readFileSync(natively, "utf8"));
@@ -56,6 +56,12 @@ for (const { kind, name, text, high } of FACTS.texts) {
     hold(`the sets of ${name}, ${kind}`, made.number === 0 ? made.sets.map(textOfBytes).join(" ") : made.mistake ?? made.number, expected.sets.join(" "));
 }
 console.log(`${FACTS.texts.length} texts to start from give the native programs' sets`);
+
+// A full-speed text at high speed: the pair's second set of the first text alone.
+for (const { name, text, high } of FACTS.texts.filter(({ kind }) => kind === "two"))
+    hold(`${name} at high speed`, pairOfTexts(library, text, highSpeedText(text)).sets?.map(textOfBytes).join(" "), pairOfTexts(library, text, high).sets.map(textOfBytes).join(" "));
+for (const { name, text } of FACTS.texts.filter(({ kind }) => kind === "one"))
+    hold(`${name} as a pair`, pairOfTexts(library, text, highSpeedText(text)).number, 0);
 
 // ---- refused sets
 let faults = 0;
