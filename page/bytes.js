@@ -42,6 +42,8 @@ export function letters(bytes) {
     return text;
 }
 
+export const toBase64 = (bytes) => btoa(Array.from(bytes, (byte) => String.fromCharCode(byte)).join(""));
+
 export function fromBase64(text) {
     return Uint8Array.from(atob(text), (letter) => letter.charCodeAt(0));
 }

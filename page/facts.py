@@ -6,12 +6,24 @@ sys.path[1:1] = [os.path.join(TOP, "bench")]
 sys.dont_write_bytecode = True
 
 import paths  # noqa: F401 (the bench's own folders)
-import events, packets, text, words
+import events, fields, packets, text, values, words
 from rules import RULES
 
-# The sets to look at first: the texts of makers/, and a set of bench/ that is refused.
-TEXTS = [("Bench set S", "makers/bench.txt"), ("Titrator", "makers/titrator.txt"), ("Laboratory scale", "bench/sets/scale.txt")]
-REFUSED = [("Refused: the balance of spring", "bench/sets/spring.bin")]
+# The texts to start from, by kind: those of makers/ and bench/; a pair has two.
+TEXTS = [
+    ("one", "Bench set S", "makers/bench.txt"),
+    ("one", "Serial port", "makers/serial-port.txt"),
+    ("one", "Measuring instrument", "makers/instrument.txt"),
+    ("one", "Keyboard-like instrument", "makers/keyboard.txt"),
+    ("one", "Vendor interface", "makers/vendor.txt"),
+    ("one", "Titrator", "makers/titrator.txt"),
+    ("one", "Laboratory scale", "bench/sets/scale.txt"),
+    ("two", "Titrator", "makers/titrator.txt", "makers/titrator-high.txt"),
+    ("super", "Bench set S", "makers/bench-super.txt"),
+]
+# The sets to look at first: of some of these texts, and one that is refused.
+EXAMPLES = ["Bench set S", "Titrator", "Laboratory scale"]
+REFUSED = [("Balance of spring (refused)", "bench/sets/spring.bin")]
 
 
 def read(name, mode="r"):
@@ -21,17 +33,33 @@ def read(name, mode="r"):
 
 def rules():
     """The rules of opening, by their numbers."""
-    return [{"number": number, "group": number // 100, "rule": asks, "remedy": "There may stand", "words": may} for number, (asks, may) in RULES.items()]
+    return [{"number": number, "group": number // 100, "rule": asks, "words": may} for number, (asks, may) in RULES.items()]
+
+
+def words_for_values():
+    """Each field that has words for its values, with them; of many the first and the last."""
+    for line, known in values.VALUES.items():
+        for field, words in known.items():
+            names = list(words) if len(words) < 20 else [*list(words)[:2], "..", list(words)[-1]]
+            yield f"    {line:15}{field}: {', '.join(names)}"
+    yield from (f"    {field}: a number with its unit, as 100{unit}" for field, (unit, _) in values.UNITS.items())
+    yield f"    {', '.join(values.BITS)}: words may be joined, as isochronous+adaptive"
+    yield "    languages: " + ", ".join(values.LANGUAGES)
 
 
 def text_help():
-    """The fields of a text, from the words of makers/write."""
-    return read("makers/write").split('"""')[1].partition("    device ")[2].join(["    device ", ""]).replace("\\\\", "\\")
+    """The fields of a text, from the words of makers/write; and the words for values."""
+    fields = "    device " + read("makers/write").split('"""')[1].partition("    device ")[2].partition("\n\n")[0]
+    return fields.replace("\\\\", "\\") + "\n\nWords for values; a number may stand wherever a word does:\n\n" + "\n".join(words_for_values()) + "\n"
+
+
+def texts():
+    return [dict(zip(("kind", "name", "text", "high"), (kind, name, *map(read, paths)))) for kind, name, *paths in TEXTS]
 
 
 def examples():
-    texts = [{"name": name, "text": read(path)} for name, path in TEXTS]
-    return texts + [{"name": name, "set": base64.b64encode(read(path, "rb")).decode(), "serial": ""} for name, path in REFUSED]
+    shown = [{"name": one["name"], "text": one["text"]} for one in texts() if one["kind"] == "one" and one["name"] in EXAMPLES]
+    return shown + [{"name": name, "set": base64.b64encode(read(path, "rb")).decode(), "serial": ""} for name, path in REFUSED]
 
 
 def packet_words():
@@ -46,6 +74,12 @@ def facts(module):
         "numbers": {number: {"name": name, "remark": remark} for number, (name, remark) in words.NUMBERS.items()},
         "fields": text.FIELDS,
         "inHexadecimal": text.IN_HEXADECIMAL.pattern,
+        "frame": fields.FRAME,
+        "entry": fields.ENTRY,
+        "values": values.VALUES,
+        "bits": values.BITS,
+        "units": values.UNITS,
+        "languages": values.LANGUAGES,
         "requests": events.REQUESTS,
         "sizes": events.SIZES,
         "recipients": events.RECIPIENTS,
@@ -54,7 +88,7 @@ def facts(module):
         "events": events.EVENTS,
         "packets": packet_words(),
         "rules": rules(),
-        "texts": [{"name": name, "text": read(path)} for name, path in TEXTS],
+        "texts": texts(),
         "textHelp": text_help(),
         "examples": examples(),
         "module": {"bytes": f"{len(module):,}", "sum": hashlib.sha256(module).hexdigest()},

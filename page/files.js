@@ -32,6 +32,12 @@ export function guess(name, bytes) {
     return isPieces(bytes) ? "pieces" : "set";
 }
 
+// Hexadecimal text is read as the bytes that it says.
+export function plain({ name, bytes }) {
+    const read = guess(name, bytes) === "hexadecimal" ? readHexadecimal(decoded(bytes)) : bytes;
+    return { name: read === bytes ? name : `${name}, read from hexadecimal`, bytes: read };
+}
+
 // A file's name and bytes.
 export async function readFile(file) {
     if (file.size > LARGEST)

@@ -20,8 +20,8 @@ export class Hexadecimal {
         narrow.addEventListener("change", () => this.showAgain());
     }
 
-    // Shows these bytes; `kinds` has the kind of each, `broken` is the place of the byte to mark.
-    show(bytes, kinds, broken) {
+    // Shows these bytes; `kinds` has the kind of each, `broken` the places of the bytes to mark, the first before all.
+    show(bytes, kinds, broken = []) {
         Object.assign(this, { bytes, kinds, broken, cells: [], range: [0, 0], at: 0, columns: narrow.matches ? 8 : 16 });
         this.chunks = [];
         this.seen.disconnect();
@@ -68,7 +68,8 @@ export class Hexadecimal {
 
     cell(at) {
         const cell = element("span", { id: `byte-${at}`, role: "gridcell", class: `byte ${this.kinds[at] ?? ""}` }, hexadecimal(this.bytes[at]));
-        cell.classList.toggle("broken", at === this.broken);
+        cell.classList.toggle("broken", at === this.broken[0]);
+        cell.classList.toggle("wrong", this.broken.includes(at, 1));
         cell.classList.toggle("chosen", at >= this.range[0] && at < this.range[1]);
         cell.classList.toggle("here", at === this.at);
         this.cells[at] = cell;

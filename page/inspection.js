@@ -29,14 +29,15 @@ export class Inspection {
     // Shows what is lent: each set, and the serial block.
     show(board, judged) {
         const names = KINDS[board.kind].sets;
-        const broken = (block) => (judged.block === block ? judged.place : undefined), serialNodes = board.serial.length > 0 ? [serialNode(board.serial)] : [];
-        this.blocks = board.sets.map((bytes, at) => ({ name: names[at], bytes, ...treeOf(bytes, board.kind), broken: broken("set") }));
-        this.blocks.push({ name: "serial block", bytes: board.serial, nodes: serialNodes, broken: broken("serial") });
+        const broken = (isSerial) => judged.faults.filter(({ number }) => (number === 6) === isSerial).map(({ place }) => place);
+        const serialNodes = board.serial.length > 0 ? [serialNode(board.serial)] : [];
+        this.blocks = board.sets.map((bytes, at) => ({ name: names[at], bytes, ...treeOf(bytes, board.kind), broken: broken(false) }));
+        this.blocks.push({ name: "serial block", bytes: board.serial, nodes: serialNodes, broken: broken(true) });
         fill(byId("blocks"), this.blocks.map(({ name, bytes }, at) => element("option", { value: at }, `${name}, ${countWords(bytes.length, "byte")}`)));
         fill(byId("listing"), board.sets.map((set, at) => `${names.length > 1 ? `${names[at]}\n` : ""}${listing(set, board.number).join("\n")}\n`));
-        this.showBlock(judged.block === "serial" || (judged.number === 6 && board.serial.length > 0) ? this.blocks.length - 1 : judged.set);
-        const device = this.block.nodes.find(({ kind }) => kind === "device"), place = this.block.broken ?? this.block.remarks?.[0]?.place;
-        if (place !== undefined && judged.number !== 0)
+        this.showBlock(board.serial.length > 0 && judged.number === 6 ? this.blocks.length - 1 : judged.set);
+        const device = this.block.nodes.find(({ kind }) => kind === "device"), place = this.block.broken[0] ?? this.block.remarks?.[0]?.place;
+        if (place < this.block.bytes.length && judged.number !== 0)
             this.choosePlace(place);
         else if (device)
             this.tree.choose(this.tree.items.get(device));
@@ -63,6 +64,8 @@ export class Inspection {
     }
 
     choosePlace(place) {
+        if (place >= this.block.bytes.length)
+            return this.showFields([]);
         const chain = nodesAt(this.block.nodes, place), node = chain.at(-1);
         if (node)
             this.tree.reveal(chain);

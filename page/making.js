@@ -1,11 +1,15 @@
-// Sets made of a text, of pieces or of a dump. The library writes them; where it refuses, this page lays the pieces out as the rules say, so that the
+// Sets made of texts, of pieces or of a dump. The library writes them; where it refuses, this page lays the pieces out as the rules say, so that the
 // library's opener can tell why.
 import { TYPE, cut } from "./descriptors.js";
-import { Mistake, piece, readEntries } from "./text.js";
-import { joined, littleEndian, word } from "./bytes.js";
+import { faultsOf } from "./mending.js";
+import { laidOut } from "./layout.js";
+import { blamedSet, pairCauses, pairOfEntries } from "./pairs.js";
+import { Mistake, lineAt, piece, readEntries } from "./text.js";
+import { alike, joined, littleEndian, word } from "./bytes.js";
 import { KINDS } from "./board.js";
 
 const NO_BYTES = new Uint8Array(0);
+const TEXT_NAMES = ["full-speed text", "high-speed text"];
 
 // The pieces of a stream, as far as their lengths lead.
 function readPieces(stream) {
@@ -15,64 +19,85 @@ function readPieces(stream) {
     return pieces;
 }
 
-const before = (one, other) => one.type - other.type || one.language - other.language || one.index - other.index;
+// The piece whose entry or body holds a byte of the set.
+const pieceAt = ({ placed }, place) =>
+    placed.find(({ start, offset, part: { body } }) => (place >= start && place < start + 8) || (place >= offset && place < offset + body.length));
 
-// The set that pieces make, and the pieces in the set's order; null where a set cannot count so much.
-function layOut(pieces) {
-    const sorted = [...pieces].sort(before), contents = 4 + 8 * sorted.length;
-    const total = contents + sorted.reduce((sum, { body }) => sum + body.length, 0);
-    if (sorted.length > 255 || total > 65535)
-        return null;
-    let offset = contents;
-    const entries = sorted.map(({ type, index, language, body }) => {
-        const entry = joined([Uint8Array.of(type, index), littleEndian(language, 2), littleEndian(offset, 2), littleEndian(body.length, 2)]);
-        offset += body.length;
-        return entry;
-    });
-    return { set: joined([littleEndian(total, 2), Uint8Array.of(sorted.length, 0), ...entries, ...sorted.map(({ body }) => body)]), sorted };
+// The line of a text that a fault is in: of the serial number, or of the descriptor; of a number that stands nowhere, the device's.
+function lineOf(laid, fault, serialLine) {
+    if (fault.number === 6)
+        return serialLine ?? laid.placed.find(({ part }) => part.type === TYPE.DEVICE)?.part.line;
+    const found = pieceAt(laid, fault.place);
+    return found?.part.line && (fault.place >= found.offset ? lineAt(found.part, fault.place - found.offset) : found.part.line);
 }
 
-// Why pieces are refused: what the opener says of the set that they would make, and the piece in which the broken rule lies.
-function reason(library, pieces, serial, kind) {
-    const laid = layOut(pieces);
+// The piece that a fault is in, and where in its body; below 0 it is in its entry.
+function pieceOf(laid, { number, place }) {
+    const found = number === 6 ? null : pieceAt(laid, place);
+    return found ? { piece: found.part, inBody: place - found.offset } : {};
+}
+
+// Why pieces are refused: what the opener says of the set that they would make, and each fault with its line or its piece.
+function reason(library, pieces, { serial, serialLine }, kind) {
+    const laid = laidOut(pieces);
     if (laid === null)
         return { words: "so many pieces, or bytes, are more than a set can count" };
-    const { number } = library.open(KINDS[kind].open, [laid.set], serial);
-    const explained = kind === "one" && library.has("hk_explain") ? library.explain(laid.set, serial) : null;
-    return { number, set: laid.set, serial, ...(explained && { ...explained, piece: pieceAt(laid, explained) }) };
+    const { number } = library.open(KINDS[kind].open, [laid.set], serial), told = kind === "one" && library.has("hk_explain");
+    const faults = told ? faultsOf(library, laid.set, serial).map((fault) => ({ ...fault, line: lineOf(laid, fault, serialLine), ...pieceOf(laid, fault) })) : [];
+    return { number, set: laid.set, faults };
 }
 
-// The piece whose entry or body holds this byte.
-function pieceAt({ set, sorted }, { number, place }) {
-    if (number === 6)
-        return null;
-    let start = 4 + 8 * sorted.length;
-    if (place >= 4 && place < start)
-        return sorted[(place - 4) >> 3];
-    for (const one of sorted) {
-        if (place >= start && place < Math.min(start + one.body.length, set.length))
-            return one;
-        start += one.body.length;
-    }
-    return null;
+// From pieces: { number, sets, serial }, and for a refusal its reason.
+function written(library, stream, read, kind, pieces) {
+    const { number, written: set } = library.write(kind === "super" ? "hk_super_write" : "hk_write", [stream, read.serial]);
+    return { number, kind, sets: [set], serial: read.serial, pieces: stream, reason: number === 21 ? reason(library, pieces, read, kind) : null };
 }
 
-// From pieces: { number, set, serial }, and for a refusal its reason.
-export function setOfPieces(library, stream, serial, kind = "one", known = null) {
-    const { number, written } = library.write(kind === "super" ? "hk_super_write" : "hk_write", [stream, serial]);
-    return { number, set: written, serial, pieces: stream, reason: number === 21 ? reason(library, known ?? readPieces(stream), serial, kind) : null };
-}
+export const setOfPieces = (library, stream, serial, kind = "one") => written(library, stream, { serial }, kind, readPieces(stream));
 
-// From a text; `mistake` where it cannot be read.
-export function setOfText(library, text, kind = "one") {
+// The work, or the mistake of a text that cannot be read.
+function unlessMistaken(work) {
     try {
-        const { entries, serial } = readEntries(text);
-        return setOfPieces(library, joined(entries.map(piece)), serial, kind, entries);
+        return work();
     } catch (error) {
         if (error instanceof Mistake)
-            return { mistake: error.message };
+            return { mistake: error.message, line: error.line, text: error.text };
         throw error;
     }
+}
+
+export function setOfText(library, text, kind = "one") {
+    return unlessMistaken(() => {
+        const read = readEntries(text);
+        return written(library, joined(read.entries.map(piece)), read, kind, read.entries);
+    });
+}
+
+// ---- pairs
+function readOne(text, at) {
+    try {
+        return readEntries(text);
+    } catch (error) {
+        if (error instanceof Mistake)
+            Object.assign(error, { message: `${TEXT_NAMES[at]}, ${error.message}`, text: at });
+        throw error;
+    }
+}
+
+// The serial number may stand in either text, or in both.
+function oneSerial(full, high) {
+    if (full.length > 0 && high.length > 0 && !alike(full, high))
+        throw new Mistake("the two texts have two serial numbers, and a unit has one");
+    return full.length > 0 ? full : high;
+}
+
+export function pairOfTexts(library, fullText, highText) {
+    return unlessMistaken(() => {
+        const [full, high] = [fullText, highText].map(readOne), serial = oneSerial(full.serial, high.serial);
+        const sets = pairOfEntries(full.entries, high.entries), { number } = library.open("hk_two_open", sets, serial);
+        const at = number === 0 || number > 6 ? null : blamedSet(library, { sets, serial, number });
+        return { number, kind: "two", sets, serial, reason: number === 0 ? null : { number, faults: [], at, causes: number === 24 ? pairCauses(sets) : null } };
+    });
 }
 
 // ---- dumps
@@ -93,9 +118,17 @@ function withoutReferences(body) {
     return body;
 }
 
+// The byte of a dump at which a fault of its set is: its pieces stand there end to end.
+function placeInDump(fault, pieces) {
+    const before = pieces.slice(0, pieces.indexOf(fault.piece)).reduce((sum, { body }) => sum + body.length, 0);
+    return fault.piece && fault.inBody >= 0 ? before + fault.inBody : undefined;
+}
+
 export function setOfDump(library, dump) {
-    const { number, written } = library.write("hk_import", [dump]);
-    return { number, set: written, serial: NO_BYTES, reason: number === 21 ? reason(library, piecesOfDump(dump), NO_BYTES, "one") : null };
+    const { number, written: set } = library.write("hk_import", [dump]), pieces = number === 21 ? piecesOfDump(dump) : [];
+    const why = number === 21 ? reason(library, pieces, { serial: NO_BYTES }, "one") : null;
+    const faults = why?.faults?.map((fault) => ({ ...fault, inDump: placeInDump(fault, pieces) }));
+    return { number, kind: "one", sets: [set], serial: NO_BYTES, reason: why && { ...why, faults } };
 }
 
 export function dumpOfSet(library, set, serial) {

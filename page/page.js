@@ -6,38 +6,47 @@ import { Board, KINDS, kindsOf } from "./board.js";
 import { Inspection } from "./inspection.js";
 import { Enumeration } from "./enumeration.js";
 import { Console } from "./console.js";
+import { Comparison } from "./comparison.js";
 import { Workshop } from "./workshop.js";
+import { Lent, NO_FILE } from "./lent.js";
+import { forget, keep, recall } from "./memory.js";
 import { judge, showComplaint, showVerdict } from "./verdict.js";
-import { guess, readFile, textOfFile } from "./files.js";
+import { guess, plain, readFile, textOfFile } from "./files.js";
 import { setOfText } from "./making.js";
+import { cOf } from "./clanguage.js";
+import { isOfPair } from "./pairs.js";
 import { listing } from "./set.js";
-import { countWords, fromBase64, readHexadecimal } from "./bytes.js";
+import { countWords, fromBase64 } from "./bytes.js";
 
-const NO_FILE = { name: "", bytes: new Uint8Array(0) };
+// Numbers of two sets in the right order: accepted, or but for the serial block or for types 6 and 7.
+const GO_TOGETHER = [0, 6, 24];
+const isHighByName = ({ name }) => /high|hs/i.test(name);
 
 class Page {
     constructor(library) {
         this.library = library;
-        this.kind = "one";
-        this.sets = [NO_FILE, NO_FILE];
-        this.serial = NO_FILE;
+        this.lent = new Lent(recall().lent);
         this.inspection = new Inspection({ onchange: (block, place, byte) => this.changeByte(block, place, byte) });
         this.enumeration = new Enumeration(library);
         this.console = new Console(library);
-        this.workshop = new Workshop(library, { lent: () => this.board, onmade: (set, serial, name, kind) => this.useMade(set, serial, name, kind) });
+        this.comparison = new Comparison({ plain, show: (block, place) => this.showPlace(block, place) });
+        this.workshop = new Workshop(library, { lent: () => this.board, onmade: (made) => this.useMade(made) });
         this.listen();
     }
 
     listen() {
-        const kinds = kindsOf(this.library);
+        const kinds = kindsOf(this.library), press = (id, work) => byId(id).addEventListener("click", work);
         fill(byId("kind"), kinds.map((kind) => element("option", { value: kind }, KINDS[kind].name)));
-        byId("kinds").hidden = kinds.length < 2;
-        byId("kind").addEventListener("change", (event) => this.useKind(event.target.value));
-        for (const [id, place] of [["choose-set", 0], ["choose-high", 1], ["choose-serial", 2]])
-            byId(id).addEventListener("change", (event) => this.takeChosen(event.target, place));
-        byId("no-serial").addEventListener("click", () => { this.serial = NO_FILE; this.lend(); });
-        byId("save-set").addEventListener("click", () => save(this.sets[0].name.endsWith(".bin") ? this.sets[0].name : "set.bin", this.sets[0].bytes));
-        byId("save-serial").addEventListener("click", () => save("unit.bin", this.serial.bytes));
+        byId("kind").addEventListener("change", (event) => this.use({ kind: event.target.value }));
+        for (const place of ["set", "high", "serial"])
+            byId(`choose-${place}`).addEventListener("change", (event) => this.takeChosen(event.target, place));
+        press("no-serial", () => this.use({ serial: NO_FILE }));
+        for (const [place, name] of [["set", "set.bin"], ["high", "high.bin"], ["serial", "unit.bin"]])
+            press(`save-${place}`, () => this.saveBlock(place, name));
+        press("save-c", () => save("device.h", this.inC()));
+        press("undo", () => { this.lent.undo(); this.lend(); });
+        press("redo", () => { this.lent.redo(); this.lend(); });
+        press("forget", () => { forget(); location.reload(); });
         fill(byId("examples"), FACTS.examples.map((example) => button(example.name, () => this.useExample(example))));
         for (const tab of document.querySelectorAll("[role=tab]"))
             tab.addEventListener("click", () => this.openPanel(tab.id));
@@ -46,83 +55,89 @@ class Page {
     }
 
     // ---- what is lent
+    // Lends something else, beside what stays.
+    use(change) {
+        this.lent.note(change);
+        this.lend();
+    }
+
     lend() {
-        const shown = performance.now();
-        this.board = new Board(this.library, this.kind, this.sets.slice(0, KINDS[this.kind].sets.length).map(({ bytes }) => bytes), this.serial.bytes);
-        const judged = judge(this.library, this.board);
+        const shown = performance.now(), { kind, sets, serial } = this.lent;
+        this.board = new Board(this.library, kind, sets.map(({ bytes }) => bytes), serial.bytes);
+        const judged = judge(this.library, this.board), show = (block, place) => this.showPlace(block, place);
+        keep("lent", this.lent.kept());
         this.showLent();
-        showVerdict(byId("verdict"), this.board, judged, (block, place) => { this.openPanel("tab-set"); this.inspection.lead(block, place); });
+        showVerdict(byId("verdict"), this.board, { ...judged, name: this.lent.name }, { show, useAs: (change) => this.use(change(this.lent)) });
         this.inspection.show(this.board, judged);
         this.enumeration.lend(this.board);
         this.console.lend(this.board);
+        this.comparison.lend(this.board, sets.map(({ name }) => name || "a set"));
         this.workshop.lend(this.board);
         this.lookAtPanel();
         this.took = performance.now() - shown;
     }
 
     showLent() {
+        const { kind, set, high, serial } = this.lent;
         const words = ({ name, bytes }) => (bytes.length > 0 || name ? `${name || "a set"}, ${countWords(bytes.length, "byte")}` : "none");
-        byId("kind").value = this.kind;
-        byId("set-title").textContent = KINDS[this.kind].sets[0].replace(/^./, (letter) => letter.toUpperCase());
-        byId("set-name").textContent = words(this.sets[0]);
-        byId("high-name").textContent = words(this.sets[1]);
-        byId("serial-name").textContent = this.serial.bytes.length > 0 ? words(this.serial) : "empty";
-        byId("high-slot").hidden = this.kind !== "two";
-        byId("save-set").disabled = this.sets[0].bytes.length === 0;
-        byId("save-serial").disabled = byId("no-serial").disabled = this.serial.bytes.length === 0;
+        byId("kind").value = kind;
+        byId("set-title").textContent = KINDS[kind].sets[0].replace(/^./, (letter) => letter.toUpperCase());
+        byId("set-name").textContent = words(set);
+        byId("high-name").textContent = words(high);
+        byId("serial-name").textContent = serial.bytes.length > 0 ? words(serial) : "empty";
+        byId("high-slot").hidden = kind !== "two";
+        byId("save-set").disabled = set.bytes.length === 0;
+        byId("save-high").disabled = high.bytes.length === 0;
+        byId("save-c").disabled = this.board.sets.some((bytes) => bytes.length === 0);
+        byId("save-serial").disabled = byId("no-serial").disabled = serial.bytes.length === 0;
+        byId("undo").disabled = !this.lent.canUndo;
+        byId("redo").disabled = !this.lent.canRedo;
     }
 
-    useKind(kind) {
-        this.kind = kind;
-        this.lend();
+    saveBlock(place, usual) {
+        const { name, bytes } = this.lent[place];
+        save(place !== "serial" && name.endsWith(".bin") ? name : usual, bytes);
     }
 
-    useMade(set, serial, name, kind) {
-        this.kind = kind;
-        this.sets[0] = { name, bytes: set };
-        this.serial = { name: "unit.bin", bytes: serial };
-        this.lend();
+    // What is lent as C arrays, with what the library says of it.
+    inC() {
+        const { number, kind } = this.board;
+        return cOf(this.board, `${this.lent.name}: ${KINDS[kind].open} ${number === 0 ? "accepts it" : `REFUSES it with ${number}`}.`);
+    }
+
+    useMade({ kind = "one", sets, serial, name }) {
+        const [set, high] = sets.map((bytes, at) => ({ name: sets.length > 1 ? `${name}, ${KINDS.two.sets[at]}` : name, bytes }));
+        this.use({ kind, set, ...(high && { high }), serial: { name: "unit.bin", bytes: serial } });
         this.openPanel("tab-set");
     }
 
     useExample({ name, text, set, serial }) {
-        const made = text ? setOfText(this.library, text) : { set: fromBase64(set), serial: fromBase64(serial) };
-        this.kind = "one";
-        this.sets[0] = { name, bytes: made.set };
-        this.serial = { name, bytes: made.serial };
-        this.lend();
+        const made = text ? setOfText(this.library, text) : { sets: [fromBase64(set)], serial: fromBase64(serial) };
+        this.use({ kind: "one", set: { name, bytes: made.sets[0] }, serial: { name, bytes: made.serial } });
     }
 
     changeByte(block, place, byte) {
-        const isSerial = block === this.board.sets.length, old = isSerial ? this.serial : this.sets[block], bytes = old.bytes.slice();
+        const which = block === this.board.sets.length ? "serial" : ["set", "high"][block], old = this.lent[which], bytes = old.bytes.slice();
         bytes[place] = byte;
-        const changed = { name: old.name.endsWith(", changed") ? old.name : `${old.name}, changed`, bytes };
-        if (isSerial)
-            this.serial = changed;
-        else
-            this.sets[block] = changed;
-        this.lend();
+        this.use({ [which]: { name: old.name.endsWith(", changed") ? old.name : `${old.name}, changed`, bytes } });
         this.inspection.showBlock(block);
         this.inspection.choosePlace(place);
+    }
+
+    showPlace(block, place) {
+        this.openPanel("tab-set");
+        this.inspection.lead(block, place);
     }
 
     // ---- files
     async takeChosen(input, place) {
         try {
             if (input.files.length > 0)
-                this.put(place, await readFile(input.files[0]));
-            this.lend();
+                this.use({ [place]: plain(await readFile(input.files[0])) });
         } catch (error) {
             showComplaint(byId("verdict"), `Not read: ${error.message}`);
         }
         input.value = "";
-    }
-
-    put(place, file) {
-        if (place === 2)
-            this.serial = file;
-        else
-            this.sets[place] = file;
     }
 
     listenForDrops() {
@@ -143,25 +158,33 @@ class Page {
         const read = await Promise.all(files.map(readFile)), kinds = read.map(({ name, bytes }) => guess(name, bytes));
         const sets = read.filter((_, at) => kinds[at] === "set" || kinds[at] === "hexadecimal").map(plain);
         const serials = read.filter((_, at) => kinds[at] === "serial"), other = kinds.findIndex((kind) => ["text", "dump", "pieces"].includes(kind));
-        if (sets.length > 0) {
-            this.serial = NO_FILE;
-            this.putSets(sets);
-        }
-        if (serials.length > 0)
-            this.serial = serials[0];
+        const change = { ...(sets.length > 0 && { serial: NO_FILE, ...this.setsDropped(sets) }), ...(serials.length > 0 && { serial: serials[0] }) };
         if (sets.length + serials.length > 0)
-            this.lend();
+            this.use(change);
         if (other >= 0)
             this.takeToWorkshop(kinds[other], read[other]);
         else if (sets.length > 0 && this.panel === "tab-make")
             this.openPanel("tab-set");
+        if (sets.length > 1 && this.lent.kind !== "two")
+            this.openPanel("tab-compare");
     }
 
-    // Of two sets the high-speed one is told by its name, and else is the second.
-    putSets(sets) {
-        const isHigh = ({ name }) => /high|hs/i.test(name), isPair = this.kind === "two";
-        const ordered = isPair ? [...sets].sort((one, next) => Number(isHigh(one)) - Number(isHigh(next))) : sets;
-        ordered.slice(0, isPair ? 2 : 1).forEach((file, at) => this.put(isPair && sets.length === 1 && isHigh(file) ? 1 : at, file));
+    // Two sets are a pair where both have types 6 and 7, or the kind says so: the high-speed one is told by opening, by its name, and else is the second.
+    // Other two stand side by side.
+    setsDropped(sets) {
+        if (sets.length > 1 && kindsOf(this.library).includes("two"))
+            return this.pairDropped(sets.slice(0, 2));
+        return this.lent.kind === "two" && isHighByName(sets[0]) ? { high: sets[0] } : { set: sets[0] };
+    }
+
+    pairDropped(sets) {
+        const orders = [sets, [...sets].reverse()], open = (order) => this.library.open("hk_two_open", order.map(({ bytes }) => bytes), NO_FILE.bytes).number;
+        const opens = (order) => GO_TOGETHER.includes(open(order));
+        const [set, high] = orders.find(opens) ?? orders[isHighByName(sets[0]) && !isHighByName(sets[1]) ? 1 : 0];
+        if (this.lent.kind === "two" || sets.every(({ bytes }) => isOfPair(bytes)))
+            return { kind: "two", set, high };
+        this.comparison.compareWith(sets[1]);
+        return { set: sets[0] };
     }
 
     takeToWorkshop(kind, { name, bytes }) {
@@ -183,14 +206,14 @@ class Page {
             byId(tab.getAttribute("aria-controls")).hidden = !isOpen;
         }
         this.panel = id;
+        keep("panel", id);
         this.lookAtPanel();
     }
 
     lookAtPanel() {
-        if (this.panel === "tab-enumeration")
-            this.enumeration.look();
-        if (this.panel === "tab-make")
-            this.workshop.look();
+        const looks = { "tab-enumeration": this.enumeration, "tab-compare": this.comparison, "tab-make": this.workshop };
+        document.body.classList.toggle("making", this.panel === "tab-make");
+        looks[this.panel]?.look();
     }
 
     turnPanel(event) {
@@ -204,16 +227,13 @@ class Page {
     }
 }
 
-// Hexadecimal text is read as the bytes that it says.
-function plain({ name, bytes }) {
-    const read = guess(name, bytes) === "hexadecimal" ? readHexadecimal(textOfFile(bytes)) : bytes;
-    return { name: read === bytes ? name : `${name}, read from hexadecimal`, bytes: read };
-}
-
 async function show() {
-    const library = await Library.load(fromBase64(byId("module").textContent.trim())), page = new Page(library);
-    page.openPanel("tab-set");
-    page.useExample(FACTS.examples[0]);
+    const library = await Library.load(fromBase64(byId("module").textContent.trim())), page = new Page(library), { panel } = recall();
+    if (page.lent.isEmpty)
+        page.useExample(FACTS.examples[0]);
+    else
+        page.lend();
+    page.openPanel(byId(panel) ? panel : "tab-set");
     fill(byId("module-words"), `${FACTS.module.bytes} bytes of WebAssembly, SHA-256 ${FACTS.module.sum}`);
     globalThis.heideklonk = { library, page, listing };
     document.body.dataset.ready = "yes";

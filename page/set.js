@@ -170,6 +170,15 @@ export function serialNode(serial) {
     return node("string", `serial block: ${stringWords(serial)}`, 0, serial.length, { block: "serial", fields });
 }
 
+// What stands in a tree one by one, in the order of the bytes: the nodes with fields, a setting before what is below it.
+export function* leavesOf(nodes) {
+    for (const one of nodes) {
+        if (one.fields && one.number === undefined)
+            yield one;
+        yield* leavesOf(one.children);
+    }
+}
+
 // The chain of nodes that hold this byte, outermost first.
 export function nodesAt(nodes, place) {
     for (const one of nodes) {

@@ -1,33 +1,25 @@
-// What the library says of the set: accepted, or refused with its number, and where hk_explain tells it, with the rule and the byte.
+// What the library says of what is lent, and what that is: accepted, or refused with its number, and where hk_explain tells it, with rule and byte.
 import { button, element, fill } from "./element.js";
-import { GROUPS, ruleOf, rulesOfGroup } from "./rules.js";
-import { TYPE } from "./descriptors.js";
-import { KINDS, kindsOf } from "./board.js";
+import { GROUPS, rulesOfGroup } from "./rules.js";
+import { KINDS } from "./board.js";
+import { faultsOf } from "./mending.js";
+import { faultRows } from "./faultrows.js";
+import { likenessOf, singleLikeness } from "./likeness.js";
+import { blamedSet, pairCauses } from "./pairs.js";
 import { numberWords } from "./host.js";
-import { entriesOf, placeWords, serialNode, shapeOf, treeOf } from "./set.js";
+import { shapeOf, treeOf } from "./set.js";
 import { guess } from "./files.js";
-import { countWords, hexadecimal } from "./bytes.js";
+import { countWords } from "./bytes.js";
 
 const STUMBLED = "The library accepts this set; this page, which reads it for show alone, stumbles:";
 const NOTICED = "What this page noticed while reading it for show (the library decides):";
-const NO_BYTES = new Uint8Array(0);
-const UNCOUNTED = Uint8Array.of(12, 0, 1, 0, 0, 0, 0, 0, 0, 0, 0, 0); // its frame is good, and its contents are not
-
-// Of two sets, which one a number from 1 to 6 is about: with another set in the second's place, the first one's number stays.
-function blamedSet(library, board) {
-    if (board.kind !== "two" || board.number > 6)
-        return 0;
-    const [empty, uncounted] = [NO_BYTES, UNCOUNTED].map((other) => library.open("hk_two_open", [board.sets[0], other], board.serial).number);
-    return empty === uncounted ? 0 : 1;
-}
-
-// What there is to say of a board's sets: the number, and for a refusal which block, rule and byte.
+// What there is to say of a board's sets: the number, and for a refusal the faults, the first of them the library's.
 export function judge(library, board) {
-    const { number, kind } = board, judged = { number, kind, set: number === 0 ? 0 : blamedSet(library, board) };
+    const { number, kind } = board, judged = { number, kind, set: kind === "two" ? blamedSet(library, board) : 0, faults: [] };
     if (number === 0 || kind !== "one" || !library.has("hk_explain"))
         return judged;
-    const explained = library.explain(board.sets[0], board.serial);
-    return { ...judged, rule: explained.rule, place: explained.place, block: explained.number === 6 ? "serial" : "set", explained: explained.number };
+    const faults = faultsOf(library, board.sets[0], board.serial);
+    return { ...judged, faults, explained: faults[0]?.number ?? 0 };
 }
 
 const GUESSES = {
@@ -38,14 +30,30 @@ const GUESSES = {
     pieces: "This file looks like pieces for the set writer. Open it under “Make a set”.",
 };
 
-// A set that is refused as one kind may be of another.
-function kindHint(library, { kind, sets, number }) {
-    const types = entriesOf(sets[0]).map(({ type }) => type), others = kindsOf(library);
-    if (kind !== "one" || number !== 2)
+const sentence = (words) => `${words.replace(/^./, (letter) => letter.toUpperCase())}.`;
+
+// What a refused set looks like rather than one of this kind, and how it is lent as that.
+function takenFor({ library, kind, sets, serial }, at) {
+    if (kind !== "one") {
+        const words = singleLikeness(library, sets[at], serial), change = (lent) => ({ kind: "one", set: at === 1 ? lent.high : lent.set });
+        return words && { words, name: "Take it for one set, full speed", change };
+    }
+    const like = likenessOf(library, sets[0], serial);
+    return like && {
+        words: like.words,
+        name: `Take it for ${like.kind === "super" ? "a SuperSpeed set" : `the ${KINDS.two.sets[like.at]}`}`,
+        change: (lent) => ({ kind: like.kind, ...(like.at === 1 && { set: lent.high, high: lent.set }) }),
+    };
+}
+
+function hint(board, judged, useAs) {
+    const set = board.sets[judged.set];
+    if (board.number === 0 || set.length === 0)
         return null;
-    if (others.includes("two") && (types.includes(TYPE.DEVICE_QUALIFIER) || types.includes(TYPE.OTHER_SPEED)))
-        return "This looks like a set of a pair, for a board of two speeds. Choose that kind above, and both sets.";
-    return others.includes("super") && types.includes(TYPE.BOS) ? "This looks like a SuperSpeed set. Choose that kind above." : null;
+    const taken = takenFor(board, judged.set), guessed = GUESSES[guess("", set)];
+    if (taken)
+        return element("p", { class: "hinted" }, element("strong", {}, sentence(taken.words)), " ", button(taken.name, () => useAs(taken.change), { id: "take-for" }));
+    return guessed && element("p", { class: "hinted" }, element("strong", {}, guessed));
 }
 
 function acceptedWords(board) {
@@ -53,19 +61,6 @@ function acceptedWords(board) {
         const shape = shapeOf(set).map(([count, noun]) => countWords(count, noun)).join(", ");
         return element("p", {}, `${board.sets.length > 1 ? `${KINDS[board.kind].sets[at]}: ` : ""}${shape}; ${countWords(set.length, "byte")}`);
     });
-}
-
-// The rule that is broken, with the byte where it is.
-function ruleWords(board, judged, show) {
-    const rule = ruleOf(judged.rule), bytes = judged.block === "serial" ? board.serial : board.sets[0], standing = bytes[judged.place];
-    const nodes = judged.block === "serial" ? [serialNode(bytes)] : treeOf(bytes).nodes, name = judged.block === "serial" ? " of the serial block" : "";
-    const lead = button(`Byte ${judged.place}${name}`, () => show(judged.block, judged.place), { class: "link", id: "show-place" });
-    return [
-        element("p", { class: "rule" }, element("strong", {}, `Rule ${judged.rule}: `), rule?.rule ?? "docs/MAKERS.md has its words"),
-        standing === undefined ? element("p", {}, "There is no byte to look at: nothing was lent.")
-            : element("p", {}, lead, ` is ${hexadecimal(standing)} (${standing}): ${placeWords(nodes, judged.place)}`),
-        rule && element("p", {}, element("strong", {}, `${rule.remedy}: `), rule.words),
-    ];
 }
 
 function groupRules(number) {
@@ -77,7 +72,7 @@ function groupRules(number) {
 
 // What this page could not read, or read otherwise than the library: the library's number stands. Where the library names the rule, that is enough.
 function remarks(board, judged, show) {
-    const found = judged.rule ? [] : board.sets.flatMap((set) => treeOf(set, board.kind).remarks);
+    const found = judged.faults.length > 0 ? [] : board.sets.flatMap((set) => treeOf(set, board.kind).remarks);
     if (judged.explained !== undefined && judged.explained !== judged.number)
         found.push({ words: `hk_explain gives ${judged.explained}; hk_open's ${judged.number} stands` });
     if (found.length === 0)
@@ -87,14 +82,17 @@ function remarks(board, judged, show) {
     return element("div", { class: "remarks" }, element("p", {}, heading), element("ul", {}, found.slice(0, 5).map((one) => element("li", {}, line(one)))));
 }
 
-export function showVerdict(place, board, judged, show) {
-    const accepted = judged.number === 0, hint = kindHint(board.library, board) ?? (!accepted && board.kind === "one" ? GUESSES[guess("", board.sets[0])] : null);
+// `name` says what is judged; `show` leads to a byte; `useAs` lends it otherwise.
+export function showVerdict(place, board, judged, { show, useAs }) {
+    const accepted = judged.number === 0, which = board.sets.length > 1 && judged.number <= 6 ? ` in the ${KINDS[board.kind].sets[judged.set]}` : "";
     place.className = accepted ? "verdict accepted" : "verdict refused";
-    const which = board.sets.length > 1 && judged.number <= 6 ? ` in the ${KINDS[board.kind].sets[judged.set]}` : "";
+    const subject = element("span", { class: "subject" }, judged.name);
     fill(place,
-        element("h2", {}, accepted ? "Accepted" : `Refused with ${judged.number}${which}: ${numberWords(judged.number)}`),
-        accepted ? acceptedWords(board) : judged.rule ? ruleWords(board, judged, show) : null,
-        hint && element("p", {}, element("strong", {}, hint)),
+        element("h2", {}, accepted ? ["Accepted: ", subject] : [`Refused with ${judged.number}${which}: `, subject]),
+        accepted ? acceptedWords(board) : element("p", { class: "number" }, `Number ${judged.number}: ${numberWords(judged.number)}.`),
+        faultRows(judged.faults, { set: board.sets[0], serial: board.serial, show }),
+        judged.number === 24 && element("ul", { class: "causes" }, pairCauses(board.sets).map((words) => element("li", {}, words))),
+        hint(board, judged, useAs),
         accepted ? null : groupRules(judged.number),
         remarks(board, judged, show));
 }

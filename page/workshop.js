@@ -1,43 +1,36 @@
-// The panel where sets are made: of a text, of pieces, of a descriptors file; trimmed; and given back as a text or a descriptors file.
+// The panel where sets are made: of texts, of pieces, of a descriptors file; trimmed; and given back as a text or a descriptors file.
 import { FACTS } from "./facts.js";
 import { byId, button, element, fill, save } from "./element.js";
-import { ruleOf } from "./rules.js";
+import { Texts } from "./texts.js";
+import { faultRows } from "./faultrows.js";
 import { numberWords } from "./host.js";
-import { setOfDump, setOfPieces, setOfText, dumpOfSet } from "./making.js";
+import { ruleOf } from "./rules.js";
+import { likenessOf } from "./likeness.js";
+import { setOfDump, setOfPieces, dumpOfSet } from "./making.js";
+import { withoutMirrors } from "./pairs.js";
 import { Mistake, textOf } from "./text.js";
 import { readFile, textOfFile } from "./files.js";
+import { cOf } from "./clanguage.js";
+import { KINDS } from "./board.js";
 import { countWords } from "./bytes.js";
 
 const accepted = (words) => element("p", { class: "outcome accepted" }, words);
 const refused = (words) => element("p", { class: "outcome refused" }, words);
-const refusal = (number) => refused(`Refused with ${number}: ${numberWords(number)}`);
-
-// Why the opener would refuse what was made, and the line or the piece that is to blame.
-function reasonLines(reason) {
-    if (reason.words)
-        return [element("p", {}, reason.words)];
-    const rule = ruleOf(reason.rule), blamed = reason.piece;
-    const where = blamed?.line ? `line ${blamed.line.number}: ${blamed.line.text}` : blamed ? `the piece of type ${blamed.type}, index ${blamed.index}` : "";
-    return [
-        element("p", {}, `The opener would refuse the set with ${reason.number}: ${numberWords(reason.number)}.`),
-        rule && element("p", {}, element("strong", {}, `Rule ${rule.number}: `), rule.rule),
-        where && element("p", {}, `See ${where}`),
-    ];
-}
+const refusal = (number, what) => [refused(`Refused with ${number}: ${what}.`), element("p", {}, `Number ${number}: ${numberWords(number)}.`)];
+const saveButton = (file, content) => button(`Save ${file}`, () => save(file, content), { "data-file": file });
+const FILES = { one: ["set.bin"], two: ["full.bin", "high.bin"], super: ["set.bin"] };
 
 export class Workshop {
     constructor(library, { onmade, lent }) {
         Object.assign(this, { library, onmade, lent });
-        const { text } = byId("maker-form").elements;
-        text.value = FACTS.texts[0].text;
-        text.addEventListener("input", () => this.later());
-        fill(byId("texts"), FACTS.texts.map((one) => button(one.name, () => this.setText(one.text))));
+        this.texts = new Texts(library, { onwritten: (made, name) => this.tellOfText(made, name) });
         fill(byId("text-help"), FACTS.textHelp);
         byId("choose-text").addEventListener("change", (event) => this.take(event.target, ({ bytes }) => this.setText(textOfFile(bytes))));
         byId("choose-pieces").addEventListener("change", (event) => this.take(event.target, ({ bytes, name }) => this.usePieces(bytes, name)));
         byId("choose-dump").addEventListener("change", (event) => this.take(event.target, ({ bytes, name }) => this.useDump(bytes, name)));
         byId("trim").addEventListener("click", () => this.trim());
-        byId("to-text").addEventListener("click", () => this.toText());
+        byId("to-text").addEventListener("click", () => this.toText(false));
+        byId("to-words").addEventListener("click", () => this.toText(true));
         byId("to-dump").addEventListener("click", () => this.toDump());
     }
 
@@ -48,75 +41,100 @@ export class Workshop {
     }
 
     setText(text) {
-        byId("maker-form").elements.text.value = text;
-        this.write();
-    }
-
-    // While a person types, the set is written a moment after the last letter.
-    later() {
-        clearTimeout(this.waiting);
-        this.waiting = setTimeout(() => this.write(), 150);
+        this.texts.set(text);
     }
 
     look() {
-        if (!this.looked)
-            this.write();
-        this.looked = true;
-    }
-
-    write() {
-        this.looked = true;
-        this.tell(byId("written"), setOfText(this.library, byId("maker-form").elements.text.value, this.kind()), "written set");
-    }
-
-    kind() {
-        return this.lent().kind === "super" && this.library.has("hk_super_write") ? "super" : "one";
+        this.texts.look();
     }
 
     usePieces(bytes, name) {
-        this.tell(byId("of-files"), setOfPieces(this.library, bytes, this.lent().serial, this.kind()), name);
+        this.tell(byId("of-files"), setOfPieces(this.library, bytes, this.lent().serial, this.lent().kind === "super" ? "super" : "one"), name);
     }
 
     useDump(bytes, name) {
         this.tell(byId("of-files"), setOfDump(this.library, bytes), name);
     }
 
-    // What came of it: the set, to be saved and looked at, or why there is none.
+    // What came of the text: below it all of it, and above it, where a person who types looks, in a few words.
+    tellOfText(made, name) {
+        byId("written-brief").className = `outcome ${made.number === 0 ? "accepted" : "refused"}`;
+        byId("written-brief").textContent = briefly(made);
+        this.tell(byId("written"), made, name);
+    }
+
+    // What came of it, and of what: the sets, to be saved and looked at, or why there are none.
     tell(place, made, name) {
-        const look = (set, words) => () => this.onmade(set, made.serial, words, this.kind());
+        place.className = `made verdict ${made.number === 0 ? "accepted" : "refused"}`;
         if (made.mistake)
-            return fill(place, refused(`The text cannot be read: ${made.mistake}`));
-        if (made.number !== 0) {
-            const laid = made.reason?.set;
-            return fill(place, refusal(made.number), made.reason && reasonLines(made.reason), laid && button("Look at the refused set", look(laid, `${name}, refused`)));
-        }
-        return fill(place, accepted(`Wrote ${countWords(made.set.length, "byte")}; the set is accepted.`), element("div", { class: "buttons" },
-            button("Save set.bin", () => save("set.bin", made.set), { class: "save-set" }),
-            button("Save unit.bin", () => save("unit.bin", made.serial)),
-            made.pieces && button("Save pieces.bin", () => save("pieces.bin", made.pieces)),
-            button("Look at it", look(made.set, name))));
+            return fill(place, refused(`Not read: ${name}. ${made.mistake}`), made.line && this.texts.lead(made.line, made.text));
+        if (made.number !== 0)
+            return fill(place, this.refusedRows(made, name));
+        const lengths = made.sets.map((set, at) => `${FILES[made.kind][at]}: ${countWords(set.length, "byte")}`).join(", ");
+        return fill(place, accepted(`Accepted: ${name}. Wrote ${lengths}.`), this.saveButtons(made, name));
+    }
+
+    refusedRows(made, name) {
+        const { number, reason } = made;
+        return [
+            reason?.number ? refused(`Refused with ${number}: ${name}.`) : refusal(number, name),
+            reason && this.reasonRows(made),
+            reason?.set && this.lookButton(made, [reason.set], `${name}, refused`),
+        ];
+    }
+
+    // Why the opener would refuse what was made: each fault, and the line or the piece that is to blame.
+    reasonRows({ reason, serial, number, kind }) {
+        if (reason.words)
+            return element("p", {}, reason.words);
+        const like = kind === "one" ? likenessOf(this.library, reason.set, serial) : null;
+        const line = (fault) => (fault.line ? this.texts.lead(fault.line) : pieceWords(fault));
+        return [
+            element("p", {}, `${number === reason.number ? "Number" : "The opener would refuse the set with"} ${reason.number}: ${numberWords(reason.number)}.`),
+            typeof reason.at === "number" && element("p", {}, `It is about the ${KINDS.two.sets[reason.at]}, of the ${reason.at === 0 ? "first" : "second"} text.`),
+            reason.causes && element("ul", { class: "causes" }, reason.causes.map((words) => element("li", {}, words))),
+            faultRows(reason.faults, { set: reason.set, serial, line }),
+            like && element("p", { class: "hinted" }, element("strong", {}, `${like.words.replace(/^./, (letter) => letter.toUpperCase())}.`)),
+        ];
+    }
+
+    lookButton({ serial, kind }, sets, name) {
+        const words = sets.length > 1 ? "Look at them" : name.endsWith("refused") ? "Look at the refused set" : "Look at it";
+        return button(words, () => this.onmade({ kind, sets, serial, name }));
+    }
+
+    saveButtons(made, name) {
+        const { kind, sets, serial, pieces } = made, files = FILES[kind];
+        return element("div", { class: "buttons" },
+            sets.map((set, at) => saveButton(files[at], set)),
+            saveButton("unit.bin", serial),
+            pieces && saveButton("pieces.bin", pieces),
+            button("Save as C", () => save("device.h", cOf(made, `Of ${name}: ${KINDS[kind].open} accepts it.`)), { "data-file": "device.h" }),
+            this.lookButton(made, sets, name));
     }
 
     // ---- the set that is lent
     trim() {
         const { sets: [set], serial } = this.lent(), { number, written } = this.library.trim(set, serial);
         if (number !== 0)
-            return fill(byId("of-lent"), refusal(number));
+            return fill(byId("of-lent"), refusal(number, "the set above"));
         const strings = countWords(set[2] - written[2], "string"), bytes = countWords(set.length - written.length, "byte"), left = countWords(written.length, "byte");
         const words = set.length === written.length ? "Nothing to trim: every string is named." : `Trimmed: ${strings} less, ${bytes} less, ${left} left.`;
         return fill(byId("of-lent"), accepted(words),
             element("p", { class: "quiet" }, "A string that only a class descriptor or your own host program names is dropped too: keep a copy of the set."),
             element("div", { class: "buttons" },
-                button("Save trimmed.bin", () => save("trimmed.bin", written)),
-                button("Look at it", () => this.onmade(written, serial, "trimmed set", "one"))));
+                saveButton("trimmed.bin", written),
+                button("Look at it", () => this.onmade({ sets: [written], serial, name: "trimmed set" }))));
     }
 
-    toText() {
-        const { sets: [set], serial } = this.lent();
+    toText(inWords) {
+        const { kind, sets, serial } = this.lent();
         try {
-            const text = textOf(set, serial);
-            this.setText(text);
-            fill(byId("of-lent"), accepted("Its text stands above."), button("Save set.txt", () => save("set.txt", text)));
+            const texts = kind === "two" ? sets.map((set) => textOf(withoutMirrors(set), serial, inWords)) : [textOf(sets[0], serial, inWords)];
+            this.texts.setAll(kind, ...texts);
+            const files = kind === "two" ? ["full.txt", "high.txt"] : ["set.txt"];
+            fill(byId("of-lent"), accepted(texts.length > 1 ? "Their texts stand above." : "Its text stands above."),
+                element("div", { class: "buttons" }, texts.map((text, at) => saveButton(files[at], text))));
         } catch (error) {
             if (!(error instanceof Mistake))
                 throw error;
@@ -127,15 +145,28 @@ export class Workshop {
     toDump() {
         const { sets: [set], serial } = this.lent(), { number, written } = dumpOfSet(this.library, set, serial);
         if (number !== 0)
-            return fill(byId("of-lent"), refusal(number));
+            return fill(byId("of-lent"), refusal(number, "the set above"));
         const words = `A descriptors file of ${countWords(written.length, "byte")}, without the strings.`;
-        return fill(byId("of-lent"), accepted(words), button("Save descriptors", () => save("descriptors", written)));
+        return fill(byId("of-lent"), accepted(words), saveButton("descriptors", written));
     }
 
     // A new set is lent: what was told of the old one goes.
     lend(board) {
         fill(byId("of-lent"));
-        byId("lent-tools").hidden = board.kind !== "one";
-        byId("maker-kind").textContent = `It is written as a ${this.kind() === "super" ? "SuperSpeed set" : "set for a board that lends one set, at full speed"}.`;
+        byId("trim").hidden = byId("to-dump").hidden = board.kind !== "one";
+        const text = board.sets.length > 1 ? "Texts of the sets" : "Text of the set";
+        [byId("to-text").textContent, byId("to-words").textContent] = [text, `${text}, in words`];
     }
 }
+
+function briefly({ mistake, number, sets, reason }) {
+    if (mistake)
+        return `Not read: ${mistake}`;
+    if (number === 0)
+        return `Accepted, ${sets.map(({ length }) => countWords(length, "byte")).join(" and ")}`;
+    const [fault, ...others] = reason?.faults ?? [];
+    const where = fault?.line ? `line ${fault.line.number}, ` : "", more = others.length > 0 ? `, and ${countWords(others.length, "fault")} more` : "";
+    return fault ? `Refused: ${where}rule ${fault.rule}, ${ruleOf(fault.rule).rule}${more}` : `Refused with ${number}`;
+}
+
+const pieceWords = ({ piece, inDump }) => (piece && inDump === undefined ? `the piece of type ${piece.type}, index ${piece.index}` : "");

@@ -74,7 +74,7 @@ export class Browser {
     // Waits until an expression holds.
     async until(expression, milliseconds = PATIENCE) {
         for (const end = Date.now() + milliseconds; Date.now() < end; await new Promise((wake) => setTimeout(wake, 20)))
-            if (await this.evaluate(expression))
+            if (await this.evaluate(expression).catch(() => false)) // while a page is loaded, there may be none to ask
                 return;
         throw new Error(`this does not come about: ${expression}`);
     }
@@ -82,6 +82,13 @@ export class Browser {
     async visit(address) {
         await this.send("Page.navigate", { url: address });
         await this.until("document.readyState === 'complete'");
+    }
+
+    // Loads the page again; `ready` says when it stands.
+    async reload(ready) {
+        await this.evaluate("document.body.replaceChildren(), delete document.body.dataset.ready");
+        await this.send("Page.reload");
+        await this.until(ready);
     }
 
     async size(width, height, scale = 1) {

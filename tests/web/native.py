@@ -1,15 +1,23 @@
 """native.py HOST HARNESS: what the native programs say of the sets that the page is shown, as JSON: the lister, the bench host, makers/read, the makers'
-program's trim, export and, of recorded devices, import; and the sets that it writes of the texts."""
+program's trim, export and, of recorded devices, import; what makers/explain says of refused sets; and the sets that are written of the texts."""
 import json, os, random, re, subprocess, sys, tempfile
 
 sys.path.insert(1, os.path.dirname(os.path.dirname(os.path.abspath(__file__))))
 sys.dont_write_bytecode = True
 
-from shared import EMULATE, TOP, enumerations, recordings
+from shared import EMULATE, TOP, enumerations, recordings, script
 from pieces import CONFIGURATION, DEVICE, S_DEVICE, a_set, configuration, endpoint, interface
-from text import Mistake, piece, read_entries, text_of
+from text import Mistake, piece, read_entries, read_text as whole_text, text_of
 
-sys.path[1:1] = [os.path.join(TOP, "bench")]
+sys.path[1:1] = [os.path.join(TOP, "page"), os.path.join(TOP, "bench")]
+from facts import TEXTS as TEMPLATES
+from asking import LaidOut
+from dumped import dumped_set, place_in_dump
+from faults import brief
+from kinds import looks_like
+from mending import faults_of
+from pairing import laid_out, mirrors
+from served import Served
 from library import Library
 from packets import Lend, PacketCall, Transfers, order_words, pipe_words
 from script import Lending, read_script
@@ -64,11 +72,11 @@ def told(room, host, name, data, serial):
     """What is said of a set."""
     given = {"set.bin": data, "unit.bin": serial}
     try:
-        text = text_of(data, serial)
+        text, in_words = text_of(data, serial), text_of(data, serial, in_words=True)
     except Mistake:
-        text = None
+        text = in_words = None
     return {
-        "name": name, "set": data.hex(), "serial": serial.hex(), "text": text,
+        "name": name, "set": data.hex(), "serial": serial.hex(), "text": text, "inWords": in_words,
         "listing": room.program("lister", given)[0], "explained": explained(room, given),
         "transcript": room.run([host, "set.bin", "unit.bin"], given, "no such file")[0],
         "trimmed": room.program("maker trim", given, "trimmed.bin")[1],
@@ -95,12 +103,13 @@ def read_as(source):
 
 def misread(count):
     """Texts with words left out, doubled or put elsewhere."""
-    drawn, sources = random.Random(1), [read(path).decode() for path in TEXTS]
+    drawn, sources = random.Random(1), [read(path).decode() for path in dict.fromkeys([*TEXTS, *(path for _, _, *paths in TEMPLATES for path in paths)])]
     words = [word for source in sources for word in source.split()] + ["0", "255", "256", "65536", "0x10", "010", "-1", "#", "more", "=", '"', '"a', "ä", "bytes", "piece"]
+    words += ["bytes!", "101mA", "512mA", "9999999999999999999998mA", "bulk+interrupt", "isochronous+adaptive", "+", "EN-us", "xx-YY", "en", "Vendor", "16-in", "constructor"]
     for _ in range(count):
         lines = [line.split(" ") for line in drawn.choice(sources).splitlines()]
         for _ in range(drawn.randint(1, 3)):
-            line = drawn.choice(lines)
+            line = drawn.choice([line for line in lines if line])
             at = drawn.randrange(len(line))
             line[at : at + drawn.randint(0, 1)] = drawn.choice([[], [drawn.choice(words)], [line[at], line[at]]])
         yield read_as("\n".join(" ".join(line) for line in lines))
@@ -126,21 +135,107 @@ def stepped(library, name):
             lent["record"] = library.answer(step.event, lent["record"]).image
 
 
+# ---- refused sets
+def refused_examples():
+    """The guide's examples of sets that are lent alone."""
+    guide = script("tests", "makers", "examples")
+    with open(guide.GUIDE, encoding="utf-8") as file:
+        text = file.read()
+    sets = guide.read_sets(guide.read_blocks(text))
+    return [(example, *guide.changed(sets, example)) for example, _ in guide.read_examples(text, sets) if "+" not in example]
+
+
+def changed_titrators(data, serial, count):
+    """The titrator with one to four bytes changed."""
+    drawn = random.Random(2)
+    for at in range(count):
+        changed = bytearray(data)
+        for _ in range(drawn.randint(1, 4)):
+            changed[drawn.choice([drawn.randrange(len(data)), drawn.randrange(60, 243)])] = drawn.choice([0, 1, 2, 3, 7, 64, 128, 255, drawn.randrange(256)])
+        yield f"titrator {at}, changed", bytes(changed), serial
+
+
+def refused(room, library, sets):
+    """Every fault of each, and what it looks like."""
+    def ask(data, serial):
+        return explained(room, {"set.bin": data, "unit.bin": serial})
+
+    for name, data, serial in sets:
+        briefs = [brief(data, serial, fault) for fault in faults_of(data, serial, ask)]
+        if briefs:
+            yield {"name": name, "set": data.hex(), "serial": serial.hex(), "briefs": briefs, "looks": looks_like(data, serial, library)}
+
+
+def blamed(room, texts):
+    """Of texts that can be read: the rule and the line of each fault."""
+    def ask(data, serial):
+        return explained(room, {"set.bin": data, "unit.bin": serial})
+
+    for source in (one["source"] for one in texts if "mistake" not in one):
+        text = LaidOut(whole_text(source.splitlines()))
+        faults = faults_of(text.data, text.serial, ask)
+        yield {"source": source, "faults": [[fault.rule, getattr(text.line_of(fault), "number", 0)] for fault in faults]}
+
+
+def imported(room, name, dump):
+    """The set of a dump; of one that breaks rules, each rule and its byte of the dump."""
+    told, made = room.program("maker import", {"descriptors": dump}, "set.bin")
+    faults = []
+    if told.startswith("refused 21"):
+        data, serial = dumped_set(dump)
+        faults = [[fault.rule, place_in_dump(data, fault)] for fault in faults_of(data, serial, lambda *lent: explained(room, dict(zip(("set.bin", "unit.bin"), lent))))]
+    return {"name": name, "dump": dump.hex(), "set": made, "faults": faults}
+
+
+# ---- texts of every kind
+def read_text(path):
+    entries, serial = read_entries(read(path).decode().splitlines())
+    return [entry for _, entry in entries], serial
+
+
+def templates(room):
+    """The sets of each text that the page offers to start from."""
+    for kind, name, *paths in TEMPLATES:
+        texts = [read_text(path) for path in paths]
+        serial = next((serial for _, serial in texts if serial), b"")
+        if kind == "two":
+            (full, _), (high, _) = texts
+            sets = [laid_out(full + list(mirrors(high))).hex(), laid_out(high + list(mirrors(full))).hex()]
+        else:
+            pieces = b"".join(map(piece, texts[0][0]))
+            sets = [room.program("maker write" + " super" * (kind == "super"), {"pieces.bin": pieces, "unit.bin": serial}, "set.bin")[1]]
+        yield {"kind": kind, "name": name, "sets": sets, "serial": serial.hex()}
+
+
+def other_kinds(templates):
+    """Sets that are no single full-speed set."""
+    for one in templates:
+        if one["kind"] != "one":
+            yield from ((f"{one['name']}, {one['kind']} {at}", bytes.fromhex(data), bytes.fromhex(one["serial"])) for at, data in enumerate(one["sets"]))
+    entries, serial = read_text("makers/titrator-high.txt")
+    yield "the titrator's high-speed text alone", laid_out(entries), serial
+
+
 def main():
     host, harness = map(os.path.abspath, sys.argv[1:])
-    with tempfile.TemporaryDirectory() as folder, Library([EMULATE, harness]) as library:
+    with tempfile.TemporaryDirectory() as folder, Library([EMULATE, harness]) as library, Served([EMULATE, harness]) as served:
         room = Room(folder)
+        offered, titrator, mistaken = list(templates(room)), read_text("makers/titrator.txt"), list(misread(800))
         texts = [written(room, path) for path in TEXTS]
         sets = [(path, read(path), read(unit) if unit else b"") for path, unit in SETS]
         sets += [(text["name"], bytes.fromhex(text["set"]), bytes.fromhex(text["serial"])) for text in texts if text["set"]]
         json.dump({
             "texts": texts,
-            "misread": list(misread(400)),
+            "templates": offered,
+            "kinds": list(refused(room, served, other_kinds(offered))),
+            "explained": list(refused(room, served, [*refused_examples(), *changed_titrators(laid_out(titrator[0]), titrator[1], 60)])),
+            "misread": mistaken,
             "packets": list(stepped(library, "bench/scripts/packets.txt")),
+            "blamed": list(blamed(room, mistaken)),
             "sets": [told(room, host, *one) for one in sets],
             "recorded": [told(room, host, *one) for one in enumerations()],
             "long": [{"name": name, "set": data.hex(), "serial": serial.hex(), "listing": room.program("lister", {"set.bin": data, "unit.bin": serial})[0]} for name, data, serial in long_sets()],
-            "dumps": [{"name": name, "dump": dump.hex(), "set": room.program("maker import", {"descriptors": dump}, "set.bin")[1]} for name, dump in recordings()],
+            "dumps": [imported(room, name, dump) for name, dump in recordings()],
         }, sys.stdout)
 
 

@@ -1,52 +1,17 @@
 // page.mjs PAGE NATIVE BROWSER VECTORS..: the makers' page in a browser, as a maker uses it, held to what the native programs say (NATIVE, from native.py).
-// page.mjs --picture PAGE BROWSER FILE: a picture of the page.
-import { mkdtempSync, mkdirSync, readFileSync, existsSync, readdirSync, rmSync, writeFileSync } from "node:fs";
-import { tmpdir } from "node:os";
-import { basename, join, resolve } from "node:path";
+// page.mjs --picture PAGE BROWSER FILE: a picture of the page, with what it shows in words; PAGE NATIVE .. holds FILE docs/page.png to today's page.
+import { readFileSync, rmSync, writeFileSync } from "node:fs";
+import { basename, resolve } from "node:path";
 import { pathToFileURL } from "node:url";
 import { Browser } from "./browser.mjs";
+import { Room, counted, dropSet, freshName, hold, openPanel, overflow, textOf, typeText, verdict } from "./room.mjs";
+import { checkPeople } from "./people.mjs";
+import { checkPicture, takePicture } from "./picture.mjs";
 import { subsequence } from "./transcript.mjs";
 
 const DEVICES = 12; // so many recorded devices are dropped
+const PANELS = ["set", "enumeration", "requests", "compare", "make"];
 const QUICK = 500; // milliseconds of work from a drop to the picture
-let failures = 0, held = 0;
-
-function hold(what, found, expected = true) {
-    held++;
-    if (found === expected)
-        return;
-    failures++;
-    console.log(`page: ${what} DISAGREES: ${String(found).slice(0, 400)}, and not ${String(expected).slice(0, 400)}`);
-}
-
-const textOf = (browser, selector) => browser.call((wanted) => document.querySelector(wanted)?.textContent ?? null, selector);
-const openPanel = (browser, name) => browser.press(`#tab-${name}`);
-
-class Room {
-    constructor() {
-        this.folder = mkdtempSync(join(tmpdir(), "page-"));
-        this.saved = join(this.folder, "saved");
-        mkdirSync(this.saved);
-    }
-
-    file(name, content) {
-        const path = join(this.folder, name);
-        writeFileSync(path, content);
-        return path;
-    }
-
-    // The file that was saved last under this name, when it is whole.
-    async savedFile(name) {
-        const path = join(this.saved, name);
-        for (const end = Date.now() + 10000; Date.now() < end; await new Promise((wake) => setTimeout(wake, 20)))
-            if (existsSync(path) && !readdirSync(this.saved).some((one) => one.endsWith(".crdownload"))) {
-                const content = readFileSync(path);
-                rmSync(path);
-                return content;
-            }
-        return null;
-    }
-}
 
 // ---- what is shown
 // The tree as the lister's lines have it.
@@ -80,20 +45,9 @@ const stepLines = () => [...document.querySelectorAll("#steps > li")].flatMap((i
     return [first, ...(answer ? [`  -> ${answer}`] : []), ...data.map(([bytes, words]) => `     ${bytes}  ${words}`), ...after];
 });
 
-let dropped = 0;
-
-// Each under a name of its own, so that it is seen when it is shown.
-async function dropSet(browser, room, { name, set, serial }) {
-    const stem = `${++dropped}-${basename(name).replace(/\.\w+$/, "")}`, files = [room.file(`${stem}.bin`, Buffer.from(set, "hex"))];
-    if (serial !== "")
-        files.push(room.file(`${stem}-unit.bin`, Buffer.from(serial, "hex")));
-    await browser.drop(files);
-    await browser.until(`document.getElementById("set-name").textContent.startsWith(${JSON.stringify(`${stem}.bin, `)})`);
-}
-
 // The rule in words, and the byte, marked among the others.
 async function checkRule(browser, { name, explained, serial, set }) {
-    const rule = await textOf(browser, "#verdict .rule"), lead = await textOf(browser, "#show-place");
+    const rule = await textOf(browser, "#verdict .rule"), lead = await textOf(browser, "#verdict .lead");
     const marked = await browser.evaluate("document.querySelector('.byte.broken')?.id ?? null");
     hold(`the rule of ${name}`, /^Rule (\d+): ./.exec(rule ?? "")?.[1], `${explained?.[1]}`);
     if ((explained?.[0] === 6 ? serial : set) !== "")
@@ -104,7 +58,7 @@ async function checkSet(browser, room, told) {
     const { name, listing, transcript } = told, refused = /^REFUSED (\d+)/.exec(listing);
     await openPanel(browser, "set");
     await dropSet(browser, room, told);
-    hold(`the verdict of ${name}`, (await textOf(browser, "#verdict h2")).split(":")[0], refused ? `Refused with ${refused[1]}` : "Accepted");
+    hold(`the verdict of ${name}`, await verdict(browser), refused ? `Refused with ${refused[1]}` : "Accepted");
     hold(`the lister's lines of ${name}`, await textOf(browser, "#listing"), listing);
     if (refused && (await browser.evaluate("heideklonk.library.has('hk_explain')")))
         await checkRule(browser, told);
@@ -142,7 +96,7 @@ async function checkLinks(browser, room, native) {
     hold("the node of a byte", await browser.evaluate("document.querySelector('#tree [aria-selected=true]').node.title"), "device");
     await browser.evaluate("document.getElementById('changed').value = '07'");
     await browser.press("#fields button[type=submit]");
-    hold("a changed byte is judged at once", (await textOf(browser, "#verdict h2")).split(":")[0], "Refused with 3");
+    hold("a changed byte is judged at once", await verdict(browser), "Refused with 3");
 }
 
 // ---- the keyboard alone
@@ -168,7 +122,7 @@ async function checkNames(browser) {
     await browser.send("Accessibility.enable");
     const roles = new Set(["button", "textbox", "combobox", "tab", "tabpanel", "tree", "treeitem", "grid", "log", "list", "status", "link", "region"]);
     let named = 0;
-    for (const panel of ["set", "enumeration", "requests", "make"]) {
+    for (const panel of PANELS) {
         await openPanel(browser, panel);
         const { nodes } = await browser.send("Accessibility.getFullAXTree");
         const controls = nodes.filter(({ ignored, role }) => !ignored && roles.has(role?.value) && role.value !== "list" && role.value !== "status");
@@ -213,13 +167,6 @@ async function checkRequests(browser, room, native) {
 }
 
 // ---- sets made
-async function typeText(browser, text) {
-    await browser.evaluate("document.getElementById('text').value = ''; document.getElementById('text').focus()");
-    await browser.type(text);
-    await browser.until("document.querySelector('#written .outcome')");
-    await new Promise((wake) => setTimeout(wake, 400));
-}
-
 async function checkTexts(browser, room, native) {
     for (const { name, source, set, serial } of native.texts) {
         await openPanel(browser, "make");
@@ -228,11 +175,11 @@ async function checkTexts(browser, room, native) {
             hold(`${name} is refused`, (await textOf(browser, "#written .outcome")).startsWith("Refused with 21"));
             continue;
         }
-        await browser.press("#written .save-set");
+        await browser.press("#written [data-file='set.bin']");
         const saved = await room.savedFile("set.bin");
         hold(`the saved set of ${name}`, saved?.toString("hex"), set);
         await dropSet(browser, room, { name: "saved.bin", set: saved.toString("hex"), serial });
-        hold(`${name}, saved and read back`, await textOf(browser, "#verdict h2"), "Accepted");
+        hold(`${name}, saved and read back`, await verdict(browser), "Accepted");
     }
     await openPanel(browser, "make");
     await typeText(browser, "device\nconfiguration bMaxPower 251\ninterface");
@@ -254,7 +201,7 @@ async function checkMade(browser, room, native) {
             hold(`the import of ${name}`, /^Refused with 2[13]/.test(outcome));
             continue;
         }
-        await browser.press("#of-files .save-set");
+        await browser.press("#of-files [data-file='set.bin']");
         hold(`the import of ${name}`, (await room.savedFile("set.bin"))?.toString("hex"), set);
     }
     const trims = native.recorded.filter(({ trimmed }) => trimmed !== null).slice(0, 3);
@@ -269,6 +216,8 @@ async function checkMade(browser, room, native) {
         hold(`the exported ${told.name}`, (await room.savedFile("descriptors"))?.toString("hex"), told.exported);
         await browser.press("#to-text");
         hold(`the text of ${told.name}`, await browser.evaluate("document.getElementById('text').value"), told.text);
+        await browser.press("#to-words");
+        hold(`the text of ${told.name}, in words`, await browser.evaluate("document.getElementById('text').value"), told.inWords);
     }
     console.log(`${dumps.length} descriptors files imported, ${trims.length} sets trimmed, exported and read as texts`);
 }
@@ -301,9 +250,9 @@ async function checkWidths(browser, room, native) {
     await dropSet(browser, room, native.sets.find(({ name }) => name.includes("titrator")));
     for (const width of [320, 360, 768, 1280]) {
         await browser.size(width, 800);
-        for (const panel of ["set", "enumeration", "requests", "make"]) {
+        for (const panel of PANELS) {
             await openPanel(browser, panel);
-            hold(`no panel is wider than ${width}`, await browser.evaluate("document.documentElement.scrollWidth <= innerWidth"));
+            hold(`no panel is wider than ${width} (${panel})`, await overflow(browser, width), "");
         }
     }
     await browser.size(1200, 900);
@@ -325,21 +274,22 @@ function boardsIn(files) {
 }
 
 async function lendKind(browser, room, kind, { set, high, serial }) {
-    const file = (name, text) => room.file(`${++dropped}-${name}`, Buffer.from(text === "-" ? "" : text, "hex")), chosen = { set, serial, ...(kind === "two" && { high }) };
+    const chosen = { set, serial, ...(kind === "two" && { high }) };
     await browser.call((value) => {
         document.getElementById("kind").value = value;
         document.getElementById("kind").dispatchEvent(new Event("change"));
     }, kind);
     for (const [name, text] of Object.entries(chosen)) {
-        await browser.chooseFiles(`#choose-${name}`, [file(`${name}.bin`, text)]);
-        await browser.until(`heideklonk.page.${name === "serial" ? "serial" : `sets[${Number(name === "high")}]`}.name.startsWith("${dropped}-")`);
+        const fresh = freshName(`${name}.bin`);
+        await browser.chooseFiles(`#choose-${name}`, [room.file(fresh, Buffer.from(text === "-" ? "" : text, "hex"))]);
+        await browser.until(`heideklonk.page.lent.${name}.name === ${JSON.stringify(fresh)}`);
     }
 }
 
 async function checkTwo(browser, room, lent) {
-    const broken = (text) => `${text.slice(0, 6)}01${text.slice(8)}`, verdict = () => textOf(browser, "#verdict h2");
+    const broken = (text) => `${text.slice(0, 6)}01${text.slice(8)}`;
     await lendKind(browser, room, "two", lent);
-    hold("a pair is accepted", await verdict(), "Accepted");
+    hold("a pair is accepted", await verdict(browser), "Accepted");
     await openPanel(browser, "requests");
     hold("a reset to high speed", (await say(browser, "reset to high")).join(" | ").includes("high speed"));
     hold("the device_qualifier", (await say(browser, "GET_DESCRIPTOR device_qualifier")).join(" | ").includes("10 bytes in one packet"));
@@ -347,14 +297,14 @@ async function checkTwo(browser, room, lent) {
     await browser.evaluate("document.getElementById('speed').value = '1'; document.getElementById('speed').dispatchEvent(new Event('change'))");
     hold("an enumeration at high speed", (await textOf(browser, "#steps")).includes("other_speed_configuration"));
     await lendKind(browser, room, "two", { ...lent, high: broken(lent.high) });
-    hold("the high-speed set is to blame", (await verdict()).split(":")[0], "Refused with 1 in the high-speed set");
+    hold("the high-speed set is to blame", await verdict(browser), "Refused with 1 in the high-speed set");
     await lendKind(browser, room, "two", { ...lent, set: broken(lent.set) });
-    hold("the full-speed set is to blame", (await verdict()).split(":")[0], "Refused with 1 in the full-speed set");
+    hold("the full-speed set is to blame", await verdict(browser), "Refused with 1 in the full-speed set");
 }
 
 async function checkSuper(browser, room, lent) {
     await lendKind(browser, room, "super", lent);
-    hold("a SuperSpeed set is accepted", await textOf(browser, "#verdict h2"), "Accepted");
+    hold("a SuperSpeed set is accepted", await verdict(browser), "Accepted");
     await openPanel(browser, "set");
     hold("its companions are shown", (await textOf(browser, "#tree")).includes("companion"));
     await openPanel(browser, "enumeration");
@@ -414,27 +364,17 @@ async function test([page, natively, program, ...vectors]) {
         await checkLong(browser, room, native);
         await checkWidths(browser, room, native);
         await checkKinds(browser, room, vectors);
+        await checkPeople(browser, room, native, vectors);
         await checkVectors(browser, vectors);
+        await checkPicture(browser, "docs/page.png");
         checkQuiet(browser, address);
     } finally {
         await browser.end();
         rmSync(room.folder, { recursive: true, force: true });
     }
-    console.log(`page: ${held} comparisons, ${failures} failed`);
-    process.exit(failures === 0 ? 0 : 1);
-}
-
-async function picture([page, program, file]) {
-    const browser = await open(program, pathToFileURL(resolve(page)).href);
-    try {
-        await browser.size(1200, 1000);
-        await browser.evaluate("[...document.querySelectorAll('#examples button')].at(-1).click()");
-        await new Promise((wake) => setTimeout(wake, 300));
-        writeFileSync(file, await browser.picture());
-    } finally {
-        await browser.end();
-    }
+    console.log(`page: ${counted.held} comparisons, ${counted.failures} failed`);
+    process.exit(counted.failures === 0 ? 0 : 1);
 }
 
 const words = process.argv.slice(2);
-await (words[0] === "--picture" ? picture(words.slice(1)) : test(words));
+await (words[0] === "--picture" ? takePicture(open, ...words.slice(1)) : test(words));

@@ -9,7 +9,8 @@ const [folder, module, natively, ...vectors] = process.argv.slice(2);
 const script = (name) => import(pathToFileURL(join(folder, `${name}.js`)));
 const { Library } = await script("library"), { Board } = await script("board"), { Host, stepLines } = await script("host");
 const { listing } = await script("set"), { Mistake, piece, readEntries, textOf } = await script("text");
-const { dumpOfSet, setOfDump, setOfText } = await script("making"), { joined } = await script("bytes"), { recordWords } = await script("record");
+const { dumpOfSet, pairOfTexts, setOfDump, setOfText } = await script("making"), { joined } = await script("bytes"), { recordWords } = await script("record");
+const { brief } = await script("faults"), { faultsOf } = await script("mending"), { likenessOf } = await script("likeness"), { FACTS } = await script("facts"), { highSpeedText } = await script("highspeed");
 const { Transfers, orderWords, pipeWords, readCall, readPipe } = await script("packets");
 const { subsequence } = await import("./transcript.mjs");
 
@@ -47,18 +48,44 @@ for (const { source, ...expected } of native.misread)
     hold("a text with mistakes", JSON.stringify(readAs(source)), JSON.stringify(expected));
 for (const { name, source, set } of native.texts) {
     const made = setOfText(library, source);
-    hold(`the set of ${name}`, made.number === 0 ? textOfBytes(made.set) : null, set);
+    hold(`the set of ${name}`, made.number === 0 ? textOfBytes(made.sets[0]) : null, set);
 }
+for (const { source, faults } of native.blamed)
+    hold("the lines of a text with faults", JSON.stringify(setOfText(library, source).reason?.faults?.map(({ rule, line }) => [rule, line?.number ?? 0]) ?? []), JSON.stringify(faults));
 console.log(`${native.misread.length + native.texts.length} texts read as makers/write reads them`);
+
+for (const { kind, name, text, high } of FACTS.texts) {
+    const expected = native.templates.find((one) => one.kind === kind && one.name === name), made = kind === "two" ? pairOfTexts(library, text, high) : setOfText(library, text, kind);
+    hold(`the sets of ${name}, ${kind}`, made.number === 0 ? made.sets.map(textOfBytes).join(" ") : made.mistake ?? made.number, expected.sets.join(" "));
+}
+console.log(`${FACTS.texts.length} texts to start from give the native programs' sets`);
+
+// A full-speed text at high speed: the pair's second set of the first text alone.
+for (const { name, text, high } of FACTS.texts.filter(({ kind }) => kind === "two"))
+    hold(`${name} at high speed`, pairOfTexts(library, text, highSpeedText(text)).sets?.map(textOfBytes).join(" "), pairOfTexts(library, text, high).sets.map(textOfBytes).join(" "));
+for (const { name, text } of FACTS.texts.filter(({ kind }) => kind === "one"))
+    hold(`${name} as a pair`, pairOfTexts(library, text, highSpeedText(text)).number, 0);
+
+// ---- refused sets
+let faults = 0;
+for (const { name, set, serial, briefs, looks } of [...native.explained, ...native.kinds]) {
+    const [bytes, block] = [bytesOf(set), bytesOf(serial)], found = faultsOf(library, bytes, block).map((fault) => brief(bytes, block, fault));
+    hold(`the faults of ${name}`, found.join("\n"), briefs.join("\n"));
+    hold(`what ${name} looks like`, likenessOf(library, bytes, block)?.words ?? "", looks);
+    faults += found.length;
+}
+console.log(`${faults} faults of ${native.explained.length + native.kinds.length} refused sets told as makers/explain tells them, and what each looks like`);
 
 // ---- sets
 const sets = [...native.sets, ...native.recorded];
 let steps = 0;
-for (const { name, set, serial, text, listing: listed, transcript, trimmed, exported } of sets) {
+for (const { name, set, serial, text, inWords, listing: listed, transcript, trimmed, exported } of sets) {
     const [bytes, block] = [bytesOf(set), bytesOf(serial)], board = new Board(library, "one", [bytes], block);
     hold(`the listing of ${name}`, listing(bytes, board.number).map((line) => `${line}\n`).join(""), listed);
     if (text !== null)
         hold(`the text of ${name}`, textOf(bytes, block), text);
+    if (inWords !== null)
+        hold(`the text of ${name}, in words`, textOf(bytes, block, true), inWords);
     const trim = library.trim(bytes, block), dump = dumpOfSet(library, bytes, block);
     hold(`the trimmed ${name}`, trim.number === 0 ? textOfBytes(trim.written) : null, trimmed);
     hold(`the exported ${name}`, dump.number === 0 ? textOfBytes(dump.written) : null, exported);
@@ -73,9 +100,10 @@ for (const { name, set, serial, text, listing: listed, transcript, trimmed, expo
 }
 console.log(`${sets.length} sets listed, read as a text, trimmed, exported and enumerated as the native programs do, in ${steps} steps`);
 
-for (const { name, dump, set } of native.dumps) {
+for (const { name, dump, set, faults: expected } of native.dumps) {
     const made = setOfDump(library, bytesOf(dump));
-    hold(`the import of ${name}`, made.number === 0 ? textOfBytes(made.set) : null, set);
+    hold(`the faults of the import of ${name}`, JSON.stringify(made.reason?.faults?.map(({ rule, inDump }) => [rule, inDump]) ?? []), JSON.stringify(expected));
+    hold(`the import of ${name}`, made.number === 0 ? textOfBytes(made.sets[0]) : null, set);
 }
 // ---- packet by packet
 let transfers = null;
