@@ -18,6 +18,7 @@ mod numbers;
 mod ports;
 mod table;
 mod two;
+mod version;
 
 // Opens a set with its serial block: the image becomes the fresh record, whether they are accepted or not.
 #[no_mangle]
