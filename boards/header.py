@@ -14,7 +14,8 @@ OBJECTS = {"": "heideklonk", "HK_LARGE": "tables", "HK_MAKERS": "makers", "HK_PI
 MARK = rf"(?:({'|'.join(filter(None, OBJECTS))})\s+)?"
 
 BEGINNING = """\
-/* The library's exports on a 32-bit processor: size_t outside, the module's 64-bit lengths inside. */
+/* The library's exports on a 32-bit processor: size_t outside, the module's 64-bit lengths inside. It is the library, and asks for no version. */
+#define HK_ANY_VERSION
 #include "heideklonk.h"
 
 typedef struct { const uint8_t *start; uint64_t length; } wide_part;
@@ -35,7 +36,8 @@ class Prototype:
         if not found:
             raise Unexpected(f"include/heideklonk.h has a prototype of another form: {text}")
         self.object, self.result, self.name = OBJECTS[found[1] or ""], found[2], found[3]
-        self.parameters = [self.parameter(" ".join(word.split())) for word in found[4].split(",")]
+        words = [] if found[4].strip() == "void" else found[4].split(",")
+        self.parameters = [self.parameter(" ".join(word.split())) for word in words]
 
     def parameter(self, text):
         """A parameter's type and name; an array of bytes is a pointer."""
@@ -54,8 +56,8 @@ class Prototype:
         wide = [(kind.replace("size_t", "uint64_t").replace("hk_part", "wide_part"), name) for kind, name in self.parameters]
         parts = [name for kind, name in self.parameters if kind == "hk_part *"]
         name = self.name.removeprefix("hk_")
-        lines = [f"\n{self.result} wide_{name}({', '.join(f'{kind} {word}' for kind, word in wide)});"]
-        lines.append(f"{self.result} {self.name}({', '.join(f'{kind} {word}' for kind, word in self.parameters)}) {{")
+        lines = [f"\n{self.result} wide_{name}({', '.join(f'{kind} {word}' for kind, word in wide) or 'void'});"]
+        lines.append(f"{self.result} {self.name}({', '.join(f'{kind} {word}' for kind, word in self.parameters) or 'void'}) {{")
         lines += [f"    wide_part found_{part} = {{{part}->start, {part}->length}};" for part in parts]
         lines.append(f"    {self.result} result = wide_{name}({', '.join(f'&found_{word}' if word in parts else word for _, word in self.parameters)});")
         lines += [f"    {part}->start = found_{part}.start;\n    {part}->length = (size_t)found_{part}.length;" for part in parts]
@@ -84,7 +86,7 @@ def shim(found):
 
 def whole_registers(text):
     """The header for tests on a bare machine: a result is the whole register that it comes in, and goes through `a_byte`, which tells if it is none."""
-    found = prototypes(text)
+    found = [prototype for prototype in prototypes(text) if prototype.result == "uint8_t"]
     for prototype in found:
         text = re.sub(rf"^{MARK}{prototype.result}(\s+{prototype.name}\b)", r"unsigned long\2", text, flags=re.M)
     macros = "".join(f"#define {prototype.name}(...) a_byte({prototype.name}(__VA_ARGS__))\n" for prototype in found)

@@ -37,6 +37,30 @@ extern "C" {
 #define HK_IMAGE_LENGTH 32
 #define HK_SETUP_LENGTH 8
 
+/* The release. hk_version() gives 65,536 times the first number, 256 times the second, and the third. */
+#define HK_VERSION_MAJOR 1
+#define HK_VERSION_MINOR 0
+#define HK_VERSION_PATCH 0
+#define HK_VERSION "1.0.0"
+#define hk_version hk_version_1_0_0
+
+/* The release that the archive is of. Its name has the version in it, so that an archive of another release does not link
+ * with this header: the linker then finds no hk_version_1_0_0. */
+uint32_t hk_version_1_0_0(void);
+
+/* Where the compiler can be told, every program that includes this header asks for that name, whether it calls the function
+ * or not: one word of constants in the whole program. */
+#if defined(__ELF__) && (defined(__GNUC__) || defined(__clang__)) && !defined(HK_ANY_VERSION)
+#ifdef __arm__
+#define HK_PROGBITS "%progbits"
+#else
+#define HK_PROGBITS "@progbits"
+#endif
+__asm__(".pushsection .rodata.hk_version,\"aGR\"," HK_PROGBITS ",hk_version,comdat\n"
+        ".balign 4\n.4byte hk_version_1_0_0 - .\n.popsection");
+#undef HK_PROGBITS
+#endif
+
 /* The numbers given back. */
 #define HK_DONE 0                     /* done: with 0, 1 or 2 bytes, or a part */
 #define HK_FRAME_BROKEN 1             /* opening: the set's first 4 bytes, or its length */

@@ -19,6 +19,7 @@ mod numbers;
 mod pipe;
 mod ports;
 mod two;
+mod version;
 
 // Opens a set with its serial block: the image becomes the fresh record, whether they are accepted or not.
 #[no_mangle]

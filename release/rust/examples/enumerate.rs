@@ -1,0 +1,39 @@
+//! Enumerates the bench set S as a host would, and says what comes back. Ends with 0 if it is as the guide says.
+use heideklonk::{no_record, packet, Board, Event};
+
+const SET: [u8; 63] = [
+    0x3F, 0x00, 0x02, 0x00, 0x01, 0x00, 0x00, 0x00, 0x14, 0x00, 0x12, 0x00, 0x02, 0x00, 0x00, 0x00, 0x26, 0x00, 0x19, 0x00, 0x12, 0x01, 0x00, 0x02, 0xFF, 0x00, 0x00,
+    0x08, 0x34, 0x12, 0x78, 0x56, 0x00, 0x01, 0x00, 0x00, 0x00, 0x01, 0x09, 0x02, 0x19, 0x00, 0x01, 0x01, 0x00, 0x80, 0x32, 0x09, 0x04, 0x00, 0x00, 0x01, 0xFF, 0x00,
+    0x00, 0x00, 0x07, 0x05, 0x81, 0x03, 0x08, 0x00, 0x0A,
+];
+
+fn ask(board: &Board, record: &mut heideklonk::Record, setup: [u8; 8]) {
+    let asked = u16::from_le_bytes([setup[6], setup[7]]);
+    match board.event(record, Event::Setup(&setup)) {
+        Err(refusal) => println!("{setup:02X?} STALL ({})", refusal.0),
+        Ok(answer) => {
+            println!("{setup:02X?} {:02X?}", answer.reply());
+            let mut number = 0;
+            while let Ok(next) = packet(answer.reply(), asked, 8, number) {
+                println!("    packet {number}: {next:02X?}");
+                number += 1;
+            }
+            board.event(record, Event::StatusEnd).unwrap();
+        }
+    }
+}
+
+fn main() {
+    let board = Board { set: &SET, high: None, serial: &[] };
+    let mut record = no_record();
+    board.open(&mut record).expect("S opens");
+    board.event(&mut record, Event::BusReset(0)).unwrap();
+    ask(&board, &mut record, [0x80, 0x06, 0x00, 0x01, 0x00, 0x00, 0x40, 0x00]);
+    ask(&board, &mut record, [0x00, 0x05, 0x05, 0x00, 0x00, 0x00, 0x00, 0x00]);
+    ask(&board, &mut record, [0x80, 0x06, 0x00, 0x02, 0x00, 0x00, 0xFF, 0x00]);
+    ask(&board, &mut record, [0x80, 0x06, 0x00, 0x06, 0x00, 0x00, 0x0A, 0x00]);
+    ask(&board, &mut record, [0x00, 0x09, 0x01, 0x00, 0x00, 0x00, 0x00, 0x00]);
+    assert_eq!((record.state, record.address, record.configuration), (2, 5, 1));
+    assert_eq!(board.endpoint(&record, 0), Ok(&SET[56..63]));
+    println!("release {:X}: enumerated", heideklonk::version());
+}
