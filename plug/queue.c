@@ -48,9 +48,17 @@ static void reply(const struct command *command, struct outcome outcome, const u
         memcpy(more_replies(outcome.actual), data, outcome.actual);
 }
 
-static void refuse_transfer(const struct command *command, int32_t status) {
+/* Behind it go the descriptors of an isochronous transfer's packets, whatever became of it. */
+static void reply_packets(const struct command *command, const uint8_t *packets) {
+    size_t length = packets == NULL ? 0 : (size_t)PACKET_LENGTH * command->packets;
+    if (length > 0)
+        memcpy(more_replies(length), packets, length);
+}
+
+static void refuse_transfer(const struct command *command, const uint8_t *packets, int32_t status) {
     struct outcome outcome = {status, 0, 0};
     reply(command, outcome, NULL);
+    reply_packets(command, packets);
 }
 
 /* ---- Control transfers. */
@@ -70,10 +78,6 @@ static int fits_setup(const struct command *command) {
 
 static void submit_control(const struct command *command, const uint8_t *data) {
     int failures = plugged->failures;
-    if (!fits_setup(command)) {
-        refuse_transfer(command, STATUS_INVALID);
-        return;
-    }
     uint8_t number = transfer_control(command, data);
     struct outcome outcome = {STATUS_DONE, command->length, 0};
     if (command->direction)
@@ -253,13 +257,13 @@ static int enqueue(const struct command *command, const uint8_t *data, const uin
 }
 
 void queue_submit(const struct command *command, const uint8_t *data, const uint8_t *packets) {
-    if (command->endpoint == 0)
+    if (command->endpoint == 0 && packets == NULL && fits_setup(command))
         submit_control(command, data);
-    else if (!has_sound_packets(command, packets))
-        refuse_transfer(command, STATUS_INVALID);
+    else if (command->endpoint == 0 || !has_sound_packets(command, packets))
+        refuse_transfer(command, packets, STATUS_INVALID);
     else if (waiting_count == MOST_WAITING_TRANSFERS || waiting_bytes + command->length > MOST_WAITING_BYTES ||
              !enqueue(command, data, packets))
-        refuse_transfer(command, STATUS_OUT_OF_MEMORY);
+        refuse_transfer(command, packets, STATUS_OUT_OF_MEMORY);
     queue_progress();
 }
 
@@ -274,10 +278,8 @@ void queue_unlink(const struct command *command) {
 }
 
 static void reply_waiting(const struct waiting *transfer) {
-    size_t packets = transfer->packets == NULL ? 0 : (size_t)PACKET_LENGTH * transfer->command.packets;
     reply(&transfer->command, transfer->outcome, transfer->data);
-    if (packets > 0)
-        memcpy(more_replies(packets), transfer->packets, packets);
+    reply_packets(&transfer->command, transfer->packets);
 }
 
 static unsigned endpoint_of_wait(const struct waiting *transfer) {

@@ -281,18 +281,22 @@ static void send_replies(struct connection *connection) {
     }
 }
 
-/* All that can be done without waiting. */
+/* Something of what can be done without waiting: whether to try again. Nothing may be left that no event would recall. */
+static int work(struct connection *connection) {
+    size_t before = connection->length;
+    if (connection->imported && connection->replies.length == 0)
+        queue_progress();
+    handle_messages(connection);
+    int said = connection->replies.length > 0;
+    send_replies(connection);
+    return connection->socket >= 0 && connection->replies.length == 0 && (said || connection->length != before);
+}
+
 static void serve(struct connection *connection, short happened) {
     if (happened & (POLLIN | POLLHUP | POLLERR) && connection->length < sizeof connection->read)
         receive(connection);
-    size_t before;
-    do {
-        before = connection->length;
-        if (connection->socket >= 0 && connection->imported && connection->replies.length == 0)
-            queue_progress();
-        handle_messages(connection);
-        send_replies(connection);
-    } while (connection->socket >= 0 && connection->replies.length == 0 && connection->length != before);
+    while (connection->socket >= 0 && work(connection))
+        ;
 }
 
 static struct connection *free_connection(void) {
@@ -340,7 +344,7 @@ static int listen_at_loopback(void) {
     address.sin_port = htons((uint16_t)port);
     address.sin_addr.s_addr = htonl(INADDR_LOOPBACK);
     if (listener < 0 || setsockopt(listener, SOL_SOCKET, SO_REUSEADDR, &yes, sizeof yes) != 0 ||
-        bind(listener, (struct sockaddr *)&address, sizeof address) != 0 || listen(listener, MOST_CONNECTIONS) != 0) {
+        bind(listener, (struct sockaddr *)&address, sizeof address) != 0 || listen(listener, SOMAXCONN) != 0) {
         fprintf(stderr, "plug: port %u of 127.0.0.1: %s%s\n", port, strerror(errno),
                 errno == EADDRINUSE ? " (another plug, or usbipd? --port takes another number)" : "");
         exit(2);

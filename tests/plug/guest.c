@@ -5,7 +5,8 @@
  * guest halt NODE INTERFACE IN                      SET_FEATURE halt, a transfer that stalls, and clearing by the host
  * guest usbtest NODE TEST ITERATIONS LENGTH VARY SGLEN   a test of Linux's driver usbtest
  * guest serial PORT TEXT                            a raw terminal: a line, and what comes back
- * guest cut PORT BYTES                              passes one connection on to port 3240, for so many of its caller's bytes
+ * guest cut PORT BYTES                              passes one connection on to port 3240, for so many of its caller's bytes;
+ *                                                   ends with 3 where the caller falls silent before
  *
  * Prints one line; ends with 1 where it went wrong. */
 #define _GNU_SOURCE
@@ -22,7 +23,8 @@
 #include <termios.h>
 #include <unistd.h>
 
-#define PATIENCE 5000
+#define PATIENCE 5000 /* milliseconds */
+#define SILENCE 1500
 #define MOST 65536
 
 /* usbtest's own (drivers/usb/misc/usbtest.c). */
@@ -169,14 +171,13 @@ static int cut(char **words) {
         return wrong("connect");
     while (left > 0 && went > 0) {
         struct pollfd both[] = {{caller, POLLIN, 0}, {server, POLLIN, 0}};
-        if (poll(both, 2, PATIENCE) <= 0)
-            break;
+        if (poll(both, 2, SILENCE) <= 0)
+            return 3;
         if (both[1].revents)
             went = pass_on(server, caller, MOST);
         if (both[0].revents && went > 0 && (went = pass_on(caller, server, left)) > 0)
             left -= went;
     }
-    printf("cut: %ld bytes left\n", left);
     return 0;
 }
 
