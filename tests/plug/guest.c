@@ -24,7 +24,7 @@
 #include <unistd.h>
 
 #define PATIENCE 5000 /* milliseconds */
-#define SILENCE 1500
+#define SILENCE 4000
 #define MOST 65536
 
 /* usbtest's own (drivers/usb/misc/usbtest.c). */
