@@ -30,6 +30,7 @@
 #define BUS_PATH "/sys/devices/heideklonk/usb1/1-1"
 #define DEVICE_NUMBER 0x00010001
 #define ADDRESS_FED 1
+#define SELF_POWERED 0x40 /* of bmAttributes */
 #define USBIP_FULL_SPEED 2
 #define USBIP_HIGH_SPEED 3
 
@@ -51,6 +52,17 @@ static unsigned port = PORT_OF_USBIP;
 
 /* ---- The device. */
 
+/* The first configuration's body: its entry is the second, type 2 after type 1. */
+static const uint8_t *first_configuration(void) {
+    const uint8_t *set = speed == HK_SPEED_FULL ? board.set : board.high;
+    return set + two_bytes(set + 16);
+}
+
+static const uint8_t *device_descriptor(void) {
+    const uint8_t *set = speed == HK_SPEED_FULL ? board.set : board.high;
+    return set + two_bytes(set + 8);
+}
+
 /* Each time that it is plugged in it gets power, a bus reset and an address, which the other side's host controller keeps to
  * itself. */
 static uint8_t power_on(void) {
@@ -64,6 +76,8 @@ static uint8_t power_on(void) {
 
 static void plug_in(struct connection *connection) {
     power_on();
+    if (first_configuration()[7] & SELF_POWERED)
+        wire_change_power(HK_POWER_OWN);
     queue_start(&host, &connection->replies);
     printf("\n# Attached; the host keeps resets and SET_ADDRESS to itself, so they are made up here\n");
     reset_bus_to(&host, speed);
@@ -87,17 +101,6 @@ static void reply_operation(struct connection *connection, unsigned code, uint32
     write_two(bytes, VERSION);
     write_two(bytes + 2, code & ~(unsigned)REPLY_BIT);
     write_four(bytes + 4, status);
-}
-
-/* The first configuration's body: its entry is the second, type 2 after type 1. */
-static const uint8_t *first_configuration(void) {
-    const uint8_t *set = speed == HK_SPEED_FULL ? board.set : board.high;
-    return set + two_bytes(set + 16);
-}
-
-static const uint8_t *device_descriptor(void) {
-    const uint8_t *set = speed == HK_SPEED_FULL ? board.set : board.high;
-    return set + two_bytes(set + 8);
 }
 
 static void describe_device(struct connection *connection) {

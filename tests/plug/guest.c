@@ -15,6 +15,7 @@
 #include <fcntl.h>
 #include <linux/usbdevice_fs.h>
 #include <poll.h>
+#include <signal.h>
 #include <stdio.h>
 #include <stdlib.h>
 #include <string.h>
@@ -24,7 +25,7 @@
 #include <unistd.h>
 
 #define PATIENCE 5000 /* milliseconds */
-#define SILENCE 4000
+#define SILENCE 8000
 #define MOST 65536
 
 /* usbtest's own (drivers/usb/misc/usbtest.c). */
@@ -163,6 +164,7 @@ static int cut(char **words) {
     long left = (long)number(words[1]), went = 1;
     struct sockaddr_in here = loopback(number(words[0])), there = loopback(3240);
     int listener = socket(AF_INET, SOCK_STREAM, 0), server = socket(AF_INET, SOCK_STREAM, 0), yes = 1;
+    signal(SIGPIPE, SIG_IGN);
     setsockopt(listener, SOL_SOCKET, SO_REUSEADDR, &yes, sizeof yes);
     if (bind(listener, (struct sockaddr *)&here, sizeof here) < 0 || listen(listener, 1) < 0)
         return wrong("listen");
