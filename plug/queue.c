@@ -70,10 +70,12 @@ static uint8_t transfer_control(const struct command *command, const uint8_t *da
     return give_bytes(plugged, command->setup, data);
 }
 
-/* The direction and the length that the host says are those of the setup; one without data goes to the device. */
+/* What the host says of direction and length goes with the setup. Its room may be another than wLength. */
 static int fits_setup(const struct command *command) {
-    unsigned asked = two_bytes(command->setup + 6);
-    return command->length == asked && command->direction == (asked > 0 && command->setup[0] & ENDPOINT_IN);
+    unsigned asked = two_bytes(command->setup + 6), reads = (command->setup[0] & ENDPOINT_IN) != 0;
+    if (asked == 0 || !reads)
+        return command->length == asked && (asked == 0 || !command->direction);
+    return command->direction == reads;
 }
 
 static void submit_control(const struct command *command, const uint8_t *data) {
@@ -83,9 +85,13 @@ static void submit_control(const struct command *command, const uint8_t *data) {
     if (command->direction)
         outcome.actual = (uint32_t)plugged->length;
     if (number != HK_DONE)
-        outcome.status = STATUS_STALL, outcome.actual = 0;
-    if (plugged->failures != failures)
-        outcome.status = STATUS_NO_SUCH_ENDPOINT, outcome.actual = 0;
+        outcome.status = STATUS_STALL;
+    else if (plugged->failures != failures)
+        outcome.status = STATUS_NO_SUCH_ENDPOINT;
+    else if (outcome.actual > command->length)
+        outcome.status = STATUS_OVERFLOW;
+    if (outcome.status != STATUS_DONE)
+        outcome.actual = 0;
     reply(command, outcome, plugged->bytes);
     instrument_follow_settings();
 }

@@ -1,9 +1,11 @@
-/* plug [--port NUMBER] SET [SERIAL]                  plugs a set into the computer at hand: a USB/IP server over the device loop of
- * plug_pair [--port NUMBER] [--full] FULL HIGH [SERIAL]  firmware/, which tells every control transfer; the second for a board that
- *                                                    lends two sets, at high speed or, with --full, at full speed.
- * plug [--port NUMBER]                               the titrator of firmware/sets.c; plug_pair: its pair.
+/* plug [--port NUMBER] [SET [SERIAL]]
+ * plug_pair [--port NUMBER] [--full] [FULL HIGH [SERIAL]]
  *
- * It listens on the loopback interface alone. Ends with 1 where the set is refused, with 2 where it cannot listen. */
+ * Plugs a set into the computer at hand: a USB/IP server over the device loop of firmware/, which tells every control transfer.
+ * The second is a board that lends two sets, at high speed or, with --full, at full speed. Without files it is the titrator of
+ * firmware/sets.c, or its pair.
+ *
+ * It listens on the loopback interface alone. Ends with 1 where the set is refused, with 2 where it cannot be done. */
 #include <arpa/inet.h>
 #include <errno.h>
 #include <fcntl.h>
@@ -302,6 +304,11 @@ static void serve(struct connection *connection, short happened) {
         ;
 }
 
+static void have_no_connections(void) {
+    for (size_t at = 0; at < MOST_CONNECTIONS; at++)
+        connections[at].socket = -1;
+}
+
 static struct connection *free_connection(void) {
     for (size_t at = 0; at < MOST_CONNECTIONS; at++)
         if (connections[at].socket < 0)
@@ -355,18 +362,19 @@ static int listen_at_loopback(void) {
     return listener;
 }
 
-/* One wait, and what came of it. The last place is the listener's. */
+/* What is waited for: more to read, or, while something is to be sent, that it can be. The last place is the listener's. */
+static void fill_places(struct pollfd *places, int listener) {
+    for (size_t at = 0; at < MOST_CONNECTIONS; at++) {
+        struct pollfd place = {connections[at].socket, connections[at].replies.length > 0 ? POLLOUT : POLLIN, 0};
+        places[at] = place;
+    }
+    struct pollfd last = {listener, POLLIN, 0};
+    places[MOST_CONNECTIONS] = last;
+}
+
 static void take_events(int listener) {
     struct pollfd places[MOST_CONNECTIONS + 1];
-    for (size_t at = 0; at < MOST_CONNECTIONS; at++) {
-        const struct connection *connection = &connections[at];
-        places[at].fd = connection->socket;
-        places[at].events = connection->replies.length > 0 ? POLLOUT : POLLIN;
-        places[at].revents = 0;
-    }
-    places[MOST_CONNECTIONS].fd = listener;
-    places[MOST_CONNECTIONS].events = POLLIN;
-    places[MOST_CONNECTIONS].revents = 0;
+    fill_places(places, listener);
     poll(places, MOST_CONNECTIONS + 1, queue_patience());
     for (size_t at = 0; at < MOST_CONNECTIONS; at++)
         if (connections[at].socket >= 0)
@@ -453,8 +461,7 @@ int main(int count, char **words) {
         print_refusal(number);
         return 1;
     }
-    for (size_t at = 0; at < MOST_CONNECTIONS; at++)
-        connections[at].socket = -1;
+    have_no_connections();
     int listener = listen_at_loopback();
     tell_what_to_type();
     for (;;)
