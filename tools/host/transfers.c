@@ -213,7 +213,7 @@ static void take_status(struct host *host, uint8_t number) {
     check_transfer_ended(host);
 }
 
-void give(struct host *host, const uint8_t *setup, const uint8_t *bytes, uint8_t expected) {
+uint8_t give_bytes(struct host *host, const uint8_t *setup, const uint8_t *bytes) {
     print_setup(setup);
     printf("\n  <- ");
     print_some_bytes(bytes, ASKED(setup));
@@ -226,7 +226,11 @@ void give(struct host *host, const uint8_t *setup, const uint8_t *bytes, uint8_t
     show_record(host, "");
     take_status(host, number);
     show_record(host, " after the status stage");
-    if (number != expected)
+    return number;
+}
+
+void give(struct host *host, const uint8_t *setup, const uint8_t *bytes, uint8_t expected) {
+    if (give_bytes(host, setup, bytes) != expected)
         fail(host, "not the answer that a host expects");
 }
 

@@ -43,8 +43,10 @@ void fill_setup(uint8_t *setup, uint8_t type, uint8_t code, unsigned value, unsi
 /* The setup and data stages: the answer is kept. The number is the library's; the host only sees a STALL. */
 uint8_t begin_transfer(struct host *host, const uint8_t *setup);
 
-/* A whole control transfer with so many bytes of the host's own, wLength of them; another number than the expected one
- * fails. */
+/* A whole control transfer with so many bytes of the host's own, wLength of them, printed. */
+uint8_t give_bytes(struct host *host, const uint8_t *setup, const uint8_t *bytes);
+
+/* The same; another number than the expected one fails. */
 void give(struct host *host, const uint8_t *setup, const uint8_t *bytes, uint8_t expected);
 
 /* The setup and data stages of it: the library's number, or HK_REQUEST_UNKNOWN where the application refuses the bytes. */

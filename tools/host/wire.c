@@ -101,6 +101,9 @@ void application_hear(uint8_t number) {
     wire->heard = number;
 }
 
+/* The bench's application, unless the program has one of its own. */
+#ifndef WIRE_WITHOUT_APPLICATION
+
 /* A request of the bench's own, to the device: it keeps some bytes, and gives them back. */
 static uint8_t keep_setup(const uint8_t *setup, struct application_data *data) {
     data->reply.start = data->room = wire->kept;
@@ -126,6 +129,8 @@ uint8_t application_take(const uint8_t *setup, const uint8_t *bytes, size_t leng
     wire->kept_length = length;
     return HK_PIPE_ACCEPT;
 }
+
+#endif
 
 size_t wire_open_endpoints(const uint8_t *descriptors[WIRE_MOST_ENDPOINTS]) {
     memcpy(descriptors, wire->open, sizeof wire->open);
