@@ -15,7 +15,7 @@ use Rattle.sets.specs.Opening.{Board}
 use Rattle.sets.specs.View.{accepted}
 use Rattle.records.specs.Image.{deviceOf}
 use Rattle.records.specs.Current.{setFor}
-use Rattle.requests.specs.Setup.{setupOf}
+use Rattle.requests.specs.Table.{setupOf}
 use Rattle.events.specs.declared.Event.the-variants.{Request, Malformed, BusReset}
 use Rattle.events.specs.Answer.{numberOf}
 use Rattle.events.specs.Step.{Reply, setupEvent, event}

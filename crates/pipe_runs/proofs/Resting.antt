@@ -11,7 +11,7 @@ use Rattle.sets.specs.Opening.{Board}
 use Rattle.sets.specs.View.{accepted}
 use Rattle.records.specs.Image.{deviceOf}
 use Rattle.records.specs.Fits.{fitsOn}
-use Rattle.requests.specs.Setup.{setupOf}
+use Rattle.requests.specs.Table.{setupOf}
 use Rattle.events.specs.declared.Event.the-variants.{Malformed}
 use Rattle.events.specs.declared.Outcome.{Outcome}
 use Rattle.laws.proofs.Outcomes.{chosen}

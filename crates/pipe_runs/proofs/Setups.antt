@@ -14,7 +14,7 @@ use Rattle.records.specs.Device.{inTestMode}
 use Rattle.records.specs.Image.{deviceOf}
 use Rattle.records.specs.Fits.{fitsOn}
 use Rattle.requests.specs.declared.Setup.{Setup}
-use Rattle.requests.specs.Setup.{setupOf}
+use Rattle.requests.specs.Table.{setupOf}
 use Rattle.events.specs.declared.Event.the-variants.{Request, Malformed}
 use Rattle.events.specs.Answer.{numberOf, bytesOf}
 use Rattle.events.specs.Step.{Reply, setupEvent, event}

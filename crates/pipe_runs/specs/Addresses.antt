@@ -6,7 +6,7 @@ use mathlib.Core.List.{List}
 use lib.ListN.{length}
 use lib.Dec.{eqb}
 use Rattle.sets.specs.Opening.{Board}
-use Rattle.requests.specs.Setup.{setupOf}
+use Rattle.requests.specs.Table.{setupOf}
 use Rattle.events.specs.declared.Event.the-variants.{BusReset}
 use Rattle.events.specs.Answer.{numberOf}
 use Rattle.events.specs.Step.{event}

@@ -12,7 +12,7 @@ use Rattle.records.specs.Image.{deviceOf}
 use Rattle.records.specs.Current.{setFor}
 use Rattle.events.specs.declared.Answer.{Answer}
 use Rattle.events.specs.Answer.{bytesOf, partOf}
-use Rattle.events.specs.Places.{bytesAt}
+use Rattle.events.specs.Answer.{bytesAt}
 use Rattle.events.specs.Step.{setupEvent, event}
 use Rattle.packets.specs.Packets.{count, packet}
 use Rattle.pipes.specs.Transfer.{send, await}

@@ -10,7 +10,7 @@ use Rattle.sets.specs.Device.{bMaxPacketSize0, deviceBody}
 use Rattle.records.specs.Image.{deviceOf}
 use Rattle.records.specs.Current.{setFor}
 use Rattle.requests.specs.declared.Setup.{Setup as SetupBytes}
-use Rattle.requests.specs.Setup.{setupOf}
+use Rattle.requests.specs.Table.{setupOf}
 use Rattle.events.specs.declared.Answer.{Answer}
 use Rattle.events.specs.declared.Event.{Event}
 use Rattle.events.specs.declared.Event.the-variants.{Malformed, StatusEnd, BusReset}
