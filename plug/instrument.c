@@ -190,25 +190,28 @@ static unsigned type_and_code(const uint8_t *setup) {
     return (unsigned)setup[0] << 8 | setup[1];
 }
 
-static int keep_or_give_back(const uint8_t *setup, struct application_data *data) {
+static uint8_t keep_or_give_back(const uint8_t *setup, struct application_data *data) {
     unsigned request = type_and_code(setup);
     data->reply.start = data->room = kept;
     data->reply.length = data->room_length = sizeof kept;
-    return (request == REQUEST_KEEP || request == REQUEST_GIVE_BACK) && two_bytes(setup + 2) == 0 && two_bytes(setup + 4) == 0;
+    if ((request != REQUEST_KEEP && request != REQUEST_GIVE_BACK) || two_bytes(setup + 2) != 0 || two_bytes(setup + 4) != 0)
+        return HK_PIPE_REFUSE;
+    if (two_bytes(setup + 6) == 0)
+        return HK_PIPE_ACCEPT;
+    return request == REQUEST_KEEP ? HK_PIPE_ROOM : HK_PIPE_REPLY;
 }
 
 static int is_serial_port(const uint8_t *interface) {
     return interface != NULL && interface[5] == CLASS_COMMUNICATION && interface[6] == SUBCLASS_SERIAL_PORT;
 }
 
-int application_setup(const uint8_t *setup, struct application_data *data) {
-    if (is_gadget_zero() && keep_or_give_back(setup, data))
-        return 1;
-    if ((setup[0] & 31) != RECIPIENT_INTERFACE || !is_serial_port(current_interface(setup[4])))
-        return 0;
+uint8_t application_setup(const uint8_t *setup, struct application_data *data) {
+    uint8_t answer = is_gadget_zero() ? keep_or_give_back(setup, data) : HK_PIPE_REFUSE;
+    if (answer != HK_PIPE_REFUSE || (setup[0] & 31) != RECIPIENT_INTERFACE || !is_serial_port(current_interface(setup[4])))
+        return answer;
     return serial_setup(&ports[setup[4]], setup, data);
 }
 
-int application_take(const uint8_t *setup, const uint8_t *bytes, size_t length) {
-    return type_and_code(setup) == REQUEST_KEEP || serial_take(&ports[setup[4] & 15], setup, bytes, length);
+uint8_t application_take(const uint8_t *setup, const uint8_t *bytes, size_t length) {
+    return type_and_code(setup) == REQUEST_KEEP ? HK_PIPE_ACCEPT : serial_take(&ports[setup[4] & 15], setup, bytes, length);
 }
