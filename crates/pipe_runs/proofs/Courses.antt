@@ -23,7 +23,7 @@ use Rattle.laws.proofs.Outcomes.{chosen}
 use Rattle.promises.specs.Refusals.{refusalEmpty}
 use Rattle.order.specs.Run.{All}
 use Rattle.packets.proofs.Sizes.{by-size, inside}
-use Rattle.packets.specs.Packets.{count, canCut, packetWhere, packet}
+use Rattle.packets.specs.Packets.{packetCount, canCut, packetWhere, packet}
 use Rattle.pipes.specs.declared.Lengths.{Lengths}
 use Rattle.pipes.specs.declared.Piece.{Piece}
 use Rattle.pipes.specs.declared.Transfer.{Transfer}
@@ -44,7 +44,7 @@ use Rattle.pipe_runs.proofs.Resting.{Malforms, with7, with8, with9, mal
 
 -- ---- the words
 abbrev pub many : Transfer → ℕ
-many t = count (t .length) (t .asked) (t .size)
+many t = packetCount (t .length) (t .asked) (t .size)
 
 -- the reply of a transfer is these bytes: as long as the pipe record says, and, where it lies in a block that is lent, they are the part there
 pub record Lies (b : Board) (image reply : List ℕ) (t : Transfer) (bytes : List ℕ) : Type 0 where
@@ -98,17 +98,17 @@ cuttable l t f =
     rw (size, both (leb (t .length) (t .asked)) _ (conjunct 4 row (f .fit)) .0)
 
 -- the next packet is given exactly below the count
-pub next-number : (r w p k : ℕ) → canCut r w p ≡ true → eqb (packet r w p k .number) 0 ≡ ltb k (count r w p)
+pub next-number : (r w p k : ℕ) → canCut r w p ≡ true → eqb (packet r w p k .number) 0 ≡ ltb k (packetCount r w p)
 unfolding packet
-next-number r w p k can = go (ltb k (count r w p)) refl
+next-number r w p k can = go (ltb k (packetCount r w p)) refl
   where
-    go : (t : Bool) → ltb k (count r w p) ≡ t → eqb (packetWhere (canCut r w p && ltb k (count r w p)) r p k .number) 0 ≡ t
+    go : (t : Bool) → ltb k (packetCount r w p) ≡ t → eqb (packetWhere (canCut r w p && ltb k (packetCount r w p)) r p k .number) 0 ≡ t
     go true z = rw (can, z)
     go false z = rw (can, z)
 
 -- two bytes are one packet
 One : ℕ → ℕ → ℕ → Type 0
-One r w p = r ≤ 2 → count r w p ≤ 1
+One r w p = r ≤ 2 → packetCount r w p ≤ 1
 
 one-at : (r w p : ℕ) → (r ≤ 2 → (r + p - 1) / p ≤ 1) → (r ≤ 2 → r / p + 1 ≤ 1) → One r w p
 unfolding One
@@ -118,7 +118,7 @@ one-at r w p f g = go (eqb r w)
     go true = f
     go false = g
 
-one-packet : (r w p : ℕ) → canCut r w p ≡ true → r ≤ 2 → count r w p ≤ 1
+one-packet : (r w p : ℕ) → canCut r w p ≡ true → r ≤ 2 → packetCount r w p ≤ 1
 unfolding One
 one-packet r w p h =
     by-size (One r w)

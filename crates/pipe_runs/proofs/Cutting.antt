@@ -13,7 +13,7 @@ use borrow.Author.Tests.{lt-ltb, eqb-true}
 use Rattle.octets.specs.Octets.{part}
 use Rattle.octets.specs.Sentences.{pick, from, upTo}
 use Rattle.packets.specs.declared.Packet.{Packet}
-use Rattle.packets.specs.Packets.{count, canCut, packet}
+use Rattle.packets.specs.Packets.{packetCount, canCut, packet}
 use Rattle.packets.proofs.Sizes.{by-size}
 use Rattle.promises.specs.Packets.{joined, whole-reply}
 use Rattle.pipe_runs.specs.Packets.{packetOf, packetsOf}
@@ -33,7 +33,7 @@ module _ (bytes : List ℕ) (w p : ℕ) (can : canCut (length bytes) w p ≡ tru
   pub packet-is : (k : ℕ) → k < packetsOf bytes w p → packetOf bytes w p k ≡ take p (drop (k * p) bytes)
   unfolding packet
   packet-is k l =
-      let here : packet (length bytes) w p k ≡ record { number = 0; offset = k * p; length = min p (length bytes - k * p) } = rw (can, lt-ltb k (count (length bytes) w p) l) in
+      let here : packet (length bytes) w p k ≡ record { number = 0; offset = k * p; length = min p (length bytes - k * p) } = rw (can, lt-ltb k (packetCount (length bytes) w p) l) in
       ap (λ (q : Packet). part bytes (q .offset) (q .length)) here ∙ rw (← length-drop (k * p) bytes) (least p (drop (k * p) bytes))
 
   from-on : (k n : ℕ) → k + n ≤ packetsOf bytes w p → flatMap (packetOf bytes w p) (from k n) ≡ take (n * p) (drop (k * p) bytes)
@@ -59,7 +59,7 @@ module _ (bytes : List ℕ) (w p : ℕ) (can : canCut (length bytes) w p ≡ tru
 
 -- ---- a reply that was asked for has a packet
 Some : ℕ → ℕ → ℕ → Type 0
-Some r w p = (w ≡ 0 → ⊥) → 0 < count r w p
+Some r w p = (w ≡ 0 → ⊥) → 0 < packetCount r w p
 
 some-at : (r w p : ℕ) → (1 ≤ r → 0 < (r + p - 1) / p) → 0 < r / p + 1 → (r ≡ w → (w ≡ 0 → ⊥) → 1 ≤ r) → Some r w p
 unfolding Some
@@ -69,7 +69,7 @@ some-at r w p f g h n = go (eqb r w) refl
     go true e = f (h (eqb-true r w e) n)
     go false e = g
 
-pub some-packet : (r w p : ℕ) → canCut r w p ≡ true → (w ≡ 0 → ⊥) → 0 < count r w p
+pub some-packet : (r w p : ℕ) → canCut r w p ≡ true → (w ≡ 0 → ⊥) → 0 < packetCount r w p
 unfolding Some
 some-packet r w p h =
     by-size (Some r w)

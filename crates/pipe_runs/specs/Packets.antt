@@ -14,7 +14,7 @@ use Rattle.events.specs.declared.Answer.{Answer}
 use Rattle.events.specs.Answer.{bytesOf, partOf}
 use Rattle.events.specs.Answer.{bytesAt}
 use Rattle.events.specs.Step.{setupEvent, event}
-use Rattle.packets.specs.Packets.{count, packet}
+use Rattle.packets.specs.Packets.{packetCount, packet}
 use Rattle.pipes.specs.Transfer.{send, await}
 use Rattle.pipes.specs.Sending.{bytesIn}
 use Rattle.pipes.specs.Pipe.{Told, Records, heard, handsOver}
@@ -43,7 +43,7 @@ abbrev pub packetOf : List ℕ → ℕ → ℕ → ℕ → List ℕ
 packetOf bytes w p k = let q = packet (length bytes) w p k in part bytes (q .offset) (q .length)
 
 abbrev pub packetsOf : List ℕ → ℕ → ℕ → ℕ
-packetsOf bytes w p = count (length bytes) w p
+packetsOf bytes w p = packetCount (length bytes) w p
 
 -- what the library answers a setup with: the bytes handed back, or those of the part
 abbrev pub given : Board → ℕ → Answer → List ℕ
