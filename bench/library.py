@@ -1,4 +1,5 @@
 """The library as the bench asks it: every answer is its own, by tools/harness.c."""
+from packets import SEND, Heard
 from pieces import a_set
 from served import SETUP, Served
 from text import Mistake, piece
@@ -23,6 +24,15 @@ class Library(Served):
         if given and event[0] == SETUP:
             packets = list(self.packets(len(given), int.from_bytes(event[1][6:8], "little"), packet_size(self.data)))
         return Answer(number, given, place, packets, before, image)
+
+    def hear(self, kind, value, image, pipe, reply, setup):
+        """What an event of the pipe gave; the packet is read where it lies."""
+        number, given, (block, offset, length), order, room, image_left, pipe_left = self.pipe_event(kind, value, (image, pipe, reply), setup)
+        place = ""
+        if length > 0:
+            given = (self.data, self.serial, reply)[block][offset : offset + length]
+            place = f" of the {('set', 'serial block', 'reply')[block]} at byte {offset}"
+        return Heard(number, order, room, given if order == SEND else b"", place, pipe, pipe_left, image, image_left)
 
     def make_set(self, entries, serial):
         """The set of a text: by the library's writer; where that refuses, laid out for the opener to say why."""

@@ -2,6 +2,7 @@
 import os, re
 
 from events import read_event
+from packets import Lend, PacketCall, WORDS, goes_by_packets
 from text import Line, Mistake, read_entries, read_lines
 from words import EXPECTED_OF_ORDERS, count_words, read_expected
 
@@ -74,7 +75,7 @@ class Orders:
     def add(self, line):
         if line.word == "driver":
             self.drivers.append((line.rest, []))
-        elif line.word in ("set", "serial", "record", "orders") or not self.drivers:
+        elif line.word in ("set", "serial", "record", "pipe", "orders", *WORDS) or not self.drivers:
             raise line.mistake("among orders, lines are `driver NAME`, events, and `end`")
         else:
             self.drivers[-1][1].append(Call(line))
@@ -82,17 +83,26 @@ class Orders:
 
 def read_script(path):
     """The steps of a script; an error names its line."""
-    steps, orders = [], None
+    steps, orders, by_packets = [], None, False
     with open(path, encoding="utf-8") as file:
         for line in read_lines(file):
             if line.text == "end" and orders:
                 orders = None
             elif orders:
                 orders.add(line)
+            elif by_packets and (line.word == "orders" or line.text.startswith("status end")):
+                raise line.mistake(f"`{line.word}` is for transfers that are not played packet by packet")
             elif line.word == "orders":
                 steps.append(orders := Orders(line))
             elif line.word in ("set", "serial", "record"):
                 steps.append(Lending(line, os.path.dirname(path)))
+            elif line.word == "pipe":
+                by_packets = True
+                steps.append(Lend(line))
+            elif line.word in WORDS and not by_packets:
+                raise line.mistake(f"`{line.word}` is for transfers packet by packet: say `pipe` before")
+            elif by_packets and goes_by_packets(line):
+                steps.append(PacketCall(line))
             else:
                 steps.append(Call(line))
     if orders:

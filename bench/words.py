@@ -90,22 +90,37 @@ def data_lines(setup, data):
     return [descriptor_line(descriptor) for descriptor in cut(data)]
 
 
+# ---- what answers have in common
+def outcome_word(number):
+    return "done" if number == 0 else "stall" if NUMBERS.get(number, ("", ""))[1].startswith("STALL") else "refused"
+
+
+def data_phrases(data):
+    return [count_words(len(data), "byte"), f"bytes {hexadecimal(data)}"] if data else ["no data"]
+
+
+def left_phrases(before, image):
+    """The record behind a call."""
+    return ["record unchanged" if image == before else "record changed", f"record {hexadecimal(image)}", *record_phrases(image)]
+
+
+def left_lines(before, image):
+    if image != before:
+        yield f"record  {', '.join(record_phrases(image))}"
+        yield f"        {hexadecimal(image)}"
+
+
 # ---- an answer
 class Answer(collections.namedtuple("Answer", "number data place packets before image")):
     """What a call gave back: its number, its data and where that lies, its packets, and the record before and after."""
-
-    def outcome(self):
-        return "done" if self.number == 0 else "stall" if NUMBERS.get(self.number, ("", ""))[1].startswith("STALL") else "refused"
 
     def brief(self):
         return f"{self.number}" + (f" with {hexadecimal(self.data)}" if self.data else "")
 
     def phrases(self):
         """All that a script may expect of this answer."""
-        data = [count_words(len(self.data), "byte"), f"bytes {hexadecimal(self.data)}"] if self.data else ["no data"]
         packets = ["packets " + " ".join(map(str, self.packets))] if self.packets else []
-        same = ["record unchanged"] if self.image == self.before else ["record changed"]
-        return [str(self.number), self.outcome(), *data, *packets, *same, f"record {hexadecimal(self.image)}", *record_phrases(self.image)]
+        return [str(self.number), outcome_word(self.number), *data_phrases(self.data), *packets, *left_phrases(self.before, self.image)]
 
     def lines(self, setup):
         """The answer in words and in bytes, and the record where it changed."""
@@ -115,9 +130,7 @@ class Answer(collections.namedtuple("Answer", "number data place packets before 
             yield f"        {descriptor}"
         if self.data:
             yield f"        {hexadecimal(self.data)}"
-        if self.image != self.before:
-            yield f"record  {', '.join(record_phrases(self.image))}"
-            yield f"        {hexadecimal(self.image)}"
+        yield from left_lines(self.before, self.image)
 
 
 # What may stand behind => in a script: the phrases of an answer, as patterns.

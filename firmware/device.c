@@ -1,8 +1,7 @@
 #include "device.h"
 #include "hardware.h"
 
-/* Of a setup: bit 7 of byte 0, and the two requests after which other endpoints are there. */
-#define DIRECTION_IN 0x80
+/* The two requests after which other endpoints are there. */
 #define REQUEST_SET_CONFIGURATION 0x09
 #define REQUEST_SET_INTERFACE 0x0B
 
@@ -32,22 +31,7 @@ static hk_record *own_record(struct device *device) {
 #endif
 }
 
-static const uint8_t *set_in_use(const struct device *device) {
-#ifdef DEVICE_TWO_SETS
-    if (device_record(device)->speed != HK_SPEED_FULL)
-        return device->board->high;
-#endif
-    return device->board->set;
-}
-
 /* ---- The loop. */
-
-/* An accepted set's contents start with the device descriptor's entry, which has the offset at byte 8 of the set. */
-static uint32_t max_packet_size_0(const struct device *device) {
-    const uint8_t *set = set_in_use(device);
-    size_t device_descriptor = set[8] | (size_t)set[9] << 8;
-    return set[device_descriptor + 7];
-}
 
 /* The record's address is the one to answer to: a new one waits in another byte until its status stage has ended. */
 static void follow_record(const struct device *device) {
@@ -81,74 +65,12 @@ static uint8_t tell_power(struct device *device) {
 
 /* The fresh record is at full speed, and says that the bus is the supply: opening cannot know. */
 static uint8_t open_afresh(struct device *device, uint8_t speed) {
+    static const hk_pipe idle = {{HK_STAGE_IDLE}, HK_NO_PART};
+    device->pipe = idle;
     uint8_t number = CALL(start)(device->board, own_record(device));
     if (number == HK_DONE && speed != HK_SPEED_FULL)
         number = TELL(device, HK_EVENT_BUS_RESET, speed);
     return number == HK_DONE ? tell_power(device) : number;
-}
-
-/* Where the reply is shorter than asked, the last packet is short or empty, so that the host knows the end. */
-static void send_next_packet(struct device *device) {
-    struct device_transfer *transfer = &device->transfer;
-    hk_answer packet = hk_cut(hk_reply(&transfer->answer), transfer->asked, max_packet_size_0(device), transfer->packet);
-    if (packet.number == HK_DONE) {
-        transfer->packet++;
-        hardware_send_packet(packet.part.start, packet.part.length);
-    } else {
-        transfer->stage = STAGE_STATUS_OUT;
-    }
-}
-
-/* Without a data stage the status stage goes from the device to the host, whatever direction the request names. */
-static void send_answer(struct device *device, uint16_t asked) {
-    struct device_transfer *transfer = &device->transfer;
-    transfer->asked = asked;
-    transfer->packet = 0;
-    if (asked == 0) {
-        transfer->stage = STAGE_STATUS_IN;
-        hardware_send_packet(transfer->answer.bytes, 0);
-    } else {
-        transfer->stage = STAGE_DATA_IN;
-        hardware_receive_status(); /* from the start: the host may end the data stage early */
-        send_next_packet(device);
-    }
-}
-
-static void refuse(struct device *device, uint8_t number) {
-    device->transfer.stage = STAGE_NONE;
-    hardware_stall_endpoint_zero();
-    application_hear(number);
-}
-
-/* The host's bytes come in packets of at most bMaxPacketSize0, so many of them are still to come. */
-static void receive_next_packet(struct device *device) {
-    struct device_transfer *transfer = &device->transfer;
-    size_t left = (size_t)transfer->asked - transfer->received, most = max_packet_size_0(device);
-    transfer->stage = STAGE_DATA_OUT;
-    hardware_receive_packet(transfer->room + transfer->received, left < most ? left : most);
-}
-
-/* A request of the application's own: an answer, bytes of the host's, or neither. */
-static void serve_application(struct device *device, const uint8_t *setup, const struct application_data *data) {
-    struct device_transfer *transfer = &device->transfer;
-    uint16_t asked = (uint16_t)(setup[6] | setup[7] << 8);
-    transfer->answer.part = data->reply;
-    if (transfer->answer.part.length > asked)
-        transfer->answer.part.length = asked;
-    if (asked == 0 || setup[0] & DIRECTION_IN) {
-        send_answer(device, asked);
-        return;
-    }
-    if (asked > data->room_length) {
-        refuse(device, HK_REQUEST_UNKNOWN);
-        return;
-    }
-    for (size_t at = 0; at < HK_SETUP_LENGTH; at++)
-        transfer->setup[at] = setup[at];
-    transfer->asked = asked;
-    transfer->received = 0;
-    transfer->room = data->room;
-    receive_next_packet(device);
 }
 
 static int changes_settings(const uint8_t *setup) {
@@ -156,24 +78,73 @@ static int changes_settings(const uint8_t *setup) {
            (setup[0] == 0x01 && setup[1] == REQUEST_SET_INTERFACE);
 }
 
-static void handle_setup(struct device *device, const uint8_t *setup) {
-    struct device_transfer *transfer = &device->transfer;
+/* How many of the host's bytes have come, by bytes 8 and 9 of the pipe record. */
+static size_t received_bytes(const struct device *device) {
+    return device->pipe.record[8] | (size_t)device->pipe.record[9] << 8;
+}
+
+/* Where nothing is ordered a transfer may have ended: the record is followed. What the peripheral awaits when all is out it
+ * is ready for since the first packet. A STALL without a number is for what the application does not take, and for a packet
+ * of another length than the host said. */
+static void obey(struct device *device) {
+    hk_part packet = hk_sent(&device->order);
+    uint8_t number = device->order.number;
+    switch (hk_order_of(&device->order)) {
+    case HK_ORDER_NOTHING:
+        conclude(device, number);
+        break;
+    case HK_ORDER_SEND:
+        if (device->pipe.record[0] == HK_STAGE_DATA_IN)
+            hardware_receive_status();
+        hardware_send_packet(packet.start, packet.length);
+        break;
+    case HK_ORDER_RECEIVE:
+        hardware_receive_packet(device->room + received_bytes(device), hk_room(&device->order));
+        break;
+    case HK_ORDER_STALL:
+        hardware_stall_endpoint_zero();
+        application_hear(number == HK_DONE ? HK_REQUEST_UNKNOWN : number);
+        break;
+    }
+}
+
+static void step(struct device *device, uint8_t event, uint16_t value, const uint8_t *setup) {
+    device->order = CALL(step)(device->board, own_record(device), &device->pipe, event, value, setup);
+}
+
+static void tell_pipe(struct device *device, uint8_t event, uint16_t value) {
+    step(device, event, value, NULL);
+    obey(device);
+}
+
+static int asks(const struct device *device) {
+    return hk_order_of(&device->order) == HK_ORDER_ASK;
+}
+
+/* The application's answer is the pipe's next event. */
+static void ask_application(struct device *device, const uint8_t *setup) {
     struct application_data data = {HK_NO_PART, NULL, 0};
-    transfer->answer = EVENT(ask)(device->board, RECORD(device), setup);
-    transfer->stage = STAGE_NONE;
-    if (transfer->answer.number == HK_REQUEST_UNKNOWN && application_setup(setup, &data)) {
-        follow_record(device);
-        serve_application(device, setup, &data);
-        return;
-    }
-    if (transfer->answer.number != HK_DONE) {
-        refuse(device, transfer->answer.number);
-        return;
-    }
-    if (changes_settings(setup))
+    for (size_t at = 0; at < HK_SETUP_LENGTH; at++)
+        device->setup[at] = setup[at];
+    uint8_t answer = application_setup(setup, &data);
+    device->pipe.reply = data.reply;
+    device->room = data.room;
+    tell_pipe(device, answer, data.room_length < UINT16_MAX ? (uint16_t)data.room_length : UINT16_MAX);
+}
+
+/* The record is followed before the status stage, which tells the host that it is done. */
+static void handle_setup(struct device *device, const uint8_t *setup) {
+    device->pipe.reply = hk_no_part();
+    step(device, HK_PIPE_SETUP, 0, setup);
+    if (device->order.number == HK_SETUP_LENGTH_WRONG)
+        hardware_stall_endpoint_zero(); /* the pipe orders nothing: such a peripheral is broken */
+    if (device->order.number == HK_DONE && changes_settings(setup))
         open_endpoints(device);
-    follow_record(device); /* before the status stage, which tells the host that it is done */
-    send_answer(device, (uint16_t)(setup[6] | setup[7] << 8));
+    if (device->order.number == HK_DONE || asks(device))
+        follow_record(device);
+    obey(device);
+    if (asks(device))
+        ask_application(device, setup);
 }
 
 /* A test mode is entered when its status stage has ended, so that the host gets it still. */
@@ -187,41 +158,16 @@ static void follow_test_mode(const struct device *device) {
 #endif
 }
 
-static void end_transfer(struct device *device) {
-    device->transfer.stage = STAGE_NONE;
-    conclude(device, TELL(device, HK_EVENT_STATUS_END, 0));
+static void handle_packet_taken(struct device *device) {
+    tell_pipe(device, HK_PIPE_TAKEN, 0);
     follow_test_mode(device);
 }
 
-static void handle_packet_taken(struct device *device) {
-    if (device->transfer.stage == STAGE_DATA_IN)
-        send_next_packet(device);
-    else if (device->transfer.stage == STAGE_STATUS_IN)
-        end_transfer(device);
-}
-
-static void handle_status_received(struct device *device) {
-    if (device->transfer.stage == STAGE_DATA_IN || device->transfer.stage == STAGE_STATUS_OUT)
-        end_transfer(device);
-}
-
-/* All bytes are there, or the next packet is due. One that is short before the end, or too long, is a host's error. */
-static void handle_packet_received(struct device *device, size_t received) {
-    struct device_transfer *transfer = &device->transfer;
-    size_t left = (size_t)transfer->asked - transfer->received, most = max_packet_size_0(device);
-    if (transfer->stage != STAGE_DATA_OUT)
-        return;
-    if (received != (left < most ? left : most)) {
-        refuse(device, HK_REQUEST_UNKNOWN);
-        return;
-    }
-    transfer->received = (uint16_t)(transfer->received + received);
-    if (transfer->received < transfer->asked)
-        receive_next_packet(device);
-    else if (application_take(transfer->setup, transfer->room, transfer->asked))
-        send_answer(device, 0);
-    else
-        refuse(device, HK_REQUEST_UNKNOWN);
+/* All the host's bytes may be there: then the application is asked about them. */
+static void handle_packet_received(struct device *device, uint16_t received) {
+    tell_pipe(device, HK_PIPE_RECEIVED, received);
+    if (asks(device))
+        tell_pipe(device, application_take(device->setup, device->room, received_bytes(device)), 0);
 }
 
 /* Only opening mends a record that does not fit, and a bus reset is the time for it: all starts afresh anyhow. */
@@ -229,14 +175,13 @@ static void handle_bus_reset(struct device *device, uint8_t speed) {
 #ifndef DEVICE_TWO_SETS
     speed = HK_SPEED_FULL; /* there is no other */
 #endif
-    uint8_t number = TELL(device, HK_EVENT_BUS_RESET, speed);
-    if (number == HK_RECORD_DOES_NOT_FIT) {
-        application_hear(number);
-        number = open_afresh(device, speed);
+    step(device, HK_PIPE_RESET, speed, NULL);
+    if (device->order.number == HK_RECORD_DOES_NOT_FIT) {
+        application_hear(HK_RECORD_DOES_NOT_FIT);
+        device->order.number = open_afresh(device, speed);
     }
-    device->transfer.stage = STAGE_NONE;
     open_endpoints(device);
-    conclude(device, number);
+    obey(device);
 }
 
 static void handle(struct device *device, const struct hardware_event *event) {
@@ -251,7 +196,7 @@ static void handle(struct device *device, const struct hardware_event *event) {
         handle_packet_taken(device);
         break;
     case HARDWARE_STATUS_RECEIVED:
-        handle_status_received(device);
+        handle_packet_received(device, 0);
         break;
     case HARDWARE_PACKET_RECEIVED:
         handle_packet_received(device, event->received);
@@ -283,7 +228,6 @@ static void select_port(const struct device *device) {
 uint8_t device_start(struct device *device, const hk_board *board) {
     device->board = board;
     select_port(device);
-    device->transfer.stage = STAGE_NONE;
     uint8_t number = open_afresh(device, HK_SPEED_FULL);
     open_endpoints(device);
     conclude(device, number);

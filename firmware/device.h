@@ -1,4 +1,5 @@
 /* The device loop: USB 2.0 chapter 9 on a small board, over the library (heideklonk_board.h) and the board (hardware.h).
+ * It tells the library what the peripheral has met, and does what the library orders; it keeps no stage of a transfer.
  *
  * A board lends one set. With DEVICE_TWO_SETS it lends two, one for each speed; with DEVICE_PORTS its records stand in a
  * row, one for each port.
@@ -10,30 +11,12 @@
 #include <stddef.h>
 #include <stdint.h>
 
+#include "hardware.h"
 #include "heideklonk_board.h"
 
 #ifdef __cplusplus
 extern "C" {
 #endif
-
-enum device_stage {
-    STAGE_NONE,       /* no control transfer is under way, or it was answered with STALL */
-    STAGE_DATA_IN,    /* the answer goes out in packets */
-    STAGE_DATA_OUT,   /* the application's room fills with the host's packets */
-    STAGE_STATUS_OUT, /* the whole answer is out: the host's empty packet ends the transfer */
-    STAGE_STATUS_IN   /* there was no data: our empty packet ends the transfer */
-};
-
-/* The control transfer under way. */
-struct device_transfer {
-    enum device_stage stage;
-    uint16_t asked;  /* wLength */
-    uint32_t packet; /* the packet to send next, from 0 */
-    hk_answer answer; /* until it is out: its bytes, or a part of the set, the serial block or the application's memory */
-    uint8_t setup[HK_SETUP_LENGTH]; /* a request of the application's own, whose bytes come: */
-    uint8_t *room;
-    uint16_t received;
-};
 
 struct device {
     const hk_board *board; /* what stands in flash */
@@ -44,7 +27,10 @@ struct device {
 #else
     hk_record record; /* changed by the library alone */
 #endif
-    struct device_transfer transfer;
+    hk_pipe pipe;   /* the control transfer under way, its record changed by the library alone */
+    hk_order order; /* what the pipe gave last: a packet's bytes may stand here until it is taken */
+    uint8_t setup[HK_SETUP_LENGTH]; /* a request of the application's own, whose bytes come: */
+    uint8_t *room;                  /* there */
 };
 
 static inline const hk_record *device_record(const struct device *device) {

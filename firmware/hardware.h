@@ -17,7 +17,7 @@ enum hardware_event_kind {
     HARDWARE_SETUP,           /* a SETUP packet stands in setup, setup_length bytes of it */
     HARDWARE_PACKET_TAKEN,    /* endpoint zero: the host has acknowledged the packet that was sent */
     HARDWARE_STATUS_RECEIVED, /* endpoint zero: the host's empty packet has arrived */
-    HARDWARE_PACKET_RECEIVED, /* endpoint zero: the host's data packet stands where it was to go, received bytes of it */
+    HARDWARE_PACKET_RECEIVED, /* endpoint zero: the host's data packet has come, received bytes of it; it stands where it was to go */
     HARDWARE_ENDPOINT_PACKET, /* a data packet was acknowledged on the bulk or interrupt endpoint `endpoint` */
     HARDWARE_POWER_CHANGED,   /* the board draws from another supply than before */
     HARDWARE_SUSPEND,         /* the bus has been idle for 3 ms */
@@ -50,7 +50,7 @@ void hardware_select_port(size_t port);
  * themselves. */
 void hardware_send_packet(const uint8_t *bytes, size_t length);
 
-/* Endpoint zero, OUT: makes it ready for the host's empty packet. */
+/* Endpoint zero, OUT: makes it ready for the host's empty packet; it may be so already. */
 void hardware_receive_status(void);
 
 /* Endpoint zero, OUT: makes it ready for one data packet of at most so many bytes, which go to `room`. A longer one is not
@@ -88,7 +88,7 @@ void hardware_enter_test_mode(uint8_t selector);
  * was told by STALL, as it is with HK_TEST_MODE_ENTERED. All others are a fault on the board: its flash, its memory, its peripheral or its application. */
 void application_hear(uint8_t number);
 
-/* What the application puts into a control transfer of its own. */
+/* What the application lends to a control transfer of its own. */
 struct application_data {
     hk_part reply;      /* IN: the answer, of which no more than wLength bytes go out; it stays as it is until they are out */
     uint8_t *room;      /* OUT: where the host's wLength bytes are to go, lent until application_take */
@@ -96,12 +96,16 @@ struct application_data {
 };
 
 /* A setup that the library refused with HK_REQUEST_UNKNOWN: a class or vendor request, maybe the application's own. By then
- * an address that waited is dropped. 1: it is answered, with `data` filled in for its direction (bit 7 of byte 0; neither is
- * asked for where wLength is 0). 0: STALL. */
-int application_setup(const uint8_t *setup, struct application_data *data);
+ * an address that waited is dropped. The application answers with one of these, and any that does not suit the setup is a
+ * STALL:
+ *   HK_PIPE_REPLY   the request reads (bit 7 of byte 0 is 1, wLength is not 0): data->reply is filled in
+ *   HK_PIPE_ROOM    it writes (bit 7 is 0, wLength is not 0): data->room and data->room_length are filled in
+ *   HK_PIPE_ACCEPT  wLength is 0: it is done
+ *   HK_PIPE_REFUSE  STALL */
+uint8_t application_setup(const uint8_t *setup, struct application_data *data);
 
-/* The host's bytes stand in the room, all wLength of them. 1: the transfer ends well. 0: STALL. */
-int application_take(const uint8_t *setup, const uint8_t *bytes, size_t length);
+/* The host's bytes stand in the room, all wLength of them. HK_PIPE_ACCEPT: the transfer ends well. HK_PIPE_REFUSE: STALL. */
+uint8_t application_take(const uint8_t *setup, const uint8_t *bytes, size_t length);
 
 #ifdef __cplusplus
 }

@@ -25,23 +25,23 @@ void serial_start(struct serial_port *port, uint8_t interface) {
     store(port, at_start);
 }
 
-int serial_setup(struct serial_port *port, const uint8_t *setup, struct application_data *data) {
+uint8_t serial_setup(struct serial_port *port, const uint8_t *setup, struct application_data *data) {
     switch (request_of(setup)) {
     case REQUEST_SET_LINE_CODING:
         data->room = port->room;
         data->room_length = sizeof port->room;
-        return has_fields(setup, 0, port->interface);
+        return has_fields(setup, 0, port->interface) ? HK_PIPE_ROOM : HK_PIPE_REFUSE;
     case REQUEST_GET_LINE_CODING:
         data->reply.start = port->line_coding;
         data->reply.length = sizeof port->line_coding;
-        return has_fields(setup, 0, port->interface);
+        return has_fields(setup, 0, port->interface) ? HK_PIPE_REPLY : HK_PIPE_REFUSE;
     case REQUEST_SET_CONTROL_LINE_STATE:
         if (!has_fields(setup, setup[2] & 3, port->interface) || setup[6] != 0 || setup[7] != 0)
-            return 0;
+            return HK_PIPE_REFUSE;
         port->lines = setup[2];
-        return 1;
+        return HK_PIPE_ACCEPT;
     default:
-        return 0;
+        return HK_PIPE_REFUSE;
     }
 }
 
@@ -50,9 +50,9 @@ static int is_line_coding(const uint8_t *bytes) {
     return bytes[4] <= 2 && bytes[5] <= 4 && ((bytes[6] >= 5 && bytes[6] <= 8) || bytes[6] == 16);
 }
 
-int serial_take(struct serial_port *port, const uint8_t *setup, const uint8_t *bytes, size_t length) {
+uint8_t serial_take(struct serial_port *port, const uint8_t *setup, const uint8_t *bytes, size_t length) {
     if (request_of(setup) != REQUEST_SET_LINE_CODING || length != sizeof port->line_coding || !is_line_coding(bytes))
-        return 0;
+        return HK_PIPE_REFUSE;
     store(port, bytes);
-    return 1;
+    return HK_PIPE_ACCEPT;
 }

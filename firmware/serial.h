@@ -22,8 +22,8 @@ struct serial_port {
 void serial_start(struct serial_port *port, uint8_t interface);
 
 /* As application_setup and application_take, for the port's own requests alone. */
-int serial_setup(struct serial_port *port, const uint8_t *setup, struct application_data *data);
-int serial_take(struct serial_port *port, const uint8_t *setup, const uint8_t *bytes, size_t length);
+uint8_t serial_setup(struct serial_port *port, const uint8_t *setup, struct application_data *data);
+uint8_t serial_take(struct serial_port *port, const uint8_t *setup, const uint8_t *bytes, size_t length);
 
 #ifdef __cplusplus
 }

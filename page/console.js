@@ -5,16 +5,18 @@ import { Board, KINDS } from "./board.js";
 import { happening } from "./enumeration.js";
 import { endpointsWords } from "./host.js";
 import { Unread, readEvent } from "./requests.js";
-import { recordFields } from "./record.js";
+import { recordFields, recordWords } from "./record.js";
+import { FACTS } from "./facts.js";
 import { TYPE } from "./descriptors.js";
 import { entriesOf } from "./set.js";
-import { spaced } from "./bytes.js";
+import { Transfers, isPacketWord, orderWords, pipeWords, readCall, readPipe } from "./packets.js";
+import { countWords, spaced } from "./bytes.js";
 
 const SUGGESTED = [
     "GET_DESCRIPTOR device", "GET_DESCRIPTOR configuration 0 wLength 9", "GET_DESCRIPTOR string 1 0x0409", "SET_ADDRESS 5", "SET_CONFIGURATION 1", "GET_CONFIGURATION",
     "GET_STATUS device", "SET_INTERFACE 0 1", "GET_INTERFACE 0", "SET_FEATURE ENDPOINT_HALT endpoint 0x81", "CLEAR_FEATURE ENDPOINT_HALT endpoint 0x81",
     "GET_STATUS endpoint 0x81", "SET_FEATURE DEVICE_REMOTE_WAKEUP device", "packet passed 0x81", "halt 0x81", "power own", "suspend", "wake", "resume",
-    "80 06 00 01 00 00 12 00", "status end", "reset", "open",
+    "80 06 00 01 00 00 12 00", "status end", "reset", "open", "pipe", "in", "out 0", "out 8", "reply 01 02 03", "room 64", "accept", "refuse",
 ];
 
 export class Console {
@@ -33,6 +35,7 @@ export class Console {
     lend(board) {
         const usable = board.number === 0 && KINDS[board.kind].answers;
         this.board = new Board(this.library, board.kind, board.sets, board.serial);
+        this.transfers = null;
         fill(byId("log"));
         fill(byId("quick"), this.often().map((line) => button(line, () => this.say(line))), button("power on", () => this.say("open")));
         byId("requests-note").textContent = usable ? "" : `${board.kind === "super" ? "This is a SuperSpeed set" : "The set is refused"}, so every event gets 7.`;
@@ -63,7 +66,7 @@ export class Console {
         this.earlier = [...this.earlier.filter((one) => one !== text), text];
         this.at = this.earlier.length;
         try {
-            this.log(...(text === "open" ? this.open() : this.happen(readEvent(text))));
+            this.log(...this.answer(text));
             byId("request").value = "";
         } catch (error) {
             if (!(error instanceof Unread))
@@ -73,7 +76,45 @@ export class Console {
         this.showRecord();
     }
 
+    // `pipe` says it once: from then on setups and resets go packet by packet.
+    answer(text) {
+        if (text === "open")
+            return this.open();
+        if (/^pipe( |$)/.test(text))
+            return this.lendPipe(readPipe(text));
+        if (!this.transfers && isPacketWord(text))
+            throw new Unread(`\`${text.split(" ")[0]}\` is for transfers packet by packet: say \`pipe\` before`);
+        const call = this.transfers && readCall(text);
+        return call ? this.step(text, this.transfers.play(call)) : this.happen(readEvent(text));
+    }
+
+    lendPipe(pipe) {
+        this.transfers = new Transfers(this.board, pipe);
+        return [element("div", { class: "event" }, "packet by packet, from here on"), this.pipeRow(pipe)];
+    }
+
+    pipeRow(pipe) {
+        return element("div", { class: "record" }, element("span", { class: "name" }, "pipe"), `${pipeWords(pipe)} `, element("code", {}, spaced(pipe)));
+    }
+
+    // What the host got, the answer, the order with its packet, and the records where they changed.
+    step(text, { host, taken, heard }) {
+        const got = host && element("div", { class: host === "ACK" ? "answer" : "answer stalled" }, `the host gets ${taken ? countWords(taken.length, "byte") : host}`, taken && element("code", {}, ` ${spaced(taken)}`));
+        if (!heard)
+            return [element("div", { class: "event" }, text), got];
+        const { name, remark } = FACTS.numbers[heard.number] ?? { name: "", remark: "" };
+        return [
+            element("div", { class: "event" }, text),
+            got,
+            element("div", { class: heard.number === 0 ? "answer" : "answer stalled" }, `${heard.number} ${name}${heard.number === 0 ? "" : `: ${remark}`}`),
+            element("div", { class: "datum" }, element("span", {}, `order: ${orderWords(heard)}`), element("code", {}, spaced(heard.packet))),
+            heard.pipeChanged && this.pipeRow(heard.pipe),
+            heard.recordChanged && element("div", { class: "record" }, element("span", { class: "name" }, "record"), recordWords(heard.record)),
+        ];
+    }
+
     open() {
+        this.transfers &&= new Transfers(this.board, readPipe("pipe"));
         const number = this.board.open(), [kind, words] = number === 0 ? ["answer", "done"] : ["answer stalled", `refused with ${number}`];
         return [element("div", { class: "event" }, "power on"), element("div", { class: kind }, words)];
     }

@@ -6,7 +6,7 @@ sys.path[1:1] = [os.path.join(TOP, "bench")]
 sys.dont_write_bytecode = True
 
 import paths  # noqa: F401 (the bench's own folders)
-import events, text, words
+import events, packets, text, words
 from rules import RULES
 
 # The sets to look at first: the texts of makers/, and a set of bench/ that is refused.
@@ -34,6 +34,13 @@ def examples():
     return texts + [{"name": name, "set": base64.b64encode(read(path, "rb")).decode(), "serial": ""} for name, path in REFUSED]
 
 
+def packet_words():
+    """The words for transfers packet by packet, each with what is told with it and its event."""
+    takes = {None: "", int: "number", bytes: "bytes"}
+    told = {word: (takes[kind], event) for word, (kind, event) in packets.WORDS.items()}
+    return {"words": told, "orders": packets.ORDERS, "stages": packets.STAGES, "blocks": packets.BLOCKS}
+
+
 def facts(module):
     return {
         "numbers": {number: {"name": name, "remark": remark} for number, (name, remark) in words.NUMBERS.items()},
@@ -45,6 +52,7 @@ def facts(module):
         "features": events.FEATURES,
         "descriptors": events.DESCRIPTORS,
         "events": events.EVENTS,
+        "packets": packet_words(),
         "rules": rules(),
         "texts": [{"name": name, "text": read(path)} for name, path in TEXTS],
         "textHelp": text_help(),

@@ -4,6 +4,8 @@ const NO_BYTES = new Uint8Array(0);
 
 // The events by their numbers in include/heideklonk.h.
 export const EVENT = { SETUP: 0, STATUS_END: 1, BUS_RESET: 2, HALT: 3, PACKET_PASSED: 4, POWER: 5, SUSPEND: 6, RESUME: 7, WAKE: 8 };
+// The events of the pipe that are not a script's own words.
+export const PIPE = { SETUP: 0, RESET: 3 };
 const IMAGE_LENGTH = 32;
 export const LONGEST_SET = 16384;
 
@@ -88,6 +90,19 @@ export class Library {
         const whole = found.block === "serial" ? serial : sets[found.block] ?? NO_BYTES, given = lent.read(bytes, lent.number(count));
         const data = given.length > 0 ? given : whole.slice(found.offset, found.offset + found.length);
         return { number, bytes: given, part: found, data, record: lent.read(recordLent) };
+    }
+
+    // Any event of the pipe: its number, the order with the packet or the room, and both records.
+    pipeEvent(sets, serial, { record, pipe, reply }, { event, value = 0, setup = NO_BYTES }) {
+        const lent = new Lent(this), placed = sets.map((bytes) => lent.place(bytes)), [serialLent, recordLent, pipeLent, replyLent, setupLent] = [serial, record, pipe, reply, setup].map((bytes) => lent.place(bytes));
+        const out = lent.place(new Uint8Array(6)), part = lent.place(new Uint8Array(8));
+        const held = [...placed, serialLent, recordLent, pipeLent, replyLent].flatMap(pair), name = sets.length === 2 ? "hk_two_pipe_event" : "hk_pipe_event";
+        const number = this.exports[name](...held, event, value, ...pair(setupLent), out.address, part.address);
+        const [order, count, first, second, low, high] = lent.read(out), found = lent.locate(part, { ...placed, reply: replyLent, serial: serialLent });
+        const whole = { reply, serial }[found.block] ?? sets[found.block] ?? NO_BYTES, bytes = Uint8Array.from([first, second].slice(0, count));
+        const packet = count > 0 ? bytes : whole.slice(found.offset, found.offset + found.length), inside = { reply: "reply", serial: "serial block" }[found.block] ?? "set";
+        const place = found.length > 0 ? ` of the ${inside} at byte ${found.offset}` : "";
+        return { number, order, room: low + 256 * high, bytes, part: found, packet, place, record: lent.read(recordLent), pipe: lent.read(pipeLent) };
     }
 
     // The number-th endpoint descriptor of the current settings.

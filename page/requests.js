@@ -5,7 +5,7 @@ import { hexadecimal, joined, littleEndian, readHexadecimal, readNumber, spaced,
 
 export class Unread extends Error {}
 
-class Words {
+export class Words {
     constructor(text) {
         this.left = text.split(/\s+/).filter((part) => part !== "");
     }

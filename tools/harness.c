@@ -32,13 +32,16 @@
 #define GUARD_BYTE 0xC5
 #define UNWRITTEN 0xA6
 
+/* what an event of the pipe writes: the order, the count, two bytes, the room */
+#define OUT_LENGTH 6
+
 /* A block that is lent: its room, and a twin that the call does not know of. */
 typedef struct block {
     uint8_t *room, *twin;
     size_t start, length;
 } block;
 
-static block set, high, serial, image, setup, bytes, count, part, reply, pieces, written;
+static block set, high, serial, image, setup, bytes, count, part, reply, pieces, written, pipe_record, out;
 
 /* What a hk_part points to before the call, so that it shows whether the call wrote it. */
 static const uint8_t decoy[1];
@@ -367,6 +370,49 @@ static void call_port_event(uint8_t operation, uint8_t flags) {
     respond_with_part_of(operation == 'Q', number, found, flags);
 }
 
+/* The block that a packet of the pipe lies in. */
+static uint8_t packet_block(hk_part found, uint8_t flags, int two, size_t *offset) {
+    if (offset_in(&set, found, flags) == SIZE_MAX && (*offset = offset_in(&reply, found, flags)) != SIZE_MAX)
+        return IN_REPLY;
+    return block_of(found, flags, two, offset);
+}
+
+/* Any event of the pipe: the image is the order, the room, the pipe record and the image. */
+static void call_pipe_event(uint8_t operation, uint8_t flags) {
+    int two = operation == 'C';
+    uint8_t event = take_byte(), number;
+    uint16_t value = (uint16_t)take_number(2);
+    take_block(&image, flags);
+    take_block(&pipe_record, flags);
+    take_block(&reply, flags);
+    take_block(&setup, flags);
+    place_unwritten(&out, OUT_LENGTH, flags, 1);
+    hk_part *found = unwritten_part(flags);
+    if (set.length == 0)
+        flags &= (uint8_t)~NULL_FOR_EMPTY; /* a part of NULL would lie in the set and in the reply */
+    uint8_t *image_lent = lent(&image, flags), *pipe_lent = lent(&pipe_record, flags), *out_at = out.room + out.start;
+    const uint8_t *reply_lent = lent(&reply, flags), *setup_lent = lent(&setup, flags);
+    if (two)
+        number = hk_two_pipe_event(lent(&set, flags), set.length, lent(&high, flags), high.length, lent(&serial, flags),
+                                   serial.length, image_lent, image.length, pipe_lent, pipe_record.length, reply_lent,
+                                   reply.length, event, value, setup_lent, setup.length, out_at, found);
+    else
+        number = hk_pipe_event(lent(&set, flags), set.length, lent(&serial, flags), serial.length, image_lent, image.length,
+                               pipe_lent, pipe_record.length, reply_lent, reply.length, event, value, setup_lent,
+                               setup.length, out_at, found);
+    size_t offset;
+    uint8_t block_number = packet_block(*found, flags, two, &offset);
+    int kept = lent_blocks_kept() && guards_unchanged(&pipe_record) && unchanged(&reply) && unchanged(&setup) &&
+               guards_unchanged(&out) && guards_unchanged(&part);
+    respond(!kept ? BYTES_CHANGED : offset == SIZE_MAX ? PART_ASTRAY : 0, number, out_at + 2, out_at[1], block_number, offset,
+            found->length);
+    put_number(1 + 2 + pipe_record.length + image.length);
+    put(out_at, 1);
+    put(out_at + 4, 2);
+    put(pipe_record.room + pipe_record.start, pipe_record.length);
+    put(image.room + image.start, image.length);
+}
+
 static void call_two_open(uint8_t flags) {
     static const uint8_t no_answer[2];
     take_block(&image, flags);
@@ -517,7 +563,7 @@ static void call_endpoint(uint8_t operation, uint8_t flags) {
 }
 
 int main(void) {
-    block *blocks[] = {&set, &high, &serial, &image, &setup, &bytes, &count, &part, &reply, &pieces, &written};
+    block *blocks[] = {&set, &high, &serial, &image, &setup, &bytes, &count, &part, &reply, &pieces, &written, &pipe_record, &out};
     int stopping[] = {SIGSEGV, SIGBUS, SIGILL, SIGTRAP, SIGFPE, SIGABRT};
     for (size_t at = 0; at < sizeof blocks / sizeof *blocks; at++)
         make_room(blocks[at]);
@@ -546,6 +592,9 @@ int main(void) {
             break;
         case 'q': case 'Q':
             call_port_event(operation, flags);
+            break;
+        case 'c': case 'C':
+            call_pipe_event(operation, flags);
             break;
         case 'O':
             call_two_open(flags);

@@ -86,6 +86,14 @@ class Served:
         value, setup = (0, carried) if kind == SETUP else (carried[0] if carried else 0, b"")
         return self.ask(b"q", port.to_bytes(8, "little") + bytes([kind, value]) + block(row) + block(setup))
 
+    def pipe_event(self, kind, value, blocks, setup):
+        """An event of the pipe, with image, pipe record and reply as blocks: the number, the bytes, the part, the order, the room, and both records."""
+        image, pipe, _ = blocks
+        rest = bytes([kind]) + word(value) + b"".join(map(block, [*blocks, setup]))
+        number, given, part, left = self.ask(b"c", rest)
+        room, records = int.from_bytes(left[1:3], "little"), left[3:]
+        return number, given, part, left[0], room, records[len(pipe) :], records[: len(pipe)]
+
     def write(self, pieces, size=16384):
         """hk_write: the number, and the set that it wrote with the serial block lent."""
         number, _, part, buffer = self.ask(b"w", block(pieces) + block(bytes(size)))

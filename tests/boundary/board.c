@@ -17,14 +17,14 @@ enum function {
     START, ASK, TELL, CURRENT_ENDPOINT,
     TWO_START, TWO_ASK, TWO_TELL, TWO_CURRENT_ENDPOINT,
     PORT_ASK, PORT_TELL, TWO_PORT_ASK, TWO_PORT_TELL,
-    CUT, FUNCTIONS
+    CUT, STEP, TWO_STEP, FUNCTIONS
 };
 
 static const char *const names[FUNCTIONS] = {
     "hk_start", "hk_ask", "hk_tell", "hk_current_endpoint",
     "hk_two_start", "hk_two_ask", "hk_two_tell", "hk_two_current_endpoint",
     "hk_port_ask", "hk_port_tell", "hk_two_port_ask", "hk_two_port_tell",
-    "hk_cut",
+    "hk_cut", "hk_step", "hk_two_step",
 };
 
 /* A record by the call, and by the function. */
@@ -32,7 +32,16 @@ struct both {
     hk_record call, function;
 };
 
+/* A record and a pipe by the call, and by the function. */
+struct both_pipes {
+    struct both record;
+    uint8_t call[HK_PIPE_LENGTH];
+    hk_pipe function;
+};
+
 static struct both one, two;
+static struct both_pipes pipe_of_one, pipe_of_two;
+static const uint8_t own_reply[70] = {1, 2, 3};
 static hk_record call_row[PORTS], function_row[PORTS], call_two_row[PORTS], function_two_row[PORTS];
 static hk_board pair;
 static unsigned long done, reached[FUNCTIONS];
@@ -145,6 +154,49 @@ static void cut_reply(void) {
     compare(CUT, hk_cut(reply, asked, size, number), expected, &one.function, &one.call, sizeof one.call);
 }
 
+static const hk_order no_order = {255, {9, 9, 9, 9, 9, 9}, HK_NO_PART};
+
+/* What the function gave, beside what the call gave, and both records that they left. */
+static void compare_orders(enum function which, const hk_order *found, const hk_order *expected, const struct both_pipes *left) {
+    hk_part sent = hk_sent(found);
+    done++;
+    reached[which] += found->number == HK_DONE && hk_order_of(found) == HK_ORDER_SEND;
+    if (found->number == expected->number && memcmp(found->out, expected->out, sizeof found->out) == 0 &&
+        found->part.start == expected->part.start && found->part.length == expected->part.length &&
+        memcmp(&left->record.function, &left->record.call, sizeof left->record.call) == 0 &&
+        memcmp(left->function.record, left->call, sizeof left->call) == 0 && hk_order_of(found) == expected->out[0] &&
+        sent.start == (expected->out[1] > 0 ? found->out + 2 : expected->part.start) &&
+        sent.length == (expected->out[1] > 0 ? expected->out[1] : expected->part.length) &&
+        hk_room(found) == expected->out[4] + 256 * expected->out[5])
+        return;
+    printf("board: %s differs at call %lu: number %d, the call has %d\n", names[which], done, found->number, expected->number);
+    exit(1);
+}
+
+/* The event's setup, mostly, or any other event of the pipe; the application has a reply of any length up to its own. */
+static void step_pipes(const struct event *event) {
+    hk_board board = lent();
+    const uint8_t *asked = event->kind == HK_EVENT_SETUP ? setup_of(event) : NULL;
+    uint8_t number = asked != NULL && below(2) == 0 ? HK_PIPE_SETUP : (uint8_t)below(HK_PIPE_REFUSE + 2);
+    uint16_t value = (uint16_t)below(number == HK_PIPE_RESET ? 3 : 70);
+    size_t length = number == HK_PIPE_SETUP && asked != NULL ? HK_SETUP_LENGTH : 0;
+    hk_part reply = {own_reply, below(sizeof own_reply)};
+    hk_order expected = no_order, found;
+    if (number == HK_PIPE_REPLY)
+        pipe_of_one.function.reply = pipe_of_two.function.reply = reply;
+    asked = length == 0 ? NULL : asked;
+    reply = pipe_of_one.function.reply;
+    expected.number = hk_pipe_event(ONE_LENT, IMAGE(pipe_of_one.record.call), pipe_of_one.call, HK_PIPE_LENGTH, reply.start,
+                                    reply.length, number, value, asked, length, expected.out, &expected.part);
+    found = hk_step(&board, &pipe_of_one.record.function, &pipe_of_one.function, number, value, asked);
+    compare_orders(STEP, &found, &expected, &pipe_of_one);
+    expected = no_order;
+    expected.number = hk_two_pipe_event(TWO_LENT, IMAGE(pipe_of_two.record.call), pipe_of_two.call, HK_PIPE_LENGTH, reply.start,
+                                        reply.length, number, value, asked, length, expected.out, &expected.part);
+    found = hk_two_step(&pair, &pipe_of_two.record.function, &pipe_of_two.function, number, value, asked);
+    compare_orders(TWO_STEP, &found, &expected, &pipe_of_two);
+}
+
 /* Opens all anew: the ports too, each by its own record. */
 static void start_all(void) {
     hk_board board = lent();
@@ -156,6 +208,10 @@ static void start_all(void) {
     compare_number(START, hk_start(&board, &one.function), expected, &one.function, &one.call, sizeof one.call);
     expected.number = hk_two_open(TWO_LENT, IMAGE(two.call));
     compare_number(TWO_START, hk_two_start(&pair, &two.function), expected, &two.function, &two.call, sizeof two.call);
+    memset(&pipe_of_one, 0, sizeof pipe_of_one);
+    memset(&pipe_of_two, 0, sizeof pipe_of_two);
+    pipe_of_one.record = one;
+    pipe_of_two.record = two;
     for (size_t port = 0; port < PORTS; port++) {
         call_row[port] = function_row[port] = one.call;
         call_two_row[port] = function_two_row[port] = two.call;
@@ -174,6 +230,7 @@ static void at_event(const struct event *event) {
     ask_two_port(&to_speed, below(PORTS + 1));
     ask_endpoints();
     cut_reply();
+    step_pipes(event);
 }
 
 int main(int argument_count, char **arguments) {

@@ -2,8 +2,6 @@
 #include <stddef.h>
 #include <stdint.h>
 
-#define MAX_PACKET_SIZE_0 8
-
 static const uint8_t set[63] = {63}, serial[2] = {2, 3};
 
 void connect_to_bus(void);

@@ -65,6 +65,33 @@ static void check_lengths_and_events(void) {
     EXPECT(HK_SPEED_HIGH, 1);
 }
 
+/* docs/PIPE.md: events, orders and stages */
+static void check_pipe(void) {
+    EXPECT(HK_PIPE_LENGTH, 16);
+    EXPECT(HK_PIPE_SETUP, 0);
+    EXPECT(HK_PIPE_TAKEN, 1);
+    EXPECT(HK_PIPE_RECEIVED, 2);
+    EXPECT(HK_PIPE_RESET, 3);
+    EXPECT(HK_PIPE_REPLY, 4);
+    EXPECT(HK_PIPE_ROOM, 5);
+    EXPECT(HK_PIPE_ACCEPT, 6);
+    EXPECT(HK_PIPE_REFUSE, 7);
+    EXPECT(HK_ORDER_NOTHING, 0);
+    EXPECT(HK_ORDER_SEND, 1);
+    EXPECT(HK_ORDER_AWAIT, 2);
+    EXPECT(HK_ORDER_RECEIVE, 3);
+    EXPECT(HK_ORDER_STALL, 4);
+    EXPECT(HK_ORDER_ASK, 5);
+    EXPECT(HK_STAGE_IDLE, 0);
+    EXPECT(HK_STAGE_ASKING_SETUP, 1);
+    EXPECT(HK_STAGE_DATA_IN, 2);
+    EXPECT(HK_STAGE_STATUS_OUT, 3);
+    EXPECT(HK_STAGE_DATA_OUT, 4);
+    EXPECT(HK_STAGE_ASKING_BYTES, 5);
+    EXPECT(HK_STAGE_STATUS_IN, 6);
+    EXPECT(HK_STAGE_STALLED, 7);
+}
+
 /* "The device record": each field at its byte of the image */
 static void check_places(void) {
     EXPECT(sizeof(hk_record), 32);
@@ -134,6 +161,11 @@ static void check_null(void) {
         EXPECT(part.start == NULL, 1);
         EXPECT(part.length, 0);
     }
+    uint8_t pipe[HK_PIPE_LENGTH] = {0}, out[6];
+    EXPECT(hk_pipe_event(NULL, 0, NULL, 0, image, sizeof image, pipe, sizeof pipe, NULL, 0, HK_PIPE_SETUP, 0, set_address,
+                         sizeof set_address, out, &part), HK_SET_NOT_ACCEPTABLE);
+    EXPECT(part.start == NULL, 1);
+    EXPECT(out[0], HK_ORDER_STALL);
     EXPECT(hk_endpoint(NULL, 0, NULL, 0, image, sizeof image, 0, &part), HK_SET_NOT_ACCEPTABLE);
     EXPECT(part.start == NULL, 1);
     EXPECT(hk_packet(NULL, 0, 0, 8, 0, &part), HK_NO_SUCH_PACKET);
@@ -146,6 +178,7 @@ static void check_null(void) {
 int main(void) {
     check_numbers();
     check_lengths_and_events();
+    check_pipe();
     check_places();
     check_fields();
     check_null();

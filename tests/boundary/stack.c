@@ -23,6 +23,8 @@
 #endif
 /* Of the second way to answer, with one set lent and with two. */
 #define MOST_OF_TABLE 1024
+/* Of the pipe's events that open no set, with one set lent and with two. */
+#define MOST_OF_PACKET 512
 /* hk_trim keeps the first bytes of the set aside, as many as 64 entries have: it may take these besides. */
 #define ASIDE 516
 #define STACK_LENGTH 16384
@@ -30,7 +32,8 @@
 
 enum function {
     EMPTY, OPEN, SETUP, STATUS_END, BUS_RESET, BUS_RESET_TO, HALT, PACKET_PASSED, POWER, SUSPEND, RESUME, WAKE, RECORD_EVENT, PACKET, ENDPOINT,
-    TWO_OPEN, TWO_EVENT, TWO_ENDPOINT, PORT_EVENT, TWO_PORT_EVENT, TABLE_EVENT, TWO_TABLE_EVENT, EXPORT, TRIM,
+    TWO_OPEN, TWO_EVENT, TWO_ENDPOINT, PORT_EVENT, TWO_PORT_EVENT, TABLE_EVENT, TWO_TABLE_EVENT, PIPE_EVENT,
+    PIPE_PACKET, TWO_PIPE_EVENT, TWO_PIPE_PACKET, EXPORT, TRIM,
     FUNCTIONS
 };
 
@@ -38,14 +41,15 @@ static const char *const names[FUNCTIONS] = {
     "an empty call", "hk_open", "hk_setup", "hk_status_end", "hk_bus_reset", "hk_bus_reset_to", "hk_halt", "hk_packet_passed",
     "hk_power", "hk_suspend", "hk_resume", "hk_wake", "hk_record_event", "hk_packet", "hk_endpoint",
     "hk_two_open", "hk_two_event", "hk_two_endpoint", "hk_port_event", "hk_two_port_event", "hk_table_event", "hk_two_table_event",
-    "hk_export", "hk_trim",
+    "hk_pipe_event", "hk_pipe_event, packets", "hk_two_pipe_event", "hk_two_pipe_event, packets", "hk_export", "hk_trim",
 };
 
 /* What the next call takes; static, so that nothing of it lies on the painted stack. */
 static enum function function;
 static uint8_t set[20000], high[20000], serial[20000], image[HK_IMAGE_LENGTH], setup[HK_SETUP_LENGTH], bytes[2], count;
 static hk_record record, row[2];
-static uint8_t event, event_value, number;
+static uint8_t event, event_value, number, pipe_record[HK_PIPE_LENGTH], reply[200], out[6];
+static uint16_t pipe_value;
 static size_t set_length, high_length, serial_length;
 /* two sets are lent */
 static int paired;
@@ -122,6 +126,16 @@ static void call(void) {
         hk_two_table_event(set, set_length, high, high_length, serial, serial_length, image, sizeof image, event, event_value, setup, sizeof setup,
                            bytes, &count, &part);
         break;
+    case PIPE_EVENT:
+    case PIPE_PACKET:
+        hk_pipe_event(set, set_length, serial, serial_length, image, sizeof image, pipe_record, sizeof pipe_record, reply, sizeof reply, event,
+                      pipe_value, setup, sizeof setup, out, &part);
+        break;
+    case TWO_PIPE_EVENT:
+    case TWO_PIPE_PACKET:
+        hk_two_pipe_event(set, set_length, high, high_length, serial, serial_length, image, sizeof image, pipe_record, sizeof pipe_record,
+                          reply, sizeof reply, event, pipe_value, setup, sizeof setup, out, &part);
+        break;
     case PACKET:
         hk_packet(set, set_length, UINT16_MAX, 8, event_value, &part);
         break;
@@ -182,20 +196,53 @@ static void measure_event(uint8_t measured, enum function alone) {
     measure(alone);
 }
 
+/* An event of the pipe: one of setup, reset and a transfer's end opens the set, any other does not. */
+static void measure_pipe(uint8_t measured, uint16_t value) {
+    int opens = measured == HK_PIPE_SETUP || measured == HK_PIPE_RESET;
+    event = measured;
+    pipe_value = value;
+    if (opens || (pipe_record[0] == HK_STAGE_STATUS_IN && measured == HK_PIPE_TAKEN))
+        measure(paired ? TWO_PIPE_EVENT : PIPE_EVENT);
+    else
+        measure(paired ? TWO_PIPE_PACKET : PIPE_PACKET);
+}
+
+/* The transfer of a setup, and what may come in its stages, from the image as it is. */
+static void measure_transfer(void) {
+    uint8_t state[HK_IMAGE_LENGTH];
+    memcpy(state, image, sizeof state);
+    memset(pipe_record, PAINT, sizeof pipe_record);
+    measure_pipe(HK_PIPE_SETUP, 0);
+    if (out[0] == HK_ORDER_ASK)
+        measure_pipe(setup[0] & 0x80 ? HK_PIPE_REPLY : HK_PIPE_ROOM, sizeof reply);
+    for (int packet = 0; packet < 4 && out[0] == HK_ORDER_RECEIVE; packet++)
+        measure_pipe(HK_PIPE_RECEIVED, (uint16_t)(out[4] | out[5] << 8));
+    if (out[0] == HK_ORDER_ASK)
+        measure_pipe(HK_PIPE_ACCEPT, 0);
+    for (int packet = 0; packet < 4 && out[0] == HK_ORDER_SEND; packet++)
+        measure_pipe(HK_PIPE_TAKEN, 0);
+    event = HK_PIPE_RECEIVED;
+    pipe_value = 0;
+    measure(paired ? TWO_PIPE_EVENT : PIPE_EVENT);
+    memcpy(image, state, sizeof state);
+}
+
 static void ask(uint8_t request_type, uint8_t code, uint16_t value, uint16_t index, uint16_t length) {
     const uint8_t asked[HK_SETUP_LENGTH] = {
         request_type, code, (uint8_t)value, (uint8_t)(value >> 8),
         (uint8_t)index, (uint8_t)(index >> 8), (uint8_t)length, (uint8_t)(length >> 8),
     };
     memcpy(setup, asked, sizeof setup);
+    measure_transfer();
     measure_event(HK_EVENT_SETUP, SETUP);
 }
 
 /* Every request and every endpoint, in the state that the image is in. Each call starts from this image. */
 static void measure_state(void) {
-    static const uint8_t requests[15][3] = {
+    static const uint8_t requests[17][3] = {
         {0x80, 0, 2}, {0x81, 0, 2}, {0x82, 0, 2}, {0x00, 1, 0}, {0x01, 1, 0}, {0x02, 1, 0}, {0x00, 3, 0}, {0x01, 3, 0},
         {0x02, 3, 0}, {0x00, 5, 0}, {0x80, 6, 255}, {0x80, 8, 1}, {0x00, 9, 0}, {0x81, 10, 1}, {0x01, 11, 0},
+        {0xC0, 1, 200}, {0x40, 1, 200},
     };
     static const uint16_t values[] = {0, 1, 2, 0x0100, 0x0200, 0x0201, 0x0300, 0x0301, 0x0600, 0x0700};
     static const uint16_t indices[] = {0, 1, 0x0f, 0x81, 0x0100, 0x0409};
@@ -251,6 +298,7 @@ static void measure_set(void) {
     open_with(OPEN);
     measure_states();
     event_value = HK_SPEED_FULL;
+    measure_pipe(HK_PIPE_RESET, HK_SPEED_FULL);
     measure(BUS_RESET_TO);
     measure_event(HK_EVENT_BUS_RESET, BUS_RESET);
     for (size_t at = 0; at < sizeof numbers; at++) {
@@ -267,6 +315,7 @@ static void measure_pair(void) {
     open_with(TWO_OPEN);
     for (uint8_t speed = HK_SPEED_FULL; speed <= HK_SPEED_HIGH; speed++) {
         event_value = speed;
+        measure_pipe(HK_PIPE_RESET, speed);
         measure_event(HK_EVENT_BUS_RESET, BUS_RESET_TO);
         measure_states();
     }
@@ -289,7 +338,8 @@ static size_t read_file(const char *path, uint8_t *to, size_t room) {
 }
 
 static int is_of_two(int function) {
-    return function == TWO_OPEN || function == TWO_EVENT || function == TWO_ENDPOINT || function == TWO_PORT_EVENT;
+    return function == TWO_OPEN || function == TWO_EVENT || function == TWO_ENDPOINT || function == TWO_PORT_EVENT ||
+           function == TWO_PIPE_EVENT;
 }
 
 static size_t most_of(int function) {
@@ -297,6 +347,8 @@ static size_t most_of(int function) {
     case TRIM: return MOST + ASIDE;
     case TABLE_EVENT:
     case TWO_TABLE_EVENT: return MOST_OF_TABLE;
+    case PIPE_PACKET:
+    case TWO_PIPE_PACKET: return MOST_OF_PACKET;
     default: return is_of_two(function) ? MOST_OF_TWO : MOST;
     }
 }
@@ -323,7 +375,7 @@ int main(int argument_count, char **arguments) {
         printf("  %5zu bytes of stack  %s%s\n", taken, names[at], taken > most ? "  TOO DEEP" : "");
         too_deep |= taken > most;
     }
-    printf("stack: %s %d bytes at the most (with two sets lent %d, by the second way %d, hk_trim %d more) on a pair and %d sets\n",
-           too_deep ? "OVER" : "within", MOST, MOST_OF_TWO, MOST_OF_TABLE, ASIDE, argument_count / 2 - 2);
+    printf("stack: %s %d bytes at the most (with two sets lent %d, by the second way %d, packets of the pipe %d, hk_trim %d more) on a pair and %d sets\n",
+           too_deep ? "OVER" : "within", MOST, MOST_OF_TWO, MOST_OF_TABLE, MOST_OF_PACKET, ASIDE, argument_count / 2 - 2);
     return too_deep;
 }

@@ -1,4 +1,4 @@
-"""native.py HOST: what the native programs say of the sets that the page is shown, as JSON: the lister, the bench host, makers/read, the makers'
+"""native.py HOST HARNESS: what the native programs say of the sets that the page is shown, as JSON: the lister, the bench host, makers/read, the makers'
 program's trim, export and, of recorded devices, import; and the sets that it writes of the texts."""
 import json, os, random, re, subprocess, sys, tempfile
 
@@ -8,6 +8,11 @@ sys.dont_write_bytecode = True
 from shared import EMULATE, TOP, enumerations, recordings
 from pieces import CONFIGURATION, DEVICE, S_DEVICE, a_set, configuration, endpoint, interface
 from text import Mistake, piece, read_entries, text_of
+
+sys.path[1:1] = [os.path.join(TOP, "bench")]
+from library import Library
+from packets import Lend, PacketCall, Transfers, order_words, pipe_words
+from script import Lending, read_script
 
 TEXTS = ["makers/bench.txt", "makers/titrator.txt", "bench/sets/scale.txt", "bench/sets/hasty.txt"]
 SETS = [("bench/sets/counter.bin", "bench/sets/counter.unit"), ("bench/sets/timer.bin", "bench/sets/timer-unit.bin"), ("bench/sets/spring.bin", None)]
@@ -101,9 +106,29 @@ def misread(count):
         yield read_as("\n".join(" ".join(line) for line in lines))
 
 
+def stepped(library, name):
+    """The bench's script of packets, step by step: its line, what the host got, and what the pipe gave."""
+    transfers, lent = None, {"set": b"", "serial": b"", "record": bytes(32)}
+    for step in read_script(os.path.join(TOP, name)):
+        library.lend(lent["set"], lent["serial"])
+        if isinstance(step, Lending):
+            entries, lent["serial"] = step.text
+            lent["set"] = library.make_set(entries, lent["serial"])
+        elif isinstance(step, Lend):
+            transfers = Transfers(library, step.data)
+            yield {"line": step.line.text, "pipe": step.data.hex(), "set": lent["set"].hex(), "serial": lent["serial"].hex(), "record": lent["record"].hex()}
+        elif isinstance(step, PacketCall):
+            host, taken, heard = transfers.step(step, lent["record"])
+            given = {} if heard is None else {"number": heard.number, "order": order_words(heard), "packet": heard.data.hex(), "pipe": pipe_words(heard.pipe), "record": heard.image.hex()}
+            lent["record"] = heard.image if heard else lent["record"]
+            yield {"line": step.line.text, "host": host, "taken": None if taken is None else taken.hex(), **given}
+        else:
+            lent["record"] = library.answer(step.event, lent["record"]).image
+
+
 def main():
-    host = os.path.abspath(sys.argv[1])
-    with tempfile.TemporaryDirectory() as folder:
+    host, harness = map(os.path.abspath, sys.argv[1:])
+    with tempfile.TemporaryDirectory() as folder, Library([EMULATE, harness]) as library:
         room = Room(folder)
         texts = [written(room, path) for path in TEXTS]
         sets = [(path, read(path), read(unit) if unit else b"") for path, unit in SETS]
@@ -111,6 +136,7 @@ def main():
         json.dump({
             "texts": texts,
             "misread": list(misread(400)),
+            "packets": list(stepped(library, "bench/scripts/packets.txt")),
             "sets": [told(room, host, *one) for one in sets],
             "recorded": [told(room, host, *one) for one in enumerations()],
             "long": [{"name": name, "set": data.hex(), "serial": serial.hex(), "listing": room.program("lister", {"set.bin": data, "unit.bin": serial})[0]} for name, data, serial in long_sets()],

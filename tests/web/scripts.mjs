@@ -10,6 +10,7 @@ const script = (name) => import(pathToFileURL(join(folder, `${name}.js`)));
 const { Library } = await script("library"), { Board } = await script("board"), { Host, stepLines } = await script("host");
 const { listing } = await script("set"), { Mistake, piece, readEntries, textOf } = await script("text");
 const { dumpOfSet, setOfDump, setOfText } = await script("making"), { joined } = await script("bytes"), { recordWords } = await script("record");
+const { Transfers, orderWords, pipeWords, readCall, readPipe } = await script("packets");
 const { subsequence } = await import("./transcript.mjs");
 
 const library = await Library.load(readFileSync(module)), native = JSON.parse(readFileSync(natively, "utf8"));
@@ -76,6 +77,21 @@ for (const { name, dump, set } of native.dumps) {
     const made = setOfDump(library, bytesOf(dump));
     hold(`the import of ${name}`, made.number === 0 ? textOfBytes(made.set) : null, set);
 }
+// ---- packet by packet
+let transfers = null;
+for (const { line, set, serial, record, pipe, ...expected } of native.packets) {
+    if (set !== undefined) {
+        const board = Object.assign(transfers?.board ?? new Board(library, "one", [bytesOf(set)], bytesOf(serial)), { record: bytesOf(record) });
+        transfers = new Transfers(board, readPipe(line));
+        hold(`the pipe of ${line}`, textOfBytes(transfers.pipe), pipe);
+        continue;
+    }
+    const { host, taken, heard } = transfers.play(readCall(line)), got = { host, taken: taken && textOfBytes(taken) };
+    const given = heard ? { number: heard.number, order: orderWords(heard), packet: textOfBytes(heard.packet) } : {};
+    hold(`what comes of ${line}`, JSON.stringify({ ...got, ...given }), JSON.stringify(expected));
+    hold(`the records after ${line}`, heard ? `${pipeWords(heard.pipe)} ${textOfBytes(heard.record)}` : "", heard ? `${pipe} ${record}` : "");
+}
+console.log(`${native.packets.length} steps packet by packet as bench/play plays them`);
 console.log(`${native.dumps.length} recorded devices imported as the importer does`);
 console.log(`scripts: ${failures} failed`);
 process.exit(failures === 0 ? 0 : 1);

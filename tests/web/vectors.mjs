@@ -1,6 +1,7 @@
 // A file of vectors asked of the library as the page calls it, in node or in a browser. `listing` gives the lister's lines of a set and a number.
 const EVENTS = { setup: 0, status: 1, reset: 2, halt: 3, passed: 4, power: 5, suspend: 6, resume: 7, wake: 8 };
-const IMAGE = 32;
+const WIRE = ["setup", "taken", "received", "reset", "reply", "room", "accept", "refuse"];
+const IMAGE = 32, PIPE = 16;
 
 const bytesOf = (text) => Uint8Array.from(text === "-" ? [] : text.match(/../g), (pair) => parseInt(pair, 16));
 const textOf = (bytes) => Array.from(bytes, (byte) => byte.toString(16).padStart(2, "0")).join("") || "-";
@@ -12,9 +13,16 @@ function eventOf(words) {
     return [EVENTS[words[0]], words[0] === "setup" ? 0 : parseInt(words[1] ?? "0", 16), words[0] === "setup" ? bytesOf(words[1]) : new Uint8Array(0)];
 }
 
+// The same of a question of the pipe.
+function wireOf(words) {
+    if (words[0] === "other")
+        return { event: parseInt(words[1], 16), value: Number(words[2]), setup: bytesOf(words[3]) };
+    return { event: WIRE.indexOf(words[0]), value: words[0] === "setup" ? 0 : Number(words[1] ?? 0), setup: words[0] === "setup" ? bytesOf(words[1]) : new Uint8Array(0) };
+}
+
 class Lent {
     constructor(library, listing) {
-        Object.assign(this, { library, listing, set: new Uint8Array(0), high: null, serial: new Uint8Array(0), record: new Uint8Array(IMAGE), carries: true });
+        Object.assign(this, { library, listing, set: new Uint8Array(0), high: null, serial: new Uint8Array(0), record: new Uint8Array(IMAGE), pipe: new Uint8Array(PIPE), reply: new Uint8Array(0), carries: true });
     }
 
     sets() {
@@ -23,7 +31,7 @@ class Lent {
 
     // PART of an answer.
     part({ block, offset, length }) {
-        const name = block === "serial" ? "serial" : this.high ? ["set", "high"][block] : "set";
+        const name = block === "serial" || block === "reply" ? block : this.high ? ["set", "high"][block] : "set";
         return length === 0 && offset === 0 && name === "set" ? "-" : `${name}:${offset}:${length}`;
     }
 
@@ -37,6 +45,11 @@ class Lent {
         const answer = this.library.event(this.sets(), this.serial, this.record, ...eventOf(words));
         this.left = answer.record;
         return `${answer.number} ${textOf(answer.bytes)} ${this.part(answer.part)} ${textOf(answer.record)}`;
+    }
+
+    heard(words) {
+        const { number, order, room, bytes, part, pipe, record } = this.library.pipeEvent(this.sets(), this.serial, this, wireOf(words));
+        return `${number} ${order} ${room} ${textOf(bytes)} ${this.part(part)} ${textOf(pipe)} ${textOf(record)}`;
     }
 
     counted(reply, asked, size) {
@@ -60,6 +73,7 @@ class Lent {
         case "open": return this.opened(this.high ? "hk_two_open" : "hk_open");
         case "opensuper": return library.has("hk_super_open") ? this.opened("hk_super_open") : undefined;
         case "event": return this.record.length === IMAGE ? this.happened(words) : undefined;
+        case "wire": return library.has("hk_two_pipe_event") ? this.heard(words) : undefined;
         case "packet": { const { number, offset, length } = library.packet(...numbers); return `${number} ${offset} ${length}`; }
         case "count": return this.counted(...numbers);
         case "endpoint": { const { number, part } = library.endpoint(this.sets(), this.serial, this.record, numbers[0]); return `${number} ${this.part(part)}`; }

@@ -42,16 +42,21 @@ void show_fault(uint8_t number) {
         printf("  the board's application hears %u: %s\n", number, number_in_words(number));
 }
 
+/* No transfer is under way. */
+static int rests(const struct host *host) {
+    return host->device.pipe.record[0] == HK_STAGE_IDLE || host->device.pipe.record[0] == HK_STAGE_STALLED;
+}
+
 void check_transfer_ended(struct host *host) {
-    if (host->device.transfer.stage != STAGE_NONE)
+    if (!rests(host))
         fail(host, "the device is still in a control transfer");
 }
 
 void send_stray_out(struct host *host, const char *when) {
-    enum device_stage stage = host->device.transfer.stage;
+    uint8_t stage = host->device.pipe.record[0];
     printf("stray OUT packet %s\n", when);
     wire_send_stray_out();
-    if (host->device.transfer.stage != stage)
+    if (host->device.pipe.record[0] != (stage == HK_STAGE_DATA_OUT ? HK_STAGE_STALLED : stage))
         fail(host, "it counted as a status stage");
     show_fault(wire_heard());
     show_record(host, "");

@@ -8,6 +8,9 @@
 
 #define VENDOR_DEVICE 0x40
 
+/* The longest packet of endpoint zero, and a byte that shows a longer one. */
+#define MOST_IN_PACKET 65
+
 /* What the hardware holds of a port, and one event that the loop has not seen yet. */
 static struct {
     struct device *device;
@@ -99,24 +102,29 @@ void application_hear(uint8_t number) {
 }
 
 /* A request of the bench's own, to the device: it keeps some bytes, and gives them back. */
-static int keep_setup(const uint8_t *setup, struct application_data *data) {
+static uint8_t keep_setup(const uint8_t *setup, struct application_data *data) {
     data->reply.start = data->room = wire->kept;
     data->reply.length = wire->kept_length;
     data->room_length = sizeof wire->kept;
-    return (setup[0] & 0x7F) == VENDOR_DEVICE && setup[1] == WIRE_KEEP;
+    if ((setup[0] & 0x7F) != VENDOR_DEVICE || setup[1] != WIRE_KEEP)
+        return HK_PIPE_REFUSE;
+    if (setup[6] == 0 && setup[7] == 0)
+        return HK_PIPE_ACCEPT;
+    return setup[0] == VENDOR_DEVICE ? HK_PIPE_ROOM : HK_PIPE_REPLY;
 }
 
 /* Interfaces, and so their requests, exist only in Configured. */
-int application_setup(const uint8_t *setup, struct application_data *data) {
+uint8_t application_setup(const uint8_t *setup, struct application_data *data) {
     int configured = device_record(wire->device)->state == CONFIGURED;
-    return (wire->port != NULL && configured && serial_setup(wire->port, setup, data)) || keep_setup(setup, data);
+    uint8_t answer = wire->port != NULL && configured ? serial_setup(wire->port, setup, data) : HK_PIPE_REFUSE;
+    return answer != HK_PIPE_REFUSE ? answer : keep_setup(setup, data);
 }
 
-int application_take(const uint8_t *setup, const uint8_t *bytes, size_t length) {
+uint8_t application_take(const uint8_t *setup, const uint8_t *bytes, size_t length) {
     if (setup[0] != VENDOR_DEVICE)
         return serial_take(wire->port, setup, bytes, length);
     wire->kept_length = length;
-    return 1;
+    return HK_PIPE_ACCEPT;
 }
 
 size_t wire_open_endpoints(const uint8_t *descriptors[WIRE_MOST_ENDPOINTS]) {
@@ -139,8 +147,10 @@ static void clear_endpoint_zero(void) {
 }
 
 void wire_attach(struct device *device, struct serial_port *port) {
+    hk_part nothing = HK_NO_PART;
     wire->device = device;
     wire->port = port;
+    wire->packet = nothing;
     wire_hand_over(HK_SETUP_LENGTH);
     clear_endpoint_zero();
 }
@@ -212,7 +222,9 @@ static enum wire_answer send_token(uint8_t address, int *ready, enum hardware_ev
 }
 
 enum wire_answer wire_take_packet(uint8_t address, hk_part *packet) {
-    hk_part sent = wire->packet; /* before the loop sends the next */
+    static uint8_t bytes[MOST_IN_PACKET];
+    hk_part sent = {bytes, wire->packet.length < sizeof bytes ? wire->packet.length : sizeof bytes};
+    memcpy(bytes, wire->packet.start, sent.length); /* the loop may change them once they are taken */
     enum wire_answer answer = send_token(address, &wire->packet_ready, HARDWARE_PACKET_TAKEN);
     if (answer == WIRE_DONE)
         *packet = sent;

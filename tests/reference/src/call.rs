@@ -7,6 +7,7 @@ use crate::fault::Fault;
 use crate::kind::Kind;
 use crate::octets::hex;
 use crate::packets;
+use crate::pipe::{Heard, Pipe, Wire};
 use crate::ports;
 use crate::record::{FULL_SPEED, IMAGE_LENGTH};
 use crate::superspeed;
@@ -35,8 +36,47 @@ pub enum Call {
     /// On a row of records, which stand aligned.
     Port { row: Vec<u8>, port: u64, number: u8, value: u8, setup: Vec<u8> },
     TwoPort { row: Vec<u8>, port: u64, number: u8, value: u8, setup: Vec<u8> },
+    /// An event of the wire; the image left is the order, the room, the pipe record and the device record.
+    Pipe(PipeCall),
+    TwoPipe(PipeCall),
     /// The number alone: which rule is tests/makers/broken.py's to say.
     Explain,
+}
+
+/// What is lent to an event of the wire beside the sets, and its number.
+#[derive(Clone, PartialEq, Eq, Debug)]
+pub struct PipeCall {
+    pub image: Vec<u8>,
+    pub pipe: Vec<u8>,
+    pub reply: Vec<u8>,
+    pub number: u8,
+    pub value: u16,
+    pub setup: Vec<u8>,
+}
+
+impl PipeCall {
+    pub fn new(image: &[u8], pipe: &[u8], reply: &[u8], wire: &Wire) -> PipeCall {
+        let (number, value, setup) = wire.numbered();
+        let (image, pipe, reply, setup) = (image.to_vec(), pipe.to_vec(), reply.to_vec(), setup.to_vec());
+        PipeCall { image, pipe, reply, number, value, setup }
+    }
+
+    pub fn wire(&self) -> Wire {
+        Wire::of_number(self.number, self.value, &self.setup)
+    }
+
+    pub fn hear(&self, lent: &Lent) -> Heard {
+        Pipe { lent, image: &self.image, pipe: &self.pipe, reply: &self.reply }.hear(&self.wire())
+    }
+}
+
+/// The order, the room, the pipe record and the device record as one image.
+fn joined(heard: Heard) -> Outcome {
+    let mut image = vec![heard.order as u8];
+    image.extend(heard.room.to_le_bytes());
+    image.extend(heard.pipe);
+    image.extend(heard.image);
+    Outcome { number: heard.number, bytes: heard.bytes, part: heard.part, image }
 }
 
 impl Call {
@@ -74,10 +114,18 @@ impl Call {
         }
     }
 
+    /// The event of the wire, of one set or of two.
+    pub fn pipe(lent: &Lent, call: PipeCall) -> Call {
+        match lent.high {
+            Some(_) => Call::TwoPipe(call),
+            None => Call::Pipe(call),
+        }
+    }
+
     /// Two sets are lent to it.
     pub fn takes_two(&self) -> bool {
         let in_row = matches!(self, Call::TwoPort { .. });
-        in_row || matches!(self, Call::TwoOpen { .. } | Call::TwoEvent { .. } | Call::TwoEndpoint { .. })
+        in_row || matches!(self, Call::TwoOpen { .. } | Call::TwoEvent { .. } | Call::TwoEndpoint { .. } | Call::TwoPipe(_))
     }
 
     pub fn answer(&self, lent: &Lent) -> Outcome {
@@ -105,6 +153,7 @@ impl Call {
             Call::Port { row, port, number, value, setup } | Call::TwoPort { row, port, number, value, setup } => {
                 ports::event(lent, row, *port, &Event::of_number(*number, *value, setup))
             }
+            Call::Pipe(call) | Call::TwoPipe(call) => joined(call.hear(lent)),
             Call::Explain => {
                 let number = lent.alone().map_or_else(|number| number, |_| 0);
                 Outcome { number, bytes: vec![0, 0], part: None, image: Vec::new() }
@@ -135,6 +184,7 @@ impl Call {
                 let event = Event::of_number(*number, *value, setup);
                 format!("port {port} {} {}", hex(row), event_words(&event))
             }
+            Call::Pipe(call) | Call::TwoPipe(call) => format!("wire {}", wire_words(&call.wire())),
             Call::Explain => "explain".to_string(),
         }
     }
@@ -145,7 +195,16 @@ impl Call {
             Call::Open { image } | Call::SuperOpen { image } | Call::Event { image, .. } | Call::ResetTo { image, .. } => image,
             Call::Numbered { record: image, .. } | Call::Endpoint { image, .. } => image,
             Call::TwoOpen { image } | Call::TwoEvent { image, .. } | Call::TwoEndpoint { image, .. } => image,
+            Call::Pipe(call) | Call::TwoPipe(call) => &call.image,
             _ => &[],
+        }
+    }
+
+    /// The lines that lend what an event of the wire reads besides.
+    pub fn loans(&self) -> String {
+        match self {
+            Call::Pipe(call) | Call::TwoPipe(call) => format!("pipe {}\nreply {}\n", hex(&call.pipe), hex(&call.reply)),
+            _ => String::new(),
         }
     }
 
@@ -170,6 +229,12 @@ impl Call {
                 format!("{number} {} {}", part.map_or(0, |part| part.length), hex(image))
             }
             Call::Endpoint { .. } | Call::TwoEndpoint { .. } => format!("{number} {}", part_words(*part)),
+            Call::Pipe(call) | Call::TwoPipe(call) => {
+                let (order, room) = (image[0], u16::from_le_bytes([image[1], image[2]]));
+                let (pipe, record) = image[3..].split_at(call.pipe.len().min(image.len() - 3));
+                let part = part_words(*part);
+                format!("{number} {order} {room} {} {part} {} {}", hex(bytes), hex(pipe), hex(record))
+            }
             Call::Explain => format!("{number}"),
         }
     }
@@ -190,6 +255,20 @@ fn event_words(event: &Event) -> String {
     }
 }
 
+fn wire_words(wire: &Wire) -> String {
+    match wire {
+        Wire::Setup(bytes) => format!("setup {}", hex(bytes)),
+        Wire::Taken => "taken".to_string(),
+        Wire::Received(length) => format!("received {length}"),
+        Wire::Reset(speed) => format!("reset {speed}"),
+        Wire::Reply => "reply".to_string(),
+        Wire::Room(room) => format!("room {room}"),
+        Wire::Accept => "accept".to_string(),
+        Wire::Refuse => "refuse".to_string(),
+        Wire::Other { number, value, setup } => format!("other {number:02x} {value} {}", hex(setup)),
+    }
+}
+
 fn part_words(part: Option<Part>) -> String {
     match part {
         None => "-".to_string(),
@@ -197,7 +276,8 @@ fn part_words(part: Option<Part>) -> String {
             let block = match part.block {
                 Block::Set => "set",
                 Block::High => "high",
-                _ => "serial",
+                Block::Reply => "reply",
+                Block::Serial => "serial",
             };
             format!("{block}:{}:{}", part.offset, part.length)
         }

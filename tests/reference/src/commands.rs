@@ -11,10 +11,12 @@ use crate::fault::{self, Fault};
 use crate::files;
 use crate::makers;
 use crate::octets::kebab;
+use crate::pipe_runs::{self, EVENTS, ORDERS, STAGES};
 use crate::runs;
 use crate::serve::serve;
 use crate::strikes;
 use crate::super_draft;
+use crate::transfers;
 use crate::vectors;
 
 const DEFAULT_SETS: usize = 100_000;
@@ -26,6 +28,7 @@ const DEFAULT_PAIRS: usize = 100_000;
 const DEFAULT_PAIR_CALLS: usize = 200_000;
 const DEFAULT_PORT_CALLS: usize = 100_000;
 const DEFAULT_STRIKES: usize = 200_000;
+const DEFAULT_WIRE_CALLS: usize = 200_000;
 const DEFAULT_RUNS: usize = 20_000;
 const DEFAULT_SUPERS: usize = 100_000;
 
@@ -40,6 +43,9 @@ const PAIR_NUMBERS: [u8; 19] = [0, 1, 2, 3, 4, 5, 6, 7, 8, 9, 10, 11, 12, 13, 14
 /// Those of an event at a port.
 const PORT_NUMBERS: [u8; 13] = [0, 7, 8, 9, 10, 11, 12, 13, 14, 16, 17, 18, 19];
 
+/// Those of an event of the wire.
+const WIRE_NUMBERS: [u8; 11] = [0, 7, 8, 9, 10, 11, 12, 13, 14, 16, 17];
+
 /// So many differences are enough to choose the smallest from.
 const PATIENCE: usize = 1_000;
 
@@ -47,10 +53,10 @@ pub const USAGE: &str = "\
 reference vectors [--least N] FILE..            answers every question of the files, at least N (1) in each, and compares
 reference run-vectors --program CMD [--least N] FILE..
                                                 the same, and through a harness
-reference compare --program CMD [--sets N] [--calls N] [--pairs N] [--pair-calls N] [--port-calls N] [--strikes N] [--writes N] [--dumps N] [--trims N]
+reference compare --program CMD [--sets N] [--calls N] [--pairs N] [--pair-calls N] [--port-calls N] [--strikes N] [--wire-calls N] [--transfers N] [--writes N] [--dumps N] [--trims N]
                   [--supers N] [--seed S] [--fault NAME]
                                                 sets through opening, calls over the whole boundary, or both; the same with two sets lent; events at ports;
-                                                runs from power-on, whole and with the other drivers' events struck;
+                                                runs from power-on, whole and with the other drivers' events struck; events of the wire; whole transfers;
                                                 streams of pieces; dumps; sets to trim; SuperSpeed sets, opened and written;
                                                 from 100,000 sets and 200,000 calls on each rule and number must be reached
 reference faults --program CMD [--seed S]       every planted fault must be noticed
@@ -59,6 +65,7 @@ reference list SET SERIAL [--fault NAME]        the lister's text for two files
 reference open-pair FULL HIGH SERIAL            the number that opening two sets gives, for three files
 reference list-super SET SERIAL                 the same of a SuperSpeed set
 reference generate DIR N [--seed S]             N sets as files set-XXXX.bin and unit-XXXX.bin
+reference pipe-vectors N [--seed S]             a file of N questions or a few more of the pipe, with answers
 reference samples DIR [--seed S]                the bench set and sets of 16,384 bytes as files, for the stack test
 reference lister --program CMD --directory DIR [--sets N] [--seed S]
                                                 runs a lister on set.bin and unit.bin in DIR, with and without faults";
@@ -125,6 +132,13 @@ pub fn run(arguments: &Arguments) -> ExitCode {
             Ok(true)
         }
         ["generate", directory, count] => generate(arguments, directory, count),
+        ["pipe-vectors", count] => {
+            let count = count.parse().map_err(|_| "pipe-vectors takes a number".to_string());
+            count.and_then(|count| {
+                print!("{}", pipe_runs::vectors(count, arguments.seed()?));
+                Ok(true)
+            })
+        }
         ["samples", directory] => samples(arguments, directory),
         ["lister"] => lister(arguments),
         _ => Err(format!("usage:\n{USAGE}")),
@@ -195,7 +209,10 @@ fn compare(arguments: &Arguments) -> Verdict {
     let (pairs, pair_calls) = (arguments.number("pairs")?, arguments.number("pair-calls")?);
     let port_calls = arguments.number("port-calls")?;
     let strikes = arguments.number("strikes")?;
-    let both = [sets, calls, writes, dumps, trims, supers, pairs, pair_calls, port_calls, strikes].iter().all(Option::is_none);
+    let (wire_calls, transfers) = (arguments.number("wire-calls")?, arguments.number("transfers")?);
+    let named =
+        [sets, calls, writes, dumps, trims, supers, pairs, pair_calls, port_calls, strikes, wire_calls, transfers];
+    let both = named.iter().all(Option::is_none);
     let mut right = true;
     if let Some(pairs) = pairs {
         right &= compare_pairs(arguments, pairs)?;
@@ -205,6 +222,12 @@ fn compare(arguments: &Arguments) -> Verdict {
     }
     if let Some(calls) = strikes {
         right &= compare_strikes(arguments, calls)?;
+    }
+    if let Some(calls) = wire_calls {
+        right &= compare_wires(arguments, calls)?;
+    }
+    if let Some(transfers) = transfers {
+        right &= compare_transfers(arguments, transfers)?;
     }
     if let Some(calls) = port_calls {
         right &= compare_ports(arguments, calls)?;
@@ -286,6 +309,35 @@ fn compare_ports(arguments: &Arguments, calls: usize) -> Verdict {
         println!("{unlike}");
     }
     Ok(same & unlike.is_none() & reached(&numbered(&numbers, &PORT_NUMBERS), calls >= DEFAULT_PORT_CALLS))
+}
+
+/// Every event in every stage, every order and every number.
+fn compare_wires(arguments: &Arguments, calls: usize) -> Verdict {
+    let mut comparison = Comparison::start(arguments.program()?, PATIENCE).map_err(told)?;
+    let tally = pipe_runs::wires(&mut comparison, calls, arguments.seed()?, arguments.fault()?);
+    let numbers = comparison.numbers;
+    let same = ended(comparison, "pipe", "events")?;
+    let demanded = calls >= DEFAULT_WIRE_CALLS;
+    let in_stages = STAGES.iter().zip(tally.met).flat_map(|(stage, counts)| {
+        let of_event = move |(event, count): (&&str, usize)| (format!("{event} in {stage}"), count);
+        EVENTS.iter().zip(counts).map(of_event).collect::<Vec<_>>()
+    });
+    let in_stages: Vec<(String, usize)> = in_stages.collect();
+    let orders: Vec<(String, usize)> = ORDERS.iter().map(|order| format!("order {order}")).zip(tally.orders).collect();
+    let met = reached(&in_stages, demanded) & reached(&orders, demanded);
+    Ok(same & met & reached(&numbered(&numbers, &WIRE_NUMBERS), demanded))
+}
+
+/// What a host sees of whole transfers is what the library's own events say.
+fn compare_transfers(arguments: &Arguments, most: usize) -> Verdict {
+    let mut comparison = Comparison::start(arguments.program()?, PATIENCE).map_err(told)?;
+    let tally = transfers::compared(&mut comparison, most, arguments.seed()?, arguments.fault()?);
+    let same = ended(comparison, "transfers", "events of the wire")?;
+    println!("transfers: {} runs of {} transfers, {} packets", tally.runs, tally.transfers, tally.packets);
+    if let Some(noticed) = &tally.noticed {
+        println!("the host does NOT see what it should: {noticed}");
+    }
+    Ok(same & tally.noticed.is_none())
 }
 
 /// The law holds in every run, and each premise is needed: a run without it is noticed.
@@ -392,6 +444,8 @@ fn faults(arguments: &Arguments) -> Verdict {
             super_draft::opening(&mut comparison, DEFAULT_SUPERS, seed, fault);
         } else if fault::PORTS.contains(&fault) {
             runs::ports(&mut comparison, DEFAULT_PORT_CALLS, seed, fault);
+        } else if fault::PIPE.contains(&fault) || fault::TRANSFERS.contains(&fault) {
+            pipe_runs::wires(&mut comparison, DEFAULT_WIRE_CALLS, seed, fault);
         } else if fault::STRIKES.contains(&fault) {
             runs::strikes(&mut comparison, DEFAULT_STRIKES, seed, fault);
         } else {
@@ -407,7 +461,13 @@ fn faults(arguments: &Arguments) -> Verdict {
         unnoticed += usize::from(tally.noticed.is_none());
         print_fault(fault, tally.noticed.map(|_| tally.runs), "runs");
     }
-    println!("faults: {} planted, {unnoticed} not noticed", Fault::at_boundary().count());
+    for fault in fault::LOOP.iter().chain(fault::TRANSFERS).copied() {
+        // nor does a host trust a device that breaks the pipe's promises
+        let tally = transfers::alone(DEFAULT_RUNS, seed, fault);
+        unnoticed += usize::from(tally.noticed.is_none());
+        print_fault(fault, tally.noticed.map(|_| tally.transfers), "transfers");
+    }
+    println!("faults: {} planted, {unnoticed} not noticed", Fault::at_boundary().chain(fault::LOOP.iter().copied()).count());
     Ok(unnoticed == 0)
 }
 

@@ -166,12 +166,13 @@ impl Pending {
     fn reproduction(&self, call: usize, got: &str) -> String {
         let outcome = self.call.answer(&self.lent);
         format!(
-            "call {call}, placement {}, as a vector:\nset {}\nhigh {}\nserial {}\nrecord {}\n{} -> {}\ngot {got}\n",
+            "call {call}, placement {}, as a vector:\nset {}\nhigh {}\nserial {}\nrecord {}\n{}{} -> {}\ngot {got}\n",
             self.flags,
             hex(&self.lent.set),
             self.lent.high.as_ref().map_or("none".to_string(), |high| hex(high)),
             hex(&self.lent.serial),
             hex(self.call.image()),
+            self.call.loans(),
             self.call.question(),
             self.call.answer_words(&outcome)
         )

@@ -135,6 +135,26 @@ faults! {
         HaltStopsEveryEndpoint StatusOfAnyHalt InterfaceClearsWakeup AlternateOfHighestInterface PacketPassedDropsTestMode
         HaltFeatureSuspends SettingTakenByNeighbour
     }
+    PIPE {
+        LongerPipePasses SetupOnAnyPipe SetupNeedsFittingPipe NoSizeFits StageEightFits BlockFourFits AnyDirectionFits
+        LastBytesIgnored ReplyAboveAskedFits ReplyOutsideBlockFits TooManyReceivedFit WrongSetupLengthStalls
+        WrongStateAsks ResetSpeedByLowByte ResetKeepsTransfer RefusedResetEndsTransfer MisfitBecomesIdle
+        PacketOpensSet TakenEndsStatusOut AnyPacketIsStatus RefusedUnasked AcceptedUnasked ReplyToAWrite
+        ReplyWithoutData RoomForARead AcceptedWithoutItsData StallKeepsTransfer RefusedEndKeepsTransfer
+        RoomIsPacketSize
+    }
+    TRANSFERS {
+        DroppedTransferEnds PipeOfFullSet TwoBytesAreNoBlock ApplicationNotAsked DirectionIgnored PacketSizeOfFullSet
+        SpeedNotTold SamePacketAgain PacketSkipped EndsWithoutStatus EarlyStatusIgnored StrayPacketEndsStatusIn
+        ShortPacketPasses EmptyPacketPasses LongPacketPasses BytesOfEachPacketAtTheStart BytesTakenUnasked
+        BytesRefusedAllTheSame RefusedBytesAccepted ReplyLongerThanAsked ReplyLiesInSet RoomNotMeasured RoomOneMore
+        StallNotOrdered EndedTransferStays StatusEndNotTold TestModeNotEntered PacketFromTheStart
+    }
+    LOOP {
+        EndpointsNeverClosed FirstEndpointSkipped OneEndpointOnly EndpointsNotChangedBySetConfiguration
+        EndpointsNotChangedBySetInterface TestModeByItsByte EventsGoToTheFirstPort HardwareOfTheFirstPort
+        PacketOfOldBytes ReplyNotLentAgain AddressFollowedAtSetup EarlyStatusNotExpected
+    }
     LISTER {
         AttributesInsteadOfTransferType PacketSizeByLowByte IndexInsteadOfValue FirstSettingsOnly
         SettingsInsteadOfInterfaces
@@ -144,7 +164,7 @@ faults! {
 impl Fault {
     /// All that show at the C boundary.
     pub fn at_boundary() -> impl Iterator<Item = Fault> {
-        [OPENING, EVENTS, PACKETS, ENDPOINTS, WRITER, DUMPS, TRIM, PAIRS, SPEEDS, PORTS, STRIKES, SUPER]
+        [OPENING, EVENTS, PACKETS, ENDPOINTS, WRITER, DUMPS, TRIM, PAIRS, SPEEDS, PORTS, STRIKES, SUPER, PIPE, TRANSFERS]
             .into_iter()
             .flatten()
             .copied()
@@ -155,7 +175,7 @@ impl Fault {
     }
 
     pub fn named(name: &str) -> Option<Fault> {
-        let every = Fault::at_boundary().chain(LISTER.iter().copied()).chain([Fault::None]);
+        let every = Fault::at_boundary().chain(LISTER.iter().chain(LOOP).copied()).chain([Fault::None]);
         every.into_iter().find(|fault| fault.name() == name)
     }
 }

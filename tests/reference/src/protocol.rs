@@ -16,6 +16,8 @@
 //!     O image                hk_two_open                   V event(1) value(1) image setup    hk_two_event
 //!     N number(1) image      hk_two_endpoint
 //!     q port(8) event(1) value(1) row setup   hk_port_event: the image is the row, Q the same for hk_two_port_event
+//!     c event(1) value(2) image pipe reply setup   hk_pipe_event, C the same for hk_two_pipe_event: the image is the order(1),
+//!                            the room(2), the pipe record and the image
 //!     w pieces buffer        hk_write: length is what was written, the image is the buffer
 //!     f image                hk_super_open                 F pieces buffer   hk_super_write, as hk_write
 //!     i dump buffer          hk_import, in the same way    x buffer       hk_export
@@ -26,7 +28,7 @@
 
 use std::io::{self, Read, Write};
 
-use crate::call::Call;
+use crate::call::{Call, PipeCall};
 use crate::events::{Block, Event, Outcome};
 use crate::octets::{hex, number, wide_number};
 use crate::record::FULL_SPEED;
@@ -35,7 +37,7 @@ use crate::record::FULL_SPEED;
 pub const FLAGS: u8 = 0x0f;
 
 /// The largest block that either side takes.
-const LONGEST_BLOCK: usize = 100_000;
+const LONGEST_BLOCK: usize = 200_000;
 
 pub enum Command {
     Set(Vec<u8>),
@@ -143,6 +145,8 @@ impl Command {
             Command::Call(Call::TwoEndpoint { .. }) => b'N',
             Command::Call(Call::Port { .. }) => b'q',
             Command::Call(Call::TwoPort { .. }) => b'Q',
+            Command::Call(Call::Pipe(_)) => b'c',
+            Command::Call(Call::TwoPipe(_)) => b'C',
             Command::Call(Call::Explain) => b'X',
             Command::Call(Call::Event { event, .. }) => match event {
                 Event::Setup(_) => b's',
@@ -226,6 +230,11 @@ fn write_call(call: &Call, stream: &mut impl Write) -> io::Result<()> {
             stream.write_all(&[*number])?;
             write_block(stream, image)
         }
+        Call::Pipe(call) | Call::TwoPipe(call) => {
+            stream.write_all(&[call.number])?;
+            stream.write_all(&call.value.to_le_bytes())?;
+            [&call.image, &call.pipe, &call.reply, &call.setup].iter().try_for_each(|block| write_block(stream, block))
+        }
         Call::Explain => Ok(()),
     }
 }
@@ -246,6 +255,8 @@ fn read_call(operation: u8, stream: &mut impl Read) -> io::Result<Call> {
         }
         b't' => return Ok(Call::Trim { set: read_block(stream)? }),
         b'X' => return Ok(Call::Explain),
+        b'c' => return Ok(Call::Pipe(read_pipe(stream)?)),
+        b'C' => return Ok(Call::TwoPipe(read_pipe(stream)?)),
         b'V' => {
             let [number, value] = read_array(stream)?;
             return Ok(Call::TwoEvent { image: read_block(stream)?, number, value, setup: read_block(stream)? });
@@ -283,6 +294,13 @@ fn read_call(operation: u8, stream: &mut impl Read) -> io::Result<Call> {
         _ => return Err(io::ErrorKind::InvalidData.into()),
     };
     Ok(Call::Event { image: read_block(stream)?, event })
+}
+
+fn read_pipe(stream: &mut impl Read) -> io::Result<PipeCall> {
+    let [event, low, high] = read_array(stream)?;
+    let (image, pipe, reply) = (read_block(stream)?, read_block(stream)?, read_block(stream)?);
+    let (value, setup) = (u16::from_le_bytes([low, high]), read_block(stream)?);
+    Ok(PipeCall { image, pipe, reply, number: event, value, setup })
 }
 
 fn read_packet(stream: &mut impl Read) -> io::Result<Call> {

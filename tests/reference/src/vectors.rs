@@ -1,12 +1,13 @@
 //! A file of questions with answers: each is answered here, and by a program where one is given.
 
-use crate::call::Call;
+use crate::call::{Call, PipeCall};
 use crate::concerns::concerned;
 use crate::events::{Event, Lent};
 use crate::fault::Fault;
 use crate::lister::{list, list_super};
 use crate::octets::{from_hex, hex};
 use crate::packets;
+use crate::pipe::{Wire, AT_REST};
 use crate::record::{Record, FULL_SPEED};
 
 /// The requests of document 02 that change old answers and have landed.
@@ -16,6 +17,8 @@ const LANDED: [&str; 4] = ["l2", "l6", "l12", "l7"];
 struct Script {
     lent: Lent,
     record: Vec<u8>,
+    pipe: Vec<u8>,
+    reply: Vec<u8>,
     /// A record left is lent to the next question; not in a file that names its rules.
     carries_over: bool,
     /// The rules that the file names have all landed: only then may it ask of a board. The makers' calls do not go by them.
@@ -37,7 +40,7 @@ pub struct Tally {
 /// Answers every question; `ask` is handed the calls that a program must answer alike.
 pub fn run(text: &str, ask: &mut dyn FnMut(&Lent, &Call)) -> Tally {
     let lent = Lent::new(Vec::new(), Vec::new(), Fault::None);
-    let mut script = Script { lent, record: Vec::new(), carries_over: true, landed: true };
+    let mut script = Script { lent, record: Vec::new(), pipe: AT_REST.bytes(), reply: Vec::new(), carries_over: true, landed: true };
     let mut tally = Tally { questions: 0, disagreements: Vec::new() };
     for (at, line) in text.lines().enumerate() {
         let Some((question, expected)) = line.split_once(" -> ") else {
@@ -85,6 +88,8 @@ impl Script {
             "high" => self.relend(self.lent.set.clone(), Some(bytes), self.lent.serial.clone()),
             "serial" => self.relend(self.lent.set.clone(), self.lent.high.clone(), bytes),
             "record" => self.record = bytes,
+            "pipe" => self.pipe = bytes,
+            "reply" => self.reply = bytes,
             _ => return None,
         }
         Some(())
@@ -141,6 +146,7 @@ impl Script {
                 };
                 Some(self.tell_call(call))
             }
+            "wire" if self.landed => Some(self.tell_wire(&wire(&words[1..])?)),
             "count" => tell_count(&numbers(&words[1..])?),
             "list" => told(hex(list(&self.lent.set, &self.lent.serial, Fault::None).as_bytes())),
             "listsuper" => told(hex(list_super(&self.lent.set, &self.lent.serial, Fault::None).as_bytes())),
@@ -170,6 +176,18 @@ impl Script {
         calls.extend(Call::numbered(&self.record, event));
         let told = self.tell_call(Call::Event { image: self.record.clone(), event: event.clone() });
         Told { calls, ..told }
+    }
+
+    /// The pipe record that it leaves is lent to the next question too.
+    fn tell_wire(&mut self, wire: &Wire) -> Told {
+        let call = PipeCall::new(&self.record, &self.pipe, &self.reply, wire);
+        let heard = call.hear(&self.lent);
+        let call = Call::pipe(&self.lent, call);
+        let text = call.answer_words(&call.answer(&self.lent));
+        if self.carries_over {
+            (self.record, self.pipe) = (heard.image, heard.pipe);
+        }
+        Told { text, calls: vec![call] }
     }
 
     fn fits(&self) -> bool {
@@ -205,6 +223,25 @@ fn event(words: &[&str]) -> Option<Event> {
         "resume" => Some(Event::Resume),
         "wake" => Some(Event::Wake),
         "other" => Some(Event::of_number(byte(1)?, byte(2)?, &from_hex(words.get(3)?)?)),
+        _ => None,
+    }
+}
+
+fn wire(words: &[&str]) -> Option<Wire> {
+    let value = || words.get(1)?.parse().ok();
+    match *words.first()? {
+        "setup" => Some(Wire::Setup(from_hex(words.get(1)?)?)),
+        "taken" => Some(Wire::Taken),
+        "received" => Some(Wire::Received(value()?)),
+        "reset" => Some(Wire::Reset(value()?)),
+        "reply" => Some(Wire::Reply),
+        "room" => Some(Wire::Room(value()?)),
+        "accept" => Some(Wire::Accept),
+        "refuse" => Some(Wire::Refuse),
+        "other" => {
+            let number = u8::from_str_radix(words.get(1)?, 16).ok()?;
+            Some(Wire::of_number(number, words.get(2)?.parse().ok()?, &from_hex(words.get(3)?)?))
+        }
         _ => None,
     }
 }
