@@ -41,9 +41,9 @@ use Rattle.pipes.specs.declared.response.Response.{Response}
 use Rattle.pipes.specs.Transfer.{idle, nothing}
 use Rattle.pipes.specs.Image.{transferOf, imageOf, fitsIn}
 use Rattle.pipes.specs.Turns.{replyAt, turned}
-use Rattle.pipes.specs.Sending.{roomFor, sent, inBlock, bytesIn, HandsPiece}
-use Rattle.pipes.specs.Pipe.{Told, Records, Heard, lengthsIn, lengthsOf, packetSize, unheard, orderBegun, pipeBegun, turnBegun, begins, pipeReset, restarts, moves, onTransfer, heardAs, heard, room, handsOver, isSetup, tells, libraryEvent, unheardMoved, movedBy, pipeMoved, looked, pipeLooked}
-use Rattle.pipes.specs.Response.{outOf, bare, withBytes, responds, settles, outBytes, Gets}
+use Rattle.pipes.specs.Sending.{roomFor, sent, inBlock, bytesIn}
+use Rattle.pipes.specs.Pipe.{Told, Records, Heard, lengthsIn, lengthsOf, packetSize, unheard, orderBegun, pipeBegun, turnBegun, begins, pipeReset, restarts, moves, onTransfer, heardAs, heard, room, handsOver, tells, libraryEvent, outOf}
+use Rattle.pipes.specs.Hearing.{HandsPiece, isSetup, unheardMoved, movedBy, pipeMoved, looked, pipeLooked, bare, withBytes, responds, settles, outBytes, Gets}
 use Rattle.pipes.proofs.Looking.{looked-moves, pipe-looked-moves}
 use Rattle.pipes.proofs.Ending.{turned-rests}
 use Rattle.board.specs.Exports.{Spot, spotOf, spotsTwo}

@@ -95,7 +95,7 @@ abbrev pub fiveWaits : List ℕ
 fiveWaits = 0 ∷ 0 ∷ 5 ∷ replicate 29 0
 
 -- FF FF is refused on every board and every image
-unknown-refused : (b : Board) (image : List ℕ) → numberOf (event b image (setupEvent unknown) .answer) ≡ 0 → ⊥
+pub unknown-refused : (b : Board) (image : List ℕ) → numberOf (event b image (setupEvent unknown) .answer) ≡ 0 → ⊥
 unfolding computed
 unknown-refused b image = cases (eqb (length image) 32)
     (λ p. cases (accepted b)
@@ -109,7 +109,7 @@ unknown-refused b image = cases (eqb (length image) 32)
 -- ---- on every accepted board, of one set or of two, whatever has been called before
 module _ (b : Board) (small : BytesOf b) (opens : accepted b ≡ true) where
   -- SET_ADDRESS 5 is done on the fresh record, and the status end after it takes the address
-  five-done : (numberOf (event b freshImage (setupEvent setAddressFive) .answer) ≡ 0) × (event b freshImage (setupEvent setAddressFive) .image ≡ fiveWaits)
+  pub five-done : (numberOf (event b freshImage (setupEvent setAddressFive) .answer) ≡ 0) × (event b freshImage (setupEvent setAddressFive) .image ≡ fiveWaits)
   unfolding computed
   five-done = let fit = freshFit b small opens .0 in cases (isSome (b .high)) (λ p. rw (opens, fit, p) (refl, refl)) (λ p. rw (opens, fit, p) (refl, refl))
 

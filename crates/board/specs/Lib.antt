@@ -6,6 +6,7 @@ pub mod Decided
 pub mod Ways
 pub mod Opening
 pub mod Runs
+pub mod PipeRuns
 pub mod Transfers
 pub mod Endpoints
 pub mod CurrentGroups
@@ -23,3 +24,5 @@ pub mod InhabitedExports
 pub mod InhabitedGroups
 pub mod Kinds
 pub mod OneSet
+pub mod InhabitedPipes
+pub mod IdlePipes

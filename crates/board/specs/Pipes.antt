@@ -7,8 +7,7 @@ use Rattle.records.specs.Image.{deviceOf}
 use Rattle.records.specs.Current.{setFor, inUse}
 use Rattle.pipes.specs.declared.Piece.{Piece}
 use Rattle.pipes.specs.Sending.{inBlock, bytesIn}
-use Rattle.pipes.specs.Pipe.{Told, Records, heard, handsOver}
-use Rattle.pipes.specs.Response.{outOf}
+use Rattle.pipes.specs.Pipe.{Told, Records, heard, handsOver, outOf}
 use Rattle.board.specs.Exports.{Spot, Spots}
 
 -- PIPE 41, 42: the bytes of the part, and where it lies: in the set in use, by byte 7 of the record that the event found, the serial block or the

@@ -8,9 +8,9 @@ ghost use Rattle.octets.specs.Sentences.{pick};
 ghost use Rattle.sets.specs.Opening.{lent, lentTwo};
 ghost use lib.Dec.{eqb};
 ghost use Rattle.pipes.specs.Image.{transferOf};
-ghost use Rattle.pipes.specs.Sending.{roomFor, sent, HandsPiece};
+ghost use Rattle.pipes.specs.Sending.{roomFor, sent};
 ghost use Rattle.pipes.specs.Pipe.{heard, lengthsIn, wireOf};
-ghost use Rattle.pipes.specs.Response.{outBytes, Gets};
+ghost use Rattle.pipes.specs.Hearing.{HandsPiece, outBytes, Gets};
 ghost use Rattle.board.specs.Exports.{spotOf, spots, spotsTwo};
 ghost use Rattle.board.specs.Pipes.{AnswersPipe};
 

@@ -15,5 +15,6 @@ pub mod OnWire
 pub mod Enumerates
 pub mod Orders
 pub mod Counting
+pub mod Keeps
 pub mod Promises
 pub mod Inhabited

@@ -27,7 +27,7 @@ use Rattle.pipes.specs.Turns.{turned}
 use Rattle.pipes.specs.Pipe.{Told, Records, Heard, lengthsOf, moves, begins, packetSize, onTransfer, heardAs, heard}
 use Rattle.pipes.proofs.Inverse.{image-length}
 use Rattle.pipe_runs.specs.Runs.{Happening, onWire, beside, leaves, leavesBy, after, heardIn, powerOn, isIdle, isStalled, aSetup, eventsAt, eventsIn, deviceAfter, numberAfter}
-use Rattle.pipe_runs.specs.Promises.{NothingElseMoves, NumbersAreTheLibrarys, OrderDoesNotCount, ReadsTheReply, ReadsTheApplications, OwnAddress, OncePerTransfer, NeverForADropped, AtMostOnePerSetup, NoLockOut, SendsNothing, RefusedSendsNothing, RestSendsNothing, ran, EnumeratesByPackets, EnumeratesAnyhow, AlwaysFits, NeverEight}
+use Rattle.pipe_runs.specs.Promises.{NothingElseMoves, NumbersAreTheLibrarys, OrderDoesNotCount, ReadsTheReply, ReadsTheApplications, OwnAddress, OncePerTransfer, NeverForADropped, AtMostOnePerSetup, NoLockOut, SendsNothing, RefusedSendsNothing, RestSendsNothing, ran, TakesEachPacket, EnumeratesByPackets, EnumeratesAnyhow, AlwaysFits, NeverEight}
 use Rattle.pipe_runs.proofs.Moves as moving
 use Rattle.pipe_runs.proofs.Resting.{Rests, restsIn}
 use Rattle.pipe_runs.proofs.Setups as setups
@@ -39,6 +39,7 @@ use Rattle.pipe_runs.proofs.Orders as orders
 use Rattle.pipe_runs.proofs.Counting as counting
 use Rattle.pipe_runs.proofs.Keeping as keeping
 use Rattle.pipe_runs.proofs.Enumerates as enumerates
+use Rattle.pipe_runs.proofs.Keeps as keeps
 
 -- ---- 2
 pub nothingElseMoves : NothingElseMoves
@@ -136,6 +137,9 @@ enumeratesAnyhow b octets ok r start calm speed good a low high i there = enumer
 pub enumeratesByPackets : EnumeratesByPackets
 enumeratesByPackets b octets ok r (ran es) calm speed good a low high i there =
     enumeratesAnyhow b octets ok (after b powerOn es) (fitsInRun b octets ok es, longInRun b powerOn es (image-length idle)) calm speed good a low high i there
+
+pub takesEachPacket : TakesEachPacket
+takesEachPacket b speed address i = keeps.takesEachPacket b speed address i
 
 -- ---- no 8
 pub alwaysFits : AlwaysFits

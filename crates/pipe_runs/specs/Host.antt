@@ -2,6 +2,7 @@
 -- empty packet when that is awaited, and takes the empty packet of a transfer without data.
 use Prim.Native.Nat.{ℕ, _-_, _/_, _%_}
 use mathlib.Core.Path.{_≡_}
+use mathlib.Core.Bool.{Bool, false, _&&_}
 use mathlib.Core.List.{List, [], _∷_, _++_, map, flatMap}
 use lib.Dec.{eqb}
 use Rattle.octets.specs.Sentences.{pick, from, upTo, isSome}
@@ -16,7 +17,7 @@ use Rattle.events.specs.declared.Event.{Event}
 use Rattle.events.specs.declared.Event.the-variants.{Request, Malformed, StatusEnd, BusReset, Halt, PacketPassed, Power, Suspend, Resume, Wake}
 use Rattle.order.specs.Run.{run, log}
 use Rattle.pipes.specs.declared.Wire.{Wire}
-use Rattle.pipes.specs.declared.Wire.the-variants.{Setup, Taken, Received, Reset}
+use Rattle.pipes.specs.declared.Wire.the-variants.{Setup, Taken, Received, Reset, Reply, Room, Accept, Refuse, Unknown}
 use Rattle.pipes.specs.Transfer.{idle, nothing, send, await}
 use Rattle.pipes.specs.Image.{imageOf}
 use Rattle.pipes.specs.Pipe.{Told, Records, heard}
@@ -45,6 +46,23 @@ tells = map (λ (l : WireLine). l .0)
 pub record PlaysOnWire (b : Board) (r : Records) (script : List WireLine) (last : Records) : Type 0 where
   pub shown : log (shows b) (leaves b) r (tells script) ≡ script
   pub ends : run (leaves b) r (tells script) ≡ last
+
+-- ---- a host that keeps to what it is ordered: it takes each packet that is handed over, sends its empty packet where that is awaited, and begins anew where nothing is ordered
+abbrev pub mayFollow : ℕ → Wire → Bool
+mayFollow order Setup = eqb order nothing
+mayFollow order (Reset speed) = eqb order nothing
+mayFollow order Taken = eqb order send
+mayFollow order (Received n) = eqb order await && eqb n 0
+mayFollow order Reply = false
+mayFollow order (Room n) = false
+mayFollow order Accept = false
+mayFollow order Refuse = false
+mayFollow order Unknown = false
+
+-- a script of such a host, after an order; in the end nothing is ordered
+abbrev pub keepsTo : ℕ → List WireLine → Bool
+keepsTo order [] = eqb order nothing
+keepsTo order (l ∷ ls) = mayFollow order (l .0 .wire) && keepsTo (l .1 .order) ls
 
 -- ---- the lines: number 0, with an order
 abbrev pub wire : Wire → Told

@@ -25,6 +25,7 @@ use Rattle.promises.specs.Rearranged.{Rearranged, imageHeard}
 use Rattle.pipes.specs.declared.Transfer.{Transfer}
 use Rattle.pipes.specs.declared.Wire.{Wire}
 use Rattle.pipes.specs.declared.Wire.the-variants.{Taken, Received, Reply}
+use Rattle.pipes.specs.Transfer as pipe
 use Rattle.pipes.specs.Transfer.{idle, dataIn, statusOut, statusIn, inReply, send, await, receive, stall}
 use Rattle.pipes.specs.Image.{transferOf, imageOf, fitsIn}
 use Rattle.pipes.specs.Turns.{mayReply}
@@ -34,7 +35,7 @@ use Rattle.enumeration.specs.Enumeration.{deviceLines, enumerated}
 use Rattle.pipe_runs.specs.Runs.{Happening, onWire, beside, leaves, leavesBy, after, heardIn, powerOn, Resting, aSetup, answeredWith, isSetupPacket, isQuiet, endsAt, eventsAt, eventsIn, deviceAfter, numberAfter, tellsEnd, noEnd}
 use Rattle.pipe_runs.specs.Packets.{replyTo, Within, Begins}
 use Rattle.pipe_runs.specs.Addresses.{Readdresses}
-use Rattle.pipe_runs.specs.Host.{PlaysOnWire, ReadsWhole, readLines, sizeFor, enumerationOnWire, atRest}
+use Rattle.pipe_runs.specs.Host.{keepsTo, PlaysOnWire, ReadsWhole, readLines, sizeFor, enumerationOnWire, atRest}
 
 -- ---- PIPE 51: "Nothing else moves the device. The device record after a run is that of the library's own events: a setup at each SETUP, a status end at each transfer that has ended,
 -- a reset at each reset, and no other"; and the board's other events, told beside the pipe
@@ -149,6 +150,10 @@ EnumeratesFrom Start =
     → (i : ℕ) → i < bNumConfigurations (deviceBody (setFor b speed))
     → PlaysOnWire b r (enumerationOnWire b speed address i) (atRest (enumerated speed address (bConfigurationValue (configurationBody (setFor b speed) i)) (deviceOf (r .image))))
     × All (ReadsWhole (sizeFor b speed)) (deviceLines (deviceBody (setFor b speed)) ++ readLines b speed)
+
+-- "taking each packet that is handed over": the script is of a host that keeps to what it is ordered
+abbrev pub TakesEachPacket : Type 0
+TakesEachPacket = (b : Board) (speed address i : ℕ) → keepsTo pipe.nothing (enumerationOnWire b speed address i) ≡ true
 
 -- what a run from power-on leaves
 pub data SincePowerOn (b : Board) : Records → Type 0 where

@@ -11,7 +11,8 @@ use Rattle.pipes.specs.declared.Lengths.{Lengths}
 use Rattle.pipes.specs.declared.Wire.{Wire}
 use Rattle.pipes.specs.declared.hearing.Moved.{Moved}
 use Rattle.pipes.specs.Transfer.{nothing}
-use Rattle.pipes.specs.Pipe.{tells, unheardMoved, movedBy, pipeMoved, looked, pipeLooked}
+use Rattle.pipes.specs.Pipe.{tells}
+use Rattle.pipes.specs.Hearing.{unheardMoved, movedBy, pipeMoved, looked, pipeLooked}
 
 module _ (l : Lengths) (w : Wire) (pipe : List ℕ) (long : length pipe ≡ 16) (looks : tells w ≡ false) where
   pub looked-moves : looked l w pipe ≡ movedBy l w pipe

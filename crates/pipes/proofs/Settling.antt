@@ -20,9 +20,9 @@ use Rattle.pipes.specs.declared.Transfer.{Transfer}
 use Rattle.pipes.specs.declared.Wire.{Wire}
 use Rattle.pipes.specs.declared.response.Response.{Response}
 use Rattle.pipes.specs.Transfer.{dataIn, send, blockLength, fits}
-use Rattle.pipes.specs.Sending.{pieceOf, noPiece, sends, sent, inBlock, Inside, bytesIn, HandsPiece}
-use Rattle.pipes.specs.Pipe.{isSetup, lengthsIn, orderBegun, pipeBegun, turnBegun, pipeReset}
-use Rattle.pipes.specs.Response.{bare, withBytes, responds, settles}
+use Rattle.pipes.specs.Sending.{pieceOf, noPiece, sends, sent, inBlock, Inside, bytesIn}
+use Rattle.pipes.specs.Pipe.{lengthsIn, orderBegun, pipeBegun, turnBegun, pipeReset}
+use Rattle.pipes.specs.Hearing.{HandsPiece, isSetup, bare, withBytes, responds, settles}
 use Rattle.pipes.proofs.Fitting.{reply-inside}
 
 module _ (size : ℕ) (w : Wire) (s : Setup) (a : Answer) (pipe : List ℕ) {r : Response} {left : List ℕ} where

@@ -1,9 +1,11 @@
--- The pipe event: the library's own events, composed with the stages of the transfer (docs/PIPE.md, "The rules").
-use Prim.Native.Nat.{ℕ, min}
+-- The pipe event: the library's own events, composed with the stages of the transfer (docs/PIPE.md, "The rules"),
+-- and what it hands over ("What is handed over", "For C").
+use Prim.Native.Nat.{ℕ, _/_, _%_, min}
 use mathlib.Core.Bool.{Bool, true, false}
-use mathlib.Core.List.{List, []}
+use mathlib.Core.List.{List, [], _∷_}
 use lib.ListN.{length}
 use lib.Dec.{eqb}
+use Rattle.octets.specs.Octets.{byte}
 use Rattle.octets.specs.Sentences.{pick}
 use Rattle.sets.specs.Opening.{Board}
 use Rattle.sets.specs.Device.{bMaxPacketSize0, deviceBody}
@@ -18,7 +20,6 @@ use Rattle.events.specs.Answer.{numberOf, bytesOf}
 use Rattle.events.specs.Step.{Reply, setupEvent, event}
 use Rattle.pipes.specs.declared.Lengths.{Lengths}
 use Rattle.pipes.specs.declared.Piece.{Piece}
-use Rattle.pipes.specs.declared.hearing.Moved.{Moved}
 use Rattle.pipes.specs.declared.Turn.{Turn}
 use Rattle.pipes.specs.declared.Wire.{Wire}
 use Rattle.pipes.specs.declared.Wire.the-variants.{Setup, Taken, Received, Reset, Reply as Replies, Room, Accept, Refuse, Unknown}
@@ -122,6 +123,10 @@ room h = roomFor (h .order) (transferOf (h .left .pipe))
 abbrev pub handsOver : Board → Records → Told → Piece
 handsOver b r e = sent (lengthsOf b (r .image) (e .reply)) (heard b r e .order) (transferOf (heard b r e .left .pipe))
 
+-- PIPE 46: "the order, how many bytes count, the two bytes (0 where they do not count), the room, low byte first"
+abbrev pub outOf : Heard → List ℕ
+outOf h = h .order ∷ length (h .bytes) ∷ byte (h .bytes) 0 ∷ byte (h .bytes) 1 ∷ room h % 256 ∷ room h / 256 % 256 ∷ []
+
 -- ---- PIPE 1 to 4, the numbers of the events: 0 setup, 1 taken, 2 received, 3 reset, 4 reply, 5 room, 6 accept, 7 refuse. "A reset's value above 255
 -- counts as 255"
 unfoldable pub wireOf : ℕ → ℕ → Wire
@@ -135,20 +140,7 @@ wireOf kind value =
     (pick (eqb kind 6) Accept
     (pick (eqb kind 7) Refuse Unknown)))))))
 
--- ---- working definitions: the same in the code's order, what is made of the pipe record before the library hears of an event, which it hears, and after
--- a setup, of 8 bytes or not
-abbrev pub isSetup : Wire → Bool
-isSetup Setup = true
-isSetup Unknown = true
-isSetup (Reset speed) = false
-isSetup Taken = false
-isSetup (Received n) = false
-isSetup Replies = false
-isSetup (Room n) = false
-isSetup Accept = false
-isSetup Refuse = false
-
--- the library hears of it, whatever the transfer
+-- ---- PIPE 51: which events the library hears of, whatever the transfer, and as which of its own; any that looks at the transfer ends it with a status end
 abbrev pub tells : Wire → Bool
 tells Setup = true
 tells Unknown = true
@@ -160,7 +152,6 @@ tells (Room n) = false
 tells Accept = false
 tells Refuse = false
 
--- the event that the library hears
 abbrev pub libraryEvent : Wire → List ℕ → Event
 libraryEvent Setup setup = setupEvent setup
 libraryEvent Unknown setup = Malformed
@@ -171,22 +162,3 @@ libraryEvent Replies setup = StatusEnd
 libraryEvent (Room n) setup = StatusEnd
 libraryEvent Accept setup = StatusEnd
 libraryEvent Refuse setup = StatusEnd
-
-abbrev pub unheardMoved : Moved
-unheardMoved = record { number = 8; order = nothing; ended = false }
-
--- an event that looks at the transfer
-abbrev pub movedBy : Lengths → Wire → List ℕ → Moved
-movedBy l w pipe =
-    let turn = turned (l .reply) w (transferOf pipe) in
-    pick (fitsIn l pipe) (record { number = 0; order = turn .order; ended = turn .ended }) unheardMoved
-
-abbrev pub pipeMoved : Lengths → Wire → List ℕ → List ℕ
-pipeMoved l w pipe = pick (fitsIn l pipe) (imageOf (turned (l .reply) w (transferOf pipe) .transfer)) pipe
-
--- any event
-abbrev pub looked : Lengths → Wire → List ℕ → Moved
-looked l w pipe = pick (eqb (length pipe) 16) (pick (tells w) (record { number = 0; order = nothing; ended = true }) (movedBy l w pipe)) unheardMoved
-
-abbrev pub pipeLooked : Lengths → Wire → List ℕ → List ℕ
-pipeLooked l w pipe = pick (eqb (length pipe) 16) (pick (tells w) pipe (pipeMoved l w pipe)) pipe

@@ -1,6 +1,5 @@
 -- What goes out and what may come in, by the order and the transfer after an event (docs/PIPE.md, "What is handed over").
 use Prim.Native.Nat.{ℕ, _+_, _≤_}
-use mathlib.Core.Path.{_≡_}
 use mathlib.Core.Bool.{Bool, _&&_}
 use mathlib.Core.List.{List, []}
 use lib.ListN.{length}
@@ -44,9 +43,3 @@ Inside first used serial reply p = p .offset + p .length ≤ length (inBlock fir
 
 abbrev pub bytesIn : List ℕ → List ℕ → List ℕ → List ℕ → Piece → List ℕ
 bytesIn first used serial reply p = part (inBlock first used serial reply (p .block)) (p .offset) (p .length)
-
--- ---- working definition: a part is handed over, by its bytes and by where it lies
-pub record HandsPiece (first used serial reply : List ℕ) (firstAt usedAt serialAt replyAt : ℕ × ℕ) (p : Piece) (shown : List ℕ) (at : ℕ × ℕ) : Type 0 where
-  pub shows : shown ≡ bytesIn first used serial reply p
-  pub block : at .0 ≡ inBlock (firstAt .0) (usedAt .0) (serialAt .0) (replyAt .0) (p .block)
-  pub offset : at .1 ≡ inBlock (firstAt .1) (usedAt .1) (serialAt .1) (replyAt .1) (p .block) + p .offset

@@ -15,7 +15,8 @@ ghost use Prim.Native.Nat.{_<_, _≤_, min};
 ghost use lib.ListN.{length};
 ghost use Rattle.events.specs.Answer.{numberOf};
 ghost use Rattle.pipes.specs.Turns.{replyAt};
-ghost use Rattle.pipes.specs.Pipe.{isSetup, tells, libraryEvent, orderBegun, pipeBegun, turnBegun, pipeReset, movedBy, pipeMoved, unheardMoved, looked, pipeLooked, lengthsIn, wireOf};
+ghost use Rattle.pipes.specs.Pipe.{tells, libraryEvent, orderBegun, pipeBegun, turnBegun, pipeReset, lengthsIn, wireOf};
+ghost use Rattle.pipes.specs.Hearing.{isSetup, movedBy, pipeMoved, unheardMoved, looked, pipeLooked};
 
 // What an event gets before the library hears of it: its number, the order, and whether the library has to hear of it: of a setup, a reset, and a
 // transfer that has ended.

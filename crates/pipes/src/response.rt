@@ -16,9 +16,9 @@ ghost use Rattle.sets.specs.Device.{deviceBody, bMaxPacketSize0};
 ghost use Rattle.events.specs.Answer.{numberOf, bytesOf};
 ghost use Rattle.pipes.specs.Turns.{replyAt};
 ghost use Rattle.pipes.specs.Image.{transferOf};
-ghost use Rattle.pipes.specs.Sending.{roomFor, sent, HandsPiece};
-ghost use Rattle.pipes.specs.Pipe.{isSetup, lengthsIn};
-ghost use Rattle.pipes.specs.Response.{bare, withBytes, responds, settles, outBytes};
+ghost use Rattle.pipes.specs.Sending.{roomFor, sent};
+ghost use Rattle.pipes.specs.Pipe.{lengthsIn};
+ghost use Rattle.pipes.specs.Hearing.{HandsPiece, isSetup, bare, withBytes, responds, settles, outBytes};
 
 // What an event gets: its number, the order, and the bytes handed back: how many, and the first and the second, or 0.
 pub struct Response {

@@ -7,7 +7,8 @@ use Rattle.sets.specs.Opening.{lentTwo}
 use Rattle.sets.specs.Device.{deviceBody, bMaxPacketSize0}
 use Rattle.events.specs.Step.{Reply}
 use Rattle.pipes.specs.declared.hearing.Moved.{Moved}
-use Rattle.pipes.specs.Pipe.{lengthsIn, looked, pipeLooked}
+use Rattle.pipes.specs.Pipe.{lengthsIn}
+use Rattle.pipes.specs.Hearing.{looked, pipeLooked}
 use Rattle.board.proofs.TwoSets.{used, chosen, openable, event-two}
 use Rattle.board.proofs.Piping.{place-small, within, still-long, told-gets, going-gets}
 use borrow.Author.Needs.{needs}

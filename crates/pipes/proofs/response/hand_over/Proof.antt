@@ -4,7 +4,7 @@ use Rattle.pipes.specs.declared.Transfer.{Transfer}
 use Rattle.pipes.specs.Image.{transferOf}
 use Rattle.pipes.specs.Sending.{roomFor, sent}
 use Rattle.pipes.specs.Pipe.{lengthsIn}
-use Rattle.pipes.specs.Response.{outBytes}
+use Rattle.pipes.specs.Hearing.{outBytes}
 use Rattle.pipes.proofs.Settling.{sent-inside, hands-piece}
 use borrow.Author.Needs.{needs}
 use Rattle.pipes.proofs.response.hand_over.Statement.{statement}
