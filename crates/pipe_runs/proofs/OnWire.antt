@@ -73,13 +73,13 @@ small-bytes s h (suc (suc (suc (suc (suc (suc (suc (suc i)))))))) = omega arith
 
 -- what the table lets through has such fields
 abbrev narrow : Row → Bool
-narrow r = leb (r .kind) 255 && leb (r .code) 255 && leb (r .value) 65535 && leb (r .index) 65535 && leb (r .string) 65535 && leb (r .longest) 65535
+narrow r = leb (r .bmRequestType) 255 && leb (r .bRequest) 255 && leb (r .value) 65535 && leb (r .index) 65535 && leb (r .string) 65535 && leb (r .longest) 65535
 
 tabled : (state : ℕ) (s : Setup) → refusal state s ≡ 0 → Small s
 unfolding every
 tabled state s p =
     let (r, m, k, c, i, h) = let-through state s p in
-    let row = leb (r .kind) 255 ∷ leb (r .code) 255 ∷ leb (r .value) 65535 ∷ leb (r .index) 65535 ∷ leb (r .string) 65535 ∷ leb (r .longest) 65535 ∷ [] in
+    let row = leb (r .bmRequestType) 255 ∷ leb (r .bRequest) 255 ∷ leb (r .value) 65535 ∷ leb (r .index) 65535 ∷ leb (r .string) 65535 ∷ leb (r .longest) 65535 ∷ [] in
     let f = every-member narrow refl m in
     let fields = leb (s .wValue) (r .value) ∷ leb (s .wIndex) (largestIndex r (s .wValue)) ∷ leb (r .shortest) (s .wLength) ∷ leb (s .wLength) (r .longest) ∷ [] in
     let v = leb-true (s .wValue) (r .value) (conjunct 0 fields h) in
@@ -87,8 +87,8 @@ tabled state s p =
     let w = leb-true (s .wLength) (r .longest) (conjunct 3 fields h) in
     let most = largest r (s .wValue) (leb-true _ _ (conjunct 3 row f)) (leb-true _ _ (conjunct 4 row f)) in
     record {
-      kind = omega (arith, leb-true (r .kind) 255 (conjunct 0 row f));
-      code = omega (arith, leb-true (r .code) 255 (conjunct 1 row f));
+      kind = omega (arith, leb-true (r .bmRequestType) 255 (conjunct 0 row f));
+      code = omega (arith, leb-true (r .bRequest) 255 (conjunct 1 row f));
       value = omega (arith, leb-true (r .value) 65535 (conjunct 2 row f));
       index = omega arith;
       size = omega (arith, leb-true (r .longest) 65535 (conjunct 5 row f));

@@ -54,8 +54,8 @@ pub record Keeps (d : Device) (s : Setup) (o : Outcome) : Type 0 where
 noLength : (state : ℕ) (s : Setup) → refusal state s ≡ 0 → s .bRequest ≡ 5 → s .wLength ≡ 0
 unfolding every
 noLength state s p c =
-    let (r, f, k, i, h) = ruled (λ r. eqb (r .code) 5 ⇒ eqb (r .longest) 0) refl state s p in
-    let z = eqb-true (r .longest) 0 (if-then (eqb (r .code) 5) (eqb (r .longest) 0) f (eq-eqb (r .code) 5 (k ∙ c))) in
+    let (r, f, k, i, h) = ruled (λ r. eqb (r .bRequest) 5 ⇒ eqb (r .longest) 0) refl state s p in
+    let z = eqb-true (r .longest) 0 (if-then (eqb (r .bRequest) 5) (eqb (r .longest) 0) f (eq-eqb (r .bRequest) 5 (k ∙ c))) in
     let t = leb-true (s .wLength) (r .longest) (conjunct 3 (leb (s .wValue) (r .value) ∷ _ ∷ _ ∷ leb (s .wLength) (r .longest) ∷ []) h) in
     omega arith
 
