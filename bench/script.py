@@ -2,7 +2,7 @@
 import os, re
 
 from events import read_event
-from text import Line, Mistake, read_entries, read_lines
+from text import Line, Mistake, read_entries, read_lines, text_of_lines
 from words import EXPECTED_OF_ORDERS, count_words, read_expected
 
 
@@ -45,6 +45,23 @@ class Lending:
         return before[: self.at] + self.data + before[self.at + len(self.data) :]
 
 
+class LentHere(Lending):
+    """A set whose text stands in the script, between `set here` and `end`."""
+
+    def __init__(self, line, lines):
+        self.line, self.block, self.at, self.data = line, "set", None, b""
+        text = text_of_lines(until_end(line, lines))
+        self.text = [(group[0], entry) for group, entry in zip(text.groups, text.entries)], text.serial
+
+
+def until_end(line, lines):
+    for inner in lines:
+        if inner.text == "end":
+            return
+        yield inner
+    raise line.mistake("this set has no `end`")
+
+
 class Call:
     """`open` or an event, and what is expected of the answer."""
 
@@ -84,13 +101,16 @@ def read_script(path):
     """The steps of a script; an error names its line."""
     steps, orders = [], None
     with open(path, encoding="utf-8") as file:
-        for line in read_lines(file):
+        lines = read_lines(file)
+        for line in lines:
             if line.text == "end" and orders:
                 orders = None
             elif orders:
                 orders.add(line)
             elif line.word == "orders":
                 steps.append(orders := Orders(line))
+            elif line.text == "set here":
+                steps.append(LentHere(line, lines))
             elif line.word in ("set", "serial", "record"):
                 steps.append(Lending(line, os.path.dirname(path)))
             else:

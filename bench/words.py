@@ -144,3 +144,20 @@ def read_expected(line, text, allowed=EXPECTED):
 def missed(expected, phrases):
     """Those of the expected phrases that do not hold."""
     return [phrase for phrase in expected if (phrase.removeprefix("not ") in phrases) == phrase.startswith("not ")]
+
+
+# The kinds of phrases but those of a record's fields: what came is told by those of the kind that was expected.
+KINDS = [r"\d+", "done|stall|refused", r"no data|[\d,]+ bytes?", "no data|bytes( [0-9A-F]{2})+", r"packets( \d+)+|no data", "record (unchanged|changed)",
+         "record( [0-9A-F]{2})*", r"[\d,]+ ends?", "answers alike"]
+
+
+def came_instead(expected, phrases):
+    """What an answer has where a phrase was expected of it, or not to be in it."""
+    phrase = expected.removeprefix("not ")
+    kind = next((kind for kind in KINDS if re.fullmatch(kind, phrase)), None)
+    found = [other for other in phrases if (re.fullmatch(kind, other) if kind else not any(re.fullmatch(known, other) for known in KINDS))]
+    if kind == KINDS[0]:
+        return number_words(int(found[0]))
+    if kind == KINDS[1]:
+        return f"{found[0]}, {number_words(int(phrases[0]))}"
+    return ", ".join(found) or ("answers that differ" if phrase == "answers alike" else "none")

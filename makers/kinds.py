@@ -38,6 +38,8 @@ def of_pair(data, serial, library):
     """A set with types 6 and 7: which of the two it is."""
     other = other_of_pair(list(entries_of(data)))
     as_full, as_high = pair_number(library, data, other, serial), pair_number(library, other, data, serial)
+    if as_full == as_high == 0:
+        return "this looks like a set of a pair: opened as one, beside a set made of its types 6 and 7, it is accepted at either speed"
     if 0 in (as_full, as_high):
         return f"this looks like the {'full' if as_full == 0 else 'high'}-speed set of a pair: opened as one, beside a set made of its types 6 and 7, it is accepted"
     return f"this looks like a set of a pair (it has types 6 and 7): as the full-speed set {opened(as_full)}, as the high-speed one {opened(as_high)}"

@@ -197,8 +197,12 @@ class Text:
 
 
 def read_text(texts):
+    return text_of_lines(read_lines(texts))
+
+
+def text_of_lines(lines):
     groups, serial, serial_line = [], b"", None
-    for line in read_lines(texts):
+    for line in lines:
         if line.word in ("interface", "endpoint", *RAW):
             if not groups or groups[-1][0].word != "configuration":
                 raise line.mistake(f"before this {line.word} comes a configuration")
@@ -256,7 +260,7 @@ def descriptor_line(descriptor, counted=True):
     fields = FIELDS[word][1] if word else []
     end = 2 + sum(size for _, size, _ in fields)
     if not word or len(descriptor) < end:
-        return ("bytes " if descriptor[:1] == bytes([len(descriptor)]) else "bytes! ") + hexadecimal(descriptor)
+        return ("bytes " if descriptor and descriptor[0] == len(descriptor) else "bytes! ") + hexadecimal(descriptor)
     words, at = [word], 2
     for name, size, default in fields:
         value = int.from_bytes(descriptor[at : at + size], "little")
