@@ -11,7 +11,7 @@ function* byteLines(bytes) {
 }
 
 function* arrayLines(name, bytes, nodes) {
-    yield `const uint8_t ${name}[${bytes.length}] = {`;
+    yield `static const uint8_t ${name}[${bytes.length}] = {`;
     let at = 0;
     for (const { title, start, end } of leavesOf(nodes)) {
         if (start < at)
@@ -25,11 +25,19 @@ function* arrayLines(name, bytes, nodes) {
     yield "};";
 }
 
-// `sets` as [{ name, bytes }], `words` what the file is about.
-export function cOf(sets, serial, kind, words) {
-    const lines = [remark(words).trim(), "#include <stdint.h>"];
-    for (const { name, bytes } of sets)
-        lines.push("", ...arrayLines(name, bytes, treeOf(bytes, kind).nodes));
-    lines.push("", ...(serial.length > 0 ? arrayLines("serial_block", serial, [serialNode(serial)]) : ["/* The serial block is empty: lend NULL with length 0. */"]));
-    return `${lines.join("\n")}\n`;
+const lent = (name, bytes) => (bytes?.length > 0 ? `${name}, sizeof ${name}` : "NULL, 0");
+
+// Of another vendor's board the library knows no more than its set.
+function boardLines({ kind, sets, serial }) {
+    const blocks = [lent("device_set", sets[0]), lent("device_serial", serial), lent("device_high", sets[1])];
+    return kind === "super" ? [] : ["", `static const hk_board device_board = {${blocks.join(", ")}};`];
+}
+
+// What a board lends, by the names that makers/array gives it; `words` say what that is.
+export function cOf({ kind, sets, serial }, words) {
+    const lines = [remark(words).trim(), kind === "super" ? "#include <stdint.h>" : '#include "heideklonk_board.h"'];
+    sets.forEach((bytes, at) => lines.push("", ...arrayLines(["device_set", "device_high"][at], bytes, treeOf(bytes, kind).nodes)));
+    if (serial.length > 0)
+        lines.push("", "/* This unit's own. */", ...arrayLines("device_serial", serial, [serialNode(serial)]));
+    return `${[...lines, ...boardLines({ kind, sets, serial })].join("\n")}\n`;
 }

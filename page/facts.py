@@ -9,15 +9,20 @@ import paths  # noqa: F401 (the bench's own folders)
 import events, fields, text, values, words
 from rules import RULES
 
-# The texts to start from, by kind: those of makers/ and bench/; a pair has two. The first three, and a set of bench/ that is refused, are the examples.
+# The texts to start from, by kind: those of makers/ and bench/; a pair has two.
 TEXTS = [
     ("one", "Bench set S", "makers/bench.txt"),
+    ("one", "Serial port", "makers/serial-port.txt"),
+    ("one", "Measuring instrument", "makers/instrument.txt"),
+    ("one", "Keyboard-like instrument", "makers/keyboard.txt"),
+    ("one", "Vendor interface", "makers/vendor.txt"),
     ("one", "Titrator", "makers/titrator.txt"),
     ("one", "Laboratory scale", "bench/sets/scale.txt"),
     ("two", "Titrator", "makers/titrator.txt", "makers/titrator-high.txt"),
     ("super", "Bench set S", "makers/bench-super.txt"),
 ]
-EXAMPLES = 3
+# The sets to look at first: of some of these texts, and one that is refused.
+EXAMPLES = ["Bench set S", "Titrator", "Laboratory scale"]
 REFUSED = [("Balance of spring (refused)", "bench/sets/spring.bin")]
 
 
@@ -41,7 +46,8 @@ def texts():
 
 
 def examples():
-    return [{"name": one["name"], "text": one["text"]} for one in texts()[:EXAMPLES]] + [{"name": name, "set": base64.b64encode(read(path, "rb")).decode(), "serial": ""} for name, path in REFUSED]
+    shown = [{"name": one["name"], "text": one["text"]} for one in texts() if one["kind"] == "one" and one["name"] in EXAMPLES]
+    return shown + [{"name": name, "set": base64.b64encode(read(path, "rb")).decode(), "serial": ""} for name, path in REFUSED]
 
 
 def facts(module):

@@ -38,7 +38,7 @@ class Page {
         press("no-serial", () => this.use({ serial: NO_FILE }));
         for (const [place, name] of [["set", "set.bin"], ["high", "high.bin"], ["serial", "unit.bin"]])
             press(`save-${place}`, () => this.saveBlock(place, name));
-        press("save-c", () => save("sets.c", this.inC()));
+        press("save-c", () => save("device.h", this.inC()));
         press("undo", () => { this.lent.undo(); this.lend(); });
         press("redo", () => { this.lent.redo(); this.lend(); });
         press("forget", () => { forget(); location.reload(); });
@@ -96,9 +96,8 @@ class Page {
 
     // What is lent as C arrays, with what the library says of it.
     inC() {
-        const names = this.board.sets.length > 1 ? ["full_speed_set", "high_speed_set"] : ["descriptor_set"], { number } = this.board;
-        const words = `${this.lent.name}: ${KINDS[this.board.kind].open} ${number === 0 ? "accepts it" : `REFUSES it with ${number}`}.`;
-        return cOf(this.board.sets.map((bytes, at) => ({ name: names[at], bytes })), this.board.serial, this.board.kind, words);
+        const { number, kind } = this.board;
+        return cOf(this.board, `${this.lent.name}: ${KINDS[kind].open} ${number === 0 ? "accepts it" : `REFUSES it with ${number}`}.`);
     }
 
     useMade({ kind = "one", sets, serial, name }) {

@@ -15,8 +15,8 @@ import { countWords } from "./bytes.js";
 const accepted = (words) => element("p", { class: "outcome accepted" }, words);
 const refused = (words) => element("p", { class: "outcome refused" }, words);
 const refusal = (number, what) => [refused(`Refused with ${number}: ${what}.`), element("p", {}, `Number ${number}: ${numberWords(number)}.`)];
+const saveButton = (file, content) => button(`Save ${file}`, () => save(file, content), { "data-file": file });
 const FILES = { one: ["set.bin"], two: ["full.bin", "high.bin"], super: ["set.bin"] };
-const C_NAMES = { one: ["descriptor_set"], two: ["full_speed_set", "high_speed_set"], super: ["descriptor_set"] };
 
 export class Workshop {
     constructor(library, { onmade, lent }) {
@@ -84,12 +84,11 @@ export class Workshop {
 
     saveButtons(made, name) {
         const { kind, sets, serial, pieces } = made, files = FILES[kind];
-        const inC = () => cOf(sets.map((bytes, at) => ({ name: C_NAMES[kind][at], bytes })), serial, kind, `${name}: accepted`);
         return element("div", { class: "buttons" },
-            sets.map((set, at) => button(`Save ${files[at]}`, () => save(files[at], set), at === 0 ? { class: "save-set" } : {})),
-            button("Save unit.bin", () => save("unit.bin", serial)),
-            pieces && button("Save pieces.bin", () => save("pieces.bin", pieces)),
-            button("Save as C arrays", () => save("sets.c", inC()), { class: "save-c" }),
+            sets.map((set, at) => saveButton(files[at], set)),
+            saveButton("unit.bin", serial),
+            pieces && saveButton("pieces.bin", pieces),
+            button("Save as C", () => save("device.h", cOf(made, `Of ${name}: ${KINDS[kind].open} accepts it.`)), { "data-file": "device.h" }),
             this.lookButton(made, sets, name));
     }
 
@@ -103,7 +102,7 @@ export class Workshop {
         return fill(byId("of-lent"), accepted(words),
             element("p", { class: "quiet" }, "A string that only a class descriptor or your own host program names is dropped too: keep a copy of the set."),
             element("div", { class: "buttons" },
-                button("Save trimmed.bin", () => save("trimmed.bin", written)),
+                saveButton("trimmed.bin", written),
                 button("Look at it", () => this.onmade({ sets: [written], serial, name: "trimmed set" }))));
     }
 
@@ -114,7 +113,7 @@ export class Workshop {
             this.texts.setAll(kind, ...texts);
             const files = kind === "two" ? ["full.txt", "high.txt"] : ["set.txt"];
             fill(byId("of-lent"), accepted(texts.length > 1 ? "Their texts stand above." : "Its text stands above."),
-                element("div", { class: "buttons" }, texts.map((text, at) => button(`Save ${files[at]}`, () => save(files[at], text)))));
+                element("div", { class: "buttons" }, texts.map((text, at) => saveButton(files[at], text))));
         } catch (error) {
             if (!(error instanceof Mistake))
                 throw error;
@@ -127,7 +126,7 @@ export class Workshop {
         if (number !== 0)
             return fill(byId("of-lent"), refusal(number, "the set above"));
         const words = `A descriptors file of ${countWords(written.length, "byte")}, without the strings.`;
-        return fill(byId("of-lent"), accepted(words), button("Save descriptors", () => save("descriptors", written)));
+        return fill(byId("of-lent"), accepted(words), saveButton("descriptors", written));
     }
 
     // A new set is lent: what was told of the old one goes.

@@ -175,7 +175,7 @@ async function checkTexts(browser, room, native) {
             hold(`${name} is refused`, (await textOf(browser, "#written .outcome")).startsWith("Refused with 21"));
             continue;
         }
-        await browser.press("#written .save-set");
+        await browser.press("#written [data-file='set.bin']");
         const saved = await room.savedFile("set.bin");
         hold(`the saved set of ${name}`, saved?.toString("hex"), set);
         await dropSet(browser, room, { name: "saved.bin", set: saved.toString("hex"), serial });
@@ -201,7 +201,7 @@ async function checkMade(browser, room, native) {
             hold(`the import of ${name}`, /^Refused with 2[13]/.test(outcome));
             continue;
         }
-        await browser.press("#of-files .save-set");
+        await browser.press("#of-files [data-file='set.bin']");
         hold(`the import of ${name}`, (await room.savedFile("set.bin"))?.toString("hex"), set);
     }
     const trims = native.recorded.filter(({ trimmed }) => trimmed !== null).slice(0, 3);

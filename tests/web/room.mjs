@@ -1,5 +1,5 @@
 // What the tests of the page share: comparisons that are counted, a folder for files, and what a person does at the page.
-import { existsSync, mkdirSync, mkdtempSync, readFileSync, readdirSync, rmSync, writeFileSync } from "node:fs";
+import { mkdirSync, mkdtempSync, readFileSync, readdirSync, rmSync, writeFileSync } from "node:fs";
 import { tmpdir } from "node:os";
 import { basename, join } from "node:path";
 
@@ -33,15 +33,18 @@ export class Room {
         return path;
     }
 
-    // The file that was saved last under this name, when it is whole.
+    // The file that was saved last under this name, when it is whole; a browser may have put a number behind its stem.
     async savedFile(name) {
-        const path = join(this.saved, name);
-        for (const end = Date.now() + 10000; Date.now() < end; await new Promise((wake) => setTimeout(wake, 20)))
-            if (existsSync(path) && !readdirSync(this.saved).some((one) => one.endsWith(".crdownload"))) {
-                const content = readFileSync(path);
-                rmSync(path);
+        const [stem, ending] = /^(.*?)(\.\w+)?$/.exec(name).slice(1), isNamed = (one) => one.startsWith(stem) && one.endsWith(ending ?? "") && !one.endsWith(".crdownload");
+        for (const end = Date.now() + 10000; Date.now() < end; await new Promise((wake) => setTimeout(wake, 20))) {
+            const files = readdirSync(this.saved), found = files.find(isNamed);
+            if (found && !files.some((one) => one.endsWith(".crdownload"))) {
+                const content = readFileSync(join(this.saved, found));
+                rmSync(join(this.saved, found));
                 return content;
             }
+        }
+        console.log(`page: ${name} was not saved; there are ${readdirSync(this.saved).join(", ")}`);
         return null;
     }
 }
