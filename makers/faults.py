@@ -170,7 +170,9 @@ def remark_no_list(data, serial, place):
     """A reference without string 0, or strings without it."""
     if place >= 4 + 8 * len(entries_of(data)):
         return f"this names string {data[place]}, and the set has no string 0"
-    return "the set has strings, and no string 0"
+    near = next((entry for entry in of_kind(data, STRING) if 0 in (entry.index, entry.language)), None)
+    meant = f": entry {near.number} has index {near.index} and language {near.language:04X}, and string 0 has 0 and 0000" if near else ""
+    return f"the set has strings, and no string 0{meant}"
 
 
 def remark_serial(data, serial, place):

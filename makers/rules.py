@@ -63,7 +63,7 @@ RULES = {
     436: ("no two configurations have one bConfigurationValue", "a value that no configuration before it has"),
     501: ("a string's bLength is its entry's length", "the entry's length"),
     502: ("a string's bDescriptorType is 3", "03"),
-    503: ("a string's length is even, and at most 254", "an even length up to FE, here and in the entry"),
+    503: ("a string's length is even", "an even length up to FE, here and in the entry"),
     504: ("language 0 goes with index 0, and with no other", "00 00 for the list of languages, else the string's language"),
     505: ("string 0 lists a language", "04 03 and a language"),
     506: ("string 0 lists at most four languages", "nothing: the fifth language begins here"),
