@@ -39,7 +39,8 @@ export class Comparison {
 
     compareWith(other) {
         this.other = other;
-        this.look();
+        if (this.board)
+            this.look();
     }
 
     lend(board, names) {

@@ -14,8 +14,13 @@ import { judge, showComplaint, showVerdict } from "./verdict.js";
 import { guess, plain, readFile, textOfFile } from "./files.js";
 import { setOfText } from "./making.js";
 import { cOf } from "./clanguage.js";
+import { isOfPair } from "./pairs.js";
 import { listing } from "./set.js";
 import { countWords, fromBase64 } from "./bytes.js";
+
+// Numbers of two sets in the right order: accepted, or but for the serial block or for types 6 and 7.
+const GO_TOGETHER = [0, 6, 24];
+const isHighByName = ({ name }) => /high|hs/i.test(name);
 
 class Page {
     constructor(library) {
@@ -128,7 +133,7 @@ class Page {
     async takeChosen(input, place) {
         try {
             if (input.files.length > 0)
-                this.use({ [place]: await readFile(input.files[0]) });
+                this.use({ [place]: plain(await readFile(input.files[0])) });
         } catch (error) {
             showComplaint(byId("verdict"), `Not read: ${error.message}`);
         }
@@ -160,15 +165,25 @@ class Page {
             this.takeToWorkshop(kinds[other], read[other]);
         else if (sets.length > 0 && this.panel === "tab-make")
             this.openPanel("tab-set");
+        if (sets.length > 1 && this.lent.kind !== "two")
+            this.openPanel("tab-compare");
     }
 
-    // Of two sets the high-speed one is told by its name, and else is the second.
+    // Two sets are a pair where both have types 6 and 7, or the kind says so: the high-speed one is told by opening, by its name, and else is the second.
+    // Other two stand side by side.
     setsDropped(sets) {
-        const isHigh = ({ name }) => /high|hs/i.test(name), isPair = this.lent.kind === "two";
-        if (!isPair)
-            return { set: sets[0] };
-        const [set, high] = [...sets].sort((one, next) => Number(isHigh(one)) - Number(isHigh(next)));
-        return high ? { set, high } : isHigh(set) ? { high: set } : { set };
+        if (sets.length > 1 && kindsOf(this.library).includes("two"))
+            return this.pairDropped(sets.slice(0, 2));
+        return this.lent.kind === "two" && isHighByName(sets[0]) ? { high: sets[0] } : { set: sets[0] };
+    }
+
+    pairDropped(sets) {
+        const orders = [sets, [...sets].reverse()], opens = ([set, high]) => GO_TOGETHER.includes(this.library.open("hk_two_open", [set.bytes, high.bytes], NO_FILE.bytes).number);
+        const [set, high] = orders.find(opens) ?? orders[isHighByName(sets[0]) && !isHighByName(sets[1]) ? 1 : 0];
+        if (this.lent.kind === "two" || sets.every(({ bytes }) => isOfPair(bytes)))
+            return { kind: "two", set, high };
+        this.comparison.compareWith(sets[1]);
+        return { set: sets[0] };
     }
 
     takeToWorkshop(kind, { name, bytes }) {

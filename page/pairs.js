@@ -12,6 +12,8 @@ const MIRRORS = [TYPE.DEVICE_QUALIFIER, TYPE.OTHER_SPEED];
 const partsOf = (set) => entriesOf(set).map((entry) => ({ ...entry, body: bodyOf(set, entry) }));
 const ofType = (parts, wanted) => parts.filter(({ type }) => type === wanted);
 
+export const isOfPair = (set) => MIRRORS.every((wanted) => ofType(partsOf(set), wanted).length > 0);
+
 // Types 6 and 7 for a set, from the entries of the other.
 export function mirrors(others) {
     const device = ofType(others, TYPE.DEVICE)[0]?.body ?? [];

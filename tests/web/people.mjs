@@ -148,6 +148,20 @@ async function checkCompare(browser, room, native) {
     console.log("two sets stand side by side");
 }
 
+// Two sets dropped at once: a pair, in any order, or two to compare.
+async function checkTwoDropped(browser, room, native) {
+    const { sets: [full, high], serial } = native.templates.find(({ kind }) => kind === "two"), { set } = titrator(native);
+    const file = (name, hex) => room.file(freshName(name), bytesOf(hex)), lent = () => browser.evaluate("[heideklonk.page.lent.kind, heideklonk.page.board.number].join(' ')");
+    await pressExample(browser, "Bench set S");
+    await browser.drop([file("b.bin", high), file("a.bin", full), file("unit.bin", serial)]);
+    await browser.until("heideklonk.page.lent.kind === 'two'");
+    hold("a pair dropped at once is one", await lent(), "two 0");
+    await pressExample(browser, "Bench set S");
+    await browser.drop([file("one.bin", set), file("other.bin", native.sets.find(({ name }) => name.includes("bench.txt")).set)]);
+    await browser.until("document.querySelectorAll('.compared tbody tr').length > 0");
+    hold("two other sets are compared", await browser.evaluate("heideklonk.page.panel"), "tab-compare");
+}
+
 // ---- C, for a board's flash
 const PRINT = `#include <stdio.h>
 static void print(const uint8_t *block, size_t length) { for (size_t at = 0; at < length; at++) printf("%02x", block[at]); puts(""); }
@@ -268,6 +282,7 @@ export async function checkPeople(browser, room, native) {
     await checkFaults(browser, room, native);
     await checkReload(browser);
     await checkCompare(browser, room, native);
+    await checkTwoDropped(browser, room, native);
     await checkC(browser, room, native);
     await checkLikeness(browser, room, native);
     await checkKindTexts(browser, room, native);
