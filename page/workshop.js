@@ -4,6 +4,7 @@ import { byId, button, element, fill, save } from "./element.js";
 import { Texts } from "./texts.js";
 import { faultRows } from "./faultrows.js";
 import { numberWords } from "./host.js";
+import { ruleOf } from "./rules.js";
 import { setOfDump, setOfPieces, dumpOfSet } from "./making.js";
 import { withoutMirrors } from "./pairs.js";
 import { Mistake, textOf } from "./text.js";
@@ -21,7 +22,7 @@ const FILES = { one: ["set.bin"], two: ["full.bin", "high.bin"], super: ["set.bi
 export class Workshop {
     constructor(library, { onmade, lent }) {
         Object.assign(this, { library, onmade, lent });
-        this.texts = new Texts(library, { onwritten: (made, name) => this.tell(byId("written"), made, name) });
+        this.texts = new Texts(library, { onwritten: (made, name) => this.tellOfText(made, name) });
         fill(byId("text-help"), FACTS.textHelp);
         byId("choose-text").addEventListener("change", (event) => this.take(event.target, ({ bytes }) => this.setText(textOfFile(bytes))));
         byId("choose-pieces").addEventListener("change", (event) => this.take(event.target, ({ bytes, name }) => this.usePieces(bytes, name)));
@@ -51,6 +52,13 @@ export class Workshop {
 
     useDump(bytes, name) {
         this.tell(byId("of-files"), setOfDump(this.library, bytes), name);
+    }
+
+    // What came of the text: below it all of it, and above it, where a person who types looks, in a few words.
+    tellOfText(made, name) {
+        byId("written-brief").className = `outcome ${made.number === 0 ? "accepted" : "refused"}`;
+        byId("written-brief").textContent = briefly(made);
+        this.tell(byId("written"), made, name);
     }
 
     // What came of it, and of what: the sets, to be saved and looked at, or why there are none.
@@ -135,6 +143,16 @@ export class Workshop {
         byId("trim").hidden = byId("to-dump").hidden = board.kind !== "one";
         byId("to-text").textContent = board.sets.length > 1 ? "Texts of the sets" : "Text of the set";
     }
+}
+
+function briefly({ mistake, number, sets, reason }) {
+    if (mistake)
+        return `Not read: ${mistake}`;
+    if (number === 0)
+        return `Accepted, ${sets.map(({ length }) => countWords(length, "byte")).join(" and ")}`;
+    const [fault, ...others] = reason?.faults ?? [];
+    const where = fault?.line ? `line ${fault.line.number}, ` : "", more = others.length > 0 ? `, and ${countWords(others.length, "fault")} more` : "";
+    return fault ? `Refused: ${where}rule ${fault.rule}, ${ruleOf(fault.rule).rule}${more}` : `Refused with ${number}`;
 }
 
 const pieceWords = ({ piece }) => (piece ? `the piece of type ${piece.type}, index ${piece.index}` : "");

@@ -76,6 +76,7 @@ async function checkLines(browser) {
     const several = await told("device bMaxPacketSize0 7\nconfiguration bMaxPower 251\ninterface bInterfaceNumber 1\nendpoint bInterval 0");
     for (const words of ["Line 1: ", "Line 2: ", "Line 3: ", "Line 4: ", "3 more faults"])
         holdWords("every fault of a text is told", several, words);
+    hold("in a few words above the text", await textOf(browser, "#written-brief"), "Refused: line 1, rule 307, bMaxPacketSize0 is 8, 16, 32 or 64, and 3 faults more");
     await browser.evaluate("document.querySelectorAll('#written .to-line')[3].click()");
     hold("a fault leads to its line", await browser.evaluate("(({ value, selectionStart, selectionEnd }) => value.slice(selectionStart, selectionEnd))(document.getElementById('text'))"), "endpoint bInterval 0");
     console.log("texts with faults: each by rule, byte and line");
