@@ -4,7 +4,7 @@ import { readFileSync, rmSync, writeFileSync } from "node:fs";
 import { basename, resolve } from "node:path";
 import { pathToFileURL } from "node:url";
 import { Browser } from "./browser.mjs";
-import { Room, counted, dropSet, freshName, hold, openPanel, textOf, typeText, verdict } from "./room.mjs";
+import { Room, counted, dropSet, freshName, hold, openPanel, overflow, textOf, typeText, verdict } from "./room.mjs";
 import { checkPeople } from "./people.mjs";
 import { checkPicture, takePicture } from "./picture.mjs";
 import { subsequence } from "./transcript.mjs";
@@ -250,7 +250,7 @@ async function checkWidths(browser, room, native) {
         await browser.size(width, 800);
         for (const panel of PANELS) {
             await openPanel(browser, panel);
-            hold(`no panel is wider than ${width}`, await browser.evaluate("document.documentElement.scrollWidth <= innerWidth"));
+            hold(`no panel is wider than ${width} (${panel})`, await overflow(browser, width), "");
         }
     }
     await browser.size(1200, 900);

@@ -1,7 +1,8 @@
 // The page as a maker meets it first: sets without their serial block, texts with mistakes, what was typed and a reload, sets compared and saved as C.
 import { execFileSync } from "node:child_process";
-import { dropFile, dropSet, freshName, hold, holdWords, openPanel, textOf, typeText, verdict } from "./room.mjs";
+import { dropFile, dropSet, freshName, hold, holdWords, openPanel, overflow, textOf, typeText, verdict } from "./room.mjs";
 
+const PHONE = 360;
 const bytesOf = (text) => Buffer.from(text, "hex");
 const titrator = (native) => native.sets.find(({ name }) => name.includes("titrator"));
 const pressExample = (browser, words) => browser.call((name) => [...document.querySelectorAll("#examples button")].find((one) => one.textContent.includes(name)).click(), words);
@@ -266,13 +267,25 @@ async function checkPairs(browser, room, native) {
 
 // ---- a phone's width, with all that can be said
 async function checkNarrow(browser, room, native) {
-    const wide = native.explained.reduce((most, one) => (one.briefs.length > most.briefs.length ? one : most));
-    await browser.size(360, 780);
-    await dropSet(browser, room, { name: "a-set-with-a-long-name-that-has-no-space-to-be-broken-at.bin", ...wide, name: "long" });
+    const wide = native.explained.reduce((most, one) => (one.briefs.length > most.briefs.length ? one : most)), fits = async (what) => hold(`${what} fits a phone`, await overflow(browser, PHONE), "");
+    await browser.size(PHONE, 780);
+    await dropSet(browser, room, { ...wide, name: "a-set-with-a-long-name-that-has-no-space-to-be-broken-at.bin" });
     for (const panel of ["set", "compare", "make"]) {
         await openPanel(browser, panel);
-        hold(`a refused set fits a phone (${panel})`, await browser.evaluate("document.documentElement.scrollWidth <= innerWidth"));
+        await fits(`a refused set (${panel})`);
     }
+    for (const text of ["device bMaxPacketSize0 7\nconfiguration bMaxPower 251\ninterface", "device\nconfiguration\nbytes 0A 21 11 01 00 01 22 3F 00"]) {
+        await typeText(browser, text);
+        await fits("a refused text");
+    }
+    await chooseKind(browser, "two");
+    await fits("two texts");
+    await chooseKind(browser, "one");
+    await openPanel(browser, "compare");
+    await browser.press("#keep-other");
+    await pressExample(browser, "Titrator");
+    await openPanel(browser, "compare");
+    await fits("two sets side by side");
     await browser.size(1200, 900);
 }
 

@@ -20,6 +20,13 @@ export const textOf = (browser, selector) => browser.call((wanted) => document.q
 export const openPanel = (browser, name) => browser.press(`#tab-${name}`);
 export const verdict = async (browser) => (await textOf(browser, "#verdict h2")).split(":")[0];
 
+// What stands wider than the screen: a phone's browser widens the page to hold it, so that it is measured by the screen. What scrolls by itself may be wide.
+export const overflow = (browser, width) => browser.call((wide) => {
+    const scrolls = (one) => one !== document.body && (["auto", "scroll", "hidden"].includes(getComputedStyle(one).overflowX) || scrolls(one.parentElement));
+    const found = [...document.body.querySelectorAll("*")].filter((one) => one.checkVisibility() && one.getBoundingClientRect().right > wide + 0.5 && !scrolls(one.parentElement));
+    return found.slice(0, 3).map((one) => `${one.tagName}#${one.id}.${one.className}`).join(" ");
+}, width);
+
 export class Room {
     constructor() {
         this.folder = mkdtempSync(join(tmpdir(), "page-"));
