@@ -77,3 +77,9 @@ export function likenessOf(library, set, serial) {
         throw error;
     }
 }
+
+// Whether a set that is refused as one of a pair, or as a SuperSpeed set, is a single one: in words, or nothing.
+export function singleLikeness(library, set, serial) {
+    const { number } = library.open("hk_open", [set], serial);
+    return number === 0 || number === 6 ? `this looks like a set for one speed: opened as one, ${opened(number)}` : "";
+}

@@ -4,7 +4,7 @@ import { GROUPS, rulesOfGroup } from "./rules.js";
 import { KINDS } from "./board.js";
 import { faultsOf } from "./mending.js";
 import { faultRows } from "./faultrows.js";
-import { likenessOf } from "./likeness.js";
+import { likenessOf, singleLikeness } from "./likeness.js";
 import { blamedSet, pairCauses } from "./pairs.js";
 import { numberWords } from "./host.js";
 import { shapeOf, treeOf } from "./set.js";
@@ -30,18 +30,30 @@ const GUESSES = {
     pieces: "This file looks like pieces for the set writer. Open it under “Make a set”.",
 };
 
-// What a refused file looks like rather than a set of this kind, and a button that takes it for that.
-function hint(board, useAs) {
-    const [set] = board.sets;
-    if (board.kind !== "one" || board.number === 0 || set.length === 0)
+const sentence = (words) => `${words.replace(/^./, (letter) => letter.toUpperCase())}.`;
+
+// What a refused set looks like rather than one of this kind, and how it is lent as that.
+function takenFor({ library, kind, sets, serial }, at) {
+    if (kind !== "one") {
+        const words = singleLikeness(library, sets[at], serial), change = (lent) => ({ kind: "one", set: at === 1 ? lent.high : lent.set });
+        return words && { words, name: "Take it for one set, full speed", change };
+    }
+    const like = likenessOf(library, sets[0], serial);
+    return like && {
+        words: like.words,
+        name: `Take it for ${like.kind === "super" ? "a SuperSpeed set" : `the ${KINDS.two.sets[like.at]}`}`,
+        change: (lent) => ({ kind: like.kind, ...(like.at === 1 && { set: lent.high, high: lent.set }) }),
+    };
+}
+
+function hint(board, judged, useAs) {
+    const set = board.sets[judged.set];
+    if (board.number === 0 || set.length === 0)
         return null;
-    const like = likenessOf(board.library, set, board.serial), guessed = GUESSES[guess("", set)];
-    if (!like)
-        return guessed && element("p", { class: "hinted" }, element("strong", {}, guessed));
-    const words = `${like.words.replace(/^./, (letter) => letter.toUpperCase())}.`;
-    const change = (lent) => ({ kind: like.kind, ...(like.at === 1 && { set: lent.high, high: lent.set }) });
-    const name = `Take it for ${like.kind === "super" ? "a SuperSpeed set" : `the ${KINDS.two.sets[like.at]}`}`;
-    return element("p", { class: "hinted" }, element("strong", {}, words), " ", button(name, () => useAs(change), { id: "take-for" }));
+    const taken = takenFor(board, judged.set), guessed = GUESSES[guess("", set)];
+    if (taken)
+        return element("p", { class: "hinted" }, element("strong", {}, sentence(taken.words)), " ", button(taken.name, () => useAs(taken.change), { id: "take-for" }));
+    return guessed && element("p", { class: "hinted" }, element("strong", {}, guessed));
 }
 
 function acceptedWords(board) {
@@ -80,7 +92,7 @@ export function showVerdict(place, board, judged, { show, useAs }) {
         accepted ? acceptedWords(board) : element("p", { class: "number" }, `Number ${judged.number}: ${numberWords(judged.number)}.`),
         faultRows(judged.faults, { set: board.sets[0], serial: board.serial, show }),
         judged.number === 24 && element("ul", { class: "causes" }, pairCauses(board.sets).map((words) => element("li", {}, words))),
-        hint(board, useAs),
+        hint(board, judged, useAs),
         accepted ? null : groupRules(judged.number),
         remarks(board, judged, show));
 }

@@ -22,6 +22,7 @@ async function checkNoSerial(browser, room, native) {
         hold(`${what} is refused`, await verdict(browser), "Refused with 6");
         holdWords(`${what}, and why`, await textOf(browser, "#verdict"), NO_SERIAL);
     };
+    await pressExample(browser, "Bench set S");
     await openPanel(browser, "set");
     await dropFile(browser, room, "titrator.bin", bytesOf(set));
     await refused("a set without its serial block");
@@ -211,6 +212,11 @@ async function checkLikeness(browser, room, native) {
     await browser.press("#take-for");
     hold("it is taken for that", await browser.evaluate("[heideklonk.page.lent.kind, heideklonk.page.lent.high.bytes.length].join(' ')"), `two ${high.set.length / 2}`);
     await browser.press("#undo");
+    await browser.call((value) => heideklonk.page.use({ kind: value }), "super");
+    await dropSet(browser, room, titrator(native));
+    holdWords("a single set among SuperSpeed ones", await textOf(browser, "#verdict .hinted"), "This looks like a set for one speed: opened as one, it is accepted.");
+    await browser.press("#take-for");
+    hold("and taken for that", await verdict(browser), "Accepted");
     console.log(`${native.kinds.length} sets of other kinds told as what they look like`);
 }
 
