@@ -15,7 +15,7 @@ def body_lines(entry):
         return [(entry.offset, len(entry.body), string_text(entry.body[: len(entry.body) // 2 * 2]))]
     at, lines = entry.offset, []
     for descriptor in cut(entry.body):
-        lines.append((at, len(descriptor), descriptor_line(descriptor)))
+        lines.append((at, len(descriptor), descriptor_line(descriptor, in_words=True)))
         at += len(descriptor)
     return lines
 
@@ -46,4 +46,5 @@ def set_page(data, serial, faults):
     """A set, its serial block, and where they are at fault."""
     in_set, in_serial = ({fault.place for fault in faults if (fault.number == 6) == six} for six in (False, True))
     block = f"<p>Serial block</p>{hexadecimal_rows(serial, in_serial)}" if serial else ""
-    return f"{tree(data, in_set)}<details><summary>{len(data)} bytes</summary>{hexadecimal_rows(data, in_set)}</details>{block}"
+    shown = " open" if in_set else ""
+    return f"{tree(data, in_set)}<details{shown}><summary>{len(data)} bytes</summary>{hexadecimal_rows(data, in_set)}</details>{block}"

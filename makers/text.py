@@ -1,7 +1,7 @@
 """The text of a set: its lines to pieces, and the entries of a set back to lines. `makers/write` without arguments tells the form."""
 import json, re
 
-from values import BITS, LANGUAGES, UNITS, VALUES
+from values import BITS, LANGUAGES, UNITS, VALUES, joined_bits, language_word, value_word
 
 DEVICE, CONFIGURATION, STRING, INTERFACE, ENDPOINT = 1, 2, 3, 4, 5
 
@@ -69,7 +69,7 @@ class Line:
             return self.read_number(str(int(measured[1]) // step), size)
         parts = word.split("+") if name in BITS else [word]
         if all(part in known for part in parts):
-            return sum_of_bits(known[part] for part in parts)
+            return joined_bits(known[part] for part in parts)
         if known and re.match("[A-Za-z+-]", word):
             raise self.mistake(f"{word} is no number, and none of {', '.join(known)}")
         return self.read_number(word, size)
@@ -114,13 +114,6 @@ class Line:
         if len(body + more) > 253:
             raise self.mistake("a descriptor has at most 255 bytes")
         return bytes([2 + len(body + more), kind]) + body + more
-
-
-def sum_of_bits(values):
-    bits = 0
-    for value in values:
-        bits |= value
-    return bits
 
 
 def read_lines(texts):
@@ -254,7 +247,13 @@ def hexadecimal(data):
     return data.hex(" ").upper()
 
 
-def descriptor_line(descriptor, counted=True):
+def value_text(word, name, size, value, in_words):
+    """A field's value, as a line has it."""
+    number = f"0x{value:0{2 * size}X}" if IN_HEXADECIMAL.match(name) else f"{value}"
+    return in_words and value_word(word, name, value) or number
+
+
+def descriptor_line(descriptor, counted=True, in_words=False):
     """A descriptor by its fields: without those that are 0 unnamed too, but for an interface's number; with the counted ones or without."""
     word = WORDS.get(descriptor[1]) if len(descriptor) > 1 and descriptor[0] == len(descriptor) else None
     fields = FIELDS[word][1] if word else []
@@ -266,7 +265,7 @@ def descriptor_line(descriptor, counted=True):
         value = int.from_bytes(descriptor[at : at + size], "little")
         at += size
         if (counted if default is None else (value, default) != (0, 0) or name == "bInterfaceNumber"):
-            words.append(f"{name} 0x{value:0{2 * size}X}" if IN_HEXADECIMAL.match(name) else f"{name} {value}")
+            words.append(f"{name} {value_text(word, name, size, value, in_words)}")
     return " ".join(words + (["more " + hexadecimal(descriptor[end:])] if descriptor[end:] else []))
 
 
@@ -281,21 +280,25 @@ def string_text(body):
     return quoted(body[2:].decode("utf-16-le", "surrogatepass"))
 
 
-def candidates(entry):
+def language_text(number, in_words):
+    return language_word(number) if in_words else f"0x{number:04X}"
+
+
+def candidates(entry, in_words):
     """Lines that may say an entry, the most readable first."""
     kind, index, language, body = entry
     if kind == STRING and len(body) % 2 == 0:
         if index == 0:
-            yield [" ".join(["languages"] + [f"0x{int.from_bytes(body[at : at + 2], 'little'):04X}" for at in range(2, len(body), 2)])]
-        yield [f"string {index} 0x{language:04X} {string_text(body)}"]
+            yield [" ".join(["languages"] + [language_text(int.from_bytes(body[at : at + 2], "little"), in_words) for at in range(2, len(body), 2)])]
+        yield [f"string {index} {language_text(language, in_words)} {string_text(body)}"]
     if kind in (DEVICE, CONFIGURATION):
         for counted in (False, True):
-            yield [descriptor_line(descriptor, counted) for descriptor in cut(body)]
+            yield [descriptor_line(descriptor, counted, in_words) for descriptor in cut(body)]
 
 
-def lines_of(entry, configurations):
+def lines_of(entry, configurations, in_words):
     """The first lines that are read as this entry behind so many configurations; else its bytes."""
-    for texts in candidates(entry):
+    for texts in candidates(entry, in_words):
         try:
             if [read for _, read in read_entries(["configuration"] * configurations + texts)[0][configurations:]] == [entry]:
                 return texts
@@ -312,11 +315,11 @@ def serial_lines(serial):
     return ["serial " + string_text(serial)]
 
 
-def text_of(data, serial):
-    """The text of a set and its serial block: what is read from it are the set's entries, in the set's order."""
+def text_of(data, serial, in_words=False):
+    """The text of a set and its serial block: what is read from it are the set's entries, in the set's order. In words: `bulk`, `en-US` for numbers."""
     entries, configurations, lines = list(entries_of(data)), 0, {}
     for at, entry in sorted(enumerate(entries), key=lambda pair: pair[1][0] != CONFIGURATION):
-        lines[at] = lines_of(entry, configurations)
+        lines[at] = lines_of(entry, configurations, in_words)
         configurations += lines[at][0].startswith("configuration")
     kinds = [None] + [entry[0] for entry in entries]
     texts = [text for at in range(len(entries)) for text in [""] * (kinds[at + 1] == CONFIGURATION or kinds[at + 1] != kinds[at]) + lines[at]]

@@ -1,4 +1,5 @@
 """Words for values, as a text may have them: `bulk`, `en-US`, `100mA`. A number may stand wherever a word does."""
+import itertools
 
 CLASSES = {
     "per-interface": 0x00, "audio": 0x01, "communication": 0x02, "hid": 0x03, "image": 0x06, "printer": 0x07, "mass-storage": 0x08, "hub": 0x09,
@@ -38,3 +39,28 @@ def language_words(number):
     """A language's number, and its name where it has one."""
     name = next((name for name, known in LANGUAGES.items() if known == number), "")
     return f"{number:04X}" + (f" ({name})" if name else "")
+
+
+def language_word(number):
+    """A language by its name, or else its number."""
+    return next((name for name, known in LANGUAGES.items() if known == number), f"0x{number:04X}")
+
+
+def value_word(line, name, value):
+    """A field's value in words; nothing if there are none for it."""
+    if name in UNITS:
+        unit, step = UNITS[name]
+        return f"{value * step}{unit}"
+    known = VALUES.get(line, {}).get(name, {})
+    for count in (1, 2, 3) if name in BITS else (1,):
+        for words in itertools.combinations(known, count):
+            if joined_bits(known[word] for word in words) == value:
+                return "+".join(words)
+    return ""
+
+
+def joined_bits(values):
+    bits = 0
+    for value in values:
+        bits |= value
+    return bits
