@@ -1,9 +1,9 @@
 // A fault in words, as makers/faults.py has it: the rule, the byte by its field, what was found there, and what should stand there or may. The library says
 // rule and byte.
-import { FACTS } from "./facts.js";
 import { TYPE } from "./descriptors.js";
 import { descriptorsIn, entryAt, fieldAt, placedEntries, serialField } from "./fields.js";
 import { ruleOf } from "./rules.js";
+import { languageName } from "./values.js";
 import { countWords, hexadecimal, littleEndian, spaced, word } from "./bytes.js";
 
 const ofType = (set, wanted) => placedEntries(set).filter(({ type }) => type === wanted);
@@ -118,12 +118,6 @@ function remarkEnd(set, serial, place) {
 function languagesOf(set) {
     const list = ofType(set, TYPE.STRING).find(({ index, language }) => index === 0 && language === 0);
     return list ? Array.from({ length: Math.max(0, list.body.length - 2) >> 1 }, (_, at) => word(list.body, 2 + 2 * at)) : null;
-}
-
-// A language's number, and its name where it has one.
-export function languageName(number) {
-    const name = Object.entries(FACTS.languages).find(([, known]) => known === number)?.[0];
-    return `${hexadecimal(number, 4)}${name ? ` (${name})` : ""}`;
 }
 
 const languageList = (languages) => languages.map(languageName).join(", ") || "no language";

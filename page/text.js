@@ -2,6 +2,7 @@
 import { FACTS } from "./facts.js";
 import { TYPE, cut } from "./descriptors.js";
 import { bodyOf, entriesOf } from "./set.js";
+import { areBits, languageOf, languageWord, unitOf, valueWord, wordsFor } from "./values.js";
 import { alike, hexadecimal, joined, letters, littleEndian, readHexadecimal, readNumber, spaced, word } from "./bytes.js";
 
 export class Mistake extends Error {}
@@ -41,21 +42,21 @@ class Line {
 
     // A language by its name or its number.
     readLanguage(text) {
-        const named = Object.entries(FACTS.languages).find(([name]) => name.toLowerCase() === text.toLowerCase());
-        if (!named && /^[A-Za-z]{2,3}(?:-[A-Za-z]+)*$/.test(text))
+        const named = languageOf(text);
+        if (named === undefined && /^[A-Za-z]{2,3}(?:-[A-Za-z]+)*$/.test(text))
             throw this.mistake(`${text} is no language that is known by its name: give its number, as 0x0409 for en-US`);
-        return named ? named[1] : this.readNumber(text, 2);
+        return named ?? this.readNumber(text, 2);
     }
 
     // A field's value: a number, a number with its unit, or words for it. Words that are joined by + set their bits together.
     readValue(name, text, size) {
-        const known = FACTS.values[this.word]?.[name] ?? {}, [unit, step] = FACTS.units[name] ?? ["", 1];
+        const known = wordsFor(this.word, name), [unit, step] = unitOf(name);
         const measured = unit && text.endsWith(unit) && /^[0-9]+$/.test(text.slice(0, -unit.length)) ? BigInt(text.slice(0, -unit.length)) : null;
         if (measured !== null && measured % BigInt(step) !== 0n)
             throw this.mistake(`${text}: ${name} counts ${step} ${unit}`);
         if (measured !== null)
             return this.readNumber(`${measured / BigInt(step)}`, size);
-        const parts = FACTS.bits.includes(name) ? text.split("+") : [text];
+        const parts = areBits(name) ? text.split("+") : [text];
         if (parts.every((part) => Object.hasOwn(known, part)))
             return parts.reduce((bits, part) => bits | known[part], 0);
         if (Object.keys(known).length > 0 && /^[A-Za-z+-]/.test(text))
@@ -205,8 +206,13 @@ export function lineAt({ line, lines, lengths = [] }, at) {
 export const piece = ({ type, index, language, body }) => joined([Uint8Array.of(type, index), littleEndian(language, 2), littleEndian(body.length, 2), body]);
 
 // ---- from a set to a text
+// A field's value, as a line has it.
+function valueText(line, name, size, value, inWords) {
+    return (inWords && valueWord(line, name, value)) || (IN_HEXADECIMAL.test(name) ? `0x${hexadecimal(value, 2 * size)}` : `${value}`);
+}
+
 // A descriptor by its fields: without those that are 0 unnamed too, but for an interface's number; with the counted ones or without.
-function descriptorLine(bytes, counted) {
+function descriptorLine(bytes, counted, inWords) {
     const name = bytes.length > 1 && bytes[0] === bytes.length ? Object.keys(FACTS.fields).find((key) => FACTS.fields[key][0] === bytes[1]) : undefined;
     const fields = name ? FACTS.fields[name][1] : [], end = fields.reduce((sum, [, size]) => sum + size, 2);
     if (!name || bytes.length < end)
@@ -217,7 +223,7 @@ function descriptorLine(bytes, counted) {
         const value = size === 1 ? bytes[at] : word(bytes, at);
         at += size;
         if (usual === null ? counted : value !== 0 || usual !== 0 || field === "bInterfaceNumber")
-            words.push(`${field} ${IN_HEXADECIMAL.test(field) ? `0x${hexadecimal(value, 2 * size)}` : value}`);
+            words.push(`${field} ${valueText(name, field, size, value, inWords)}`);
     }
     return [...words, ...(bytes.length > end ? [`more ${spaced(bytes.slice(end))}`] : [])].join(" ");
 }
@@ -232,22 +238,23 @@ function quoted(text) {
 }
 
 // Lines that may say an entry, the most readable first.
-function* candidates({ type, index, language, body }) {
+function* candidates({ type, index, language, body }, inWords) {
+    const languageText = (number) => (inWords ? languageWord(number) : `0x${hexadecimal(number, 4)}`);
     if (type === TYPE.STRING && body.length % 2 === 0) {
         if (index === 0)
-            yield [["languages", ...Array.from({ length: Math.max(0, body.length / 2 - 1) }, (_, at) => `0x${hexadecimal(word(body, 2 + 2 * at), 4)}`)].join(" ")];
-        yield [`string ${index} 0x${hexadecimal(language, 4)} ${quoted(letters(body))}`];
+            yield [["languages", ...Array.from({ length: Math.max(0, body.length / 2 - 1) }, (_, at) => languageText(word(body, 2 + 2 * at)))].join(" ")];
+        yield [`string ${index} ${languageText(language)} ${quoted(letters(body))}`];
     }
     if (type === TYPE.DEVICE || type === TYPE.CONFIGURATION)
         for (const counted of [false, true])
-            yield Array.from(cut(body, 0, body.length), ([start, end]) => descriptorLine(body.slice(start, end), counted));
+            yield Array.from(cut(body, 0, body.length), ([start, end]) => descriptorLine(body.slice(start, end), counted, inWords));
 }
 
 const isSame = (one, other) => one.type === other.type && one.index === other.index && one.language === other.language && alike(one.body, other.body);
 
 // The first lines that are read as this entry behind so many configurations; else its bytes.
-function linesOf(entry, configurations) {
-    for (const lines of candidates(entry)) {
+function linesOf(entry, configurations, inWords) {
+    for (const lines of candidates(entry, inWords)) {
         try {
             const read = readEntries([...Array(configurations).fill("configuration"), ...lines].join("\n")).entries.slice(configurations);
             if (read.length === 1 && isSame(read[0], entry))
@@ -279,15 +286,15 @@ function wholeEntries(set) {
     return entries.map((entry) => ({ ...entry, body: bodyOf(set, entry) }));
 }
 
-// The text of a set and its serial block: what is read from it are the set's entries, in the set's order.
-export function textOf(set, serial) {
+// The text of a set and its serial block: what is read from it are the set's entries, in the set's order. In words: `bulk`, `en-US` for numbers.
+export function textOf(set, serial, inWords = false) {
     const entries = wholeEntries(set), lines = [];
     let configurations = 0;
     for (const isConfiguration of [true, false])
         entries.forEach((entry, at) => {
             if ((entry.type === TYPE.CONFIGURATION) !== isConfiguration)
                 return;
-            lines[at] = linesOf(entry, configurations);
+            lines[at] = linesOf(entry, configurations, inWords);
             configurations += lines[at][0].startsWith("configuration") ? 1 : 0;
         });
     const texts = entries.flatMap((entry, at) => [...(entry.type === TYPE.CONFIGURATION || entry.type !== entries[at - 1]?.type ? [""] : []), ...lines[at]]);

@@ -28,7 +28,8 @@ export class Workshop {
         byId("choose-pieces").addEventListener("change", (event) => this.take(event.target, ({ bytes, name }) => this.usePieces(bytes, name)));
         byId("choose-dump").addEventListener("change", (event) => this.take(event.target, ({ bytes, name }) => this.useDump(bytes, name)));
         byId("trim").addEventListener("click", () => this.trim());
-        byId("to-text").addEventListener("click", () => this.toText());
+        byId("to-text").addEventListener("click", () => this.toText(false));
+        byId("to-words").addEventListener("click", () => this.toText(true));
         byId("to-dump").addEventListener("click", () => this.toDump());
     }
 
@@ -114,10 +115,10 @@ export class Workshop {
                 button("Look at it", () => this.onmade({ sets: [written], serial, name: "trimmed set" }))));
     }
 
-    toText() {
+    toText(inWords) {
         const { kind, sets, serial } = this.lent();
         try {
-            const texts = kind === "two" ? sets.map((set) => textOf(withoutMirrors(set), serial)) : [textOf(sets[0], serial)];
+            const texts = kind === "two" ? sets.map((set) => textOf(withoutMirrors(set), serial, inWords)) : [textOf(sets[0], serial, inWords)];
             this.texts.setAll(kind, ...texts);
             const files = kind === "two" ? ["full.txt", "high.txt"] : ["set.txt"];
             fill(byId("of-lent"), accepted(texts.length > 1 ? "Their texts stand above." : "Its text stands above."),
@@ -141,7 +142,8 @@ export class Workshop {
     lend(board) {
         fill(byId("of-lent"));
         byId("trim").hidden = byId("to-dump").hidden = board.kind !== "one";
-        byId("to-text").textContent = board.sets.length > 1 ? "Texts of the sets" : "Text of the set";
+        const text = board.sets.length > 1 ? "Texts of the sets" : "Text of the set";
+        [byId("to-text").textContent, byId("to-words").textContent] = [text, `${text}, in words`];
     }
 }
 

@@ -7,10 +7,11 @@ sys.dont_write_bytecode = True
 
 from shared import EMULATE, TOP, enumerations, recordings, script
 from pieces import CONFIGURATION, DEVICE, S_DEVICE, a_set, configuration, endpoint, interface
-from text import Mistake, piece, read_entries, text_of
+from text import Mistake, piece, read_entries, read_text as whole_text, text_of
 
 sys.path[1:1] = [os.path.join(TOP, "page"), os.path.join(TOP, "bench")]
 from facts import TEXTS as TEMPLATES
+from asking import LaidOut
 from faults import brief
 from kinds import looks_like
 from mending import faults_of
@@ -67,11 +68,11 @@ def told(room, host, name, data, serial):
     """What is said of a set."""
     given = {"set.bin": data, "unit.bin": serial}
     try:
-        text = text_of(data, serial)
+        text, in_words = text_of(data, serial), text_of(data, serial, in_words=True)
     except Mistake:
-        text = None
+        text = in_words = None
     return {
-        "name": name, "set": data.hex(), "serial": serial.hex(), "text": text,
+        "name": name, "set": data.hex(), "serial": serial.hex(), "text": text, "inWords": in_words,
         "listing": room.program("lister", given)[0], "explained": explained(room, given),
         "transcript": room.run([host, "set.bin", "unit.bin"], given, "no such file")[0],
         "trimmed": room.program("maker trim", given, "trimmed.bin")[1],
@@ -98,12 +99,13 @@ def read_as(source):
 
 def misread(count):
     """Texts with words left out, doubled or put elsewhere."""
-    drawn, sources = random.Random(1), [read(path).decode() for path in TEXTS]
+    drawn, sources = random.Random(1), [read(path).decode() for path in dict.fromkeys([*TEXTS, *(path for _, _, *paths in TEMPLATES for path in paths)])]
     words = [word for source in sources for word in source.split()] + ["0", "255", "256", "65536", "0x10", "010", "-1", "#", "more", "=", '"', '"a', "ä", "bytes", "piece"]
+    words += ["bytes!", "101mA", "512mA", "9999999999999999999998mA", "bulk+interrupt", "isochronous+adaptive", "+", "EN-us", "xx-YY", "en", "Vendor", "16-in", "constructor"]
     for _ in range(count):
         lines = [line.split(" ") for line in drawn.choice(sources).splitlines()]
         for _ in range(drawn.randint(1, 3)):
-            line = drawn.choice(lines)
+            line = drawn.choice([line for line in lines if line])
             at = drawn.randrange(len(line))
             line[at : at + drawn.randint(0, 1)] = drawn.choice([[], [drawn.choice(words)], [line[at], line[at]]])
         yield read_as("\n".join(" ".join(line) for line in lines))
@@ -140,6 +142,17 @@ def refused(room, library, sets):
             yield {"name": name, "set": data.hex(), "serial": serial.hex(), "briefs": briefs, "looks": looks_like(data, serial, library)}
 
 
+def blamed(room, texts):
+    """Of texts that can be read: the rule and the line of each fault."""
+    def ask(data, serial):
+        return explained(room, {"set.bin": data, "unit.bin": serial})
+
+    for source in (one["source"] for one in texts if "mistake" not in one):
+        text = LaidOut(whole_text(source.splitlines()))
+        faults = faults_of(text.data, text.serial, ask)
+        yield {"source": source, "faults": [[fault.rule, getattr(text.line_of(fault), "number", 0)] for fault in faults]}
+
+
 # ---- texts of every kind
 def read_text(path):
     entries, serial = read_entries(read(path).decode().splitlines())
@@ -173,7 +186,7 @@ def main():
     host, harness = map(os.path.abspath, sys.argv[1:])
     with tempfile.TemporaryDirectory() as folder, Served([EMULATE, harness]) as library:
         room = Room(folder)
-        offered, titrator = list(templates(room)), read_text("makers/titrator.txt")
+        offered, titrator, mistaken = list(templates(room)), read_text("makers/titrator.txt"), list(misread(800))
         texts = [written(room, path) for path in TEXTS]
         sets = [(path, read(path), read(unit) if unit else b"") for path, unit in SETS]
         sets += [(text["name"], bytes.fromhex(text["set"]), bytes.fromhex(text["serial"])) for text in texts if text["set"]]
@@ -182,7 +195,8 @@ def main():
             "templates": offered,
             "kinds": list(refused(room, library, other_kinds(offered))),
             "explained": list(refused(room, library, [*refused_examples(), *changed_titrators(laid_out(titrator[0]), titrator[1], 60)])),
-            "misread": list(misread(400)),
+            "misread": mistaken,
+            "blamed": list(blamed(room, mistaken)),
             "sets": [told(room, host, *one) for one in sets],
             "recorded": [told(room, host, *one) for one in enumerations()],
             "long": [{"name": name, "set": data.hex(), "serial": serial.hex(), "listing": room.program("lister", {"set.bin": data, "unit.bin": serial})[0]} for name, data, serial in long_sets()],

@@ -216,6 +216,8 @@ async function checkMade(browser, room, native) {
         hold(`the exported ${told.name}`, (await room.savedFile("descriptors"))?.toString("hex"), told.exported);
         await browser.press("#to-text");
         hold(`the text of ${told.name}`, await browser.evaluate("document.getElementById('text').value"), told.text);
+        await browser.press("#to-words");
+        hold(`the text of ${told.name}, in words`, await browser.evaluate("document.getElementById('text').value"), told.inWords);
     }
     console.log(`${dumps.length} descriptors files imported, ${trims.length} sets trimmed, exported and read as texts`);
 }

@@ -49,6 +49,8 @@ for (const { name, source, set } of native.texts) {
     const made = setOfText(library, source);
     hold(`the set of ${name}`, made.number === 0 ? textOfBytes(made.sets[0]) : null, set);
 }
+for (const { source, faults } of native.blamed)
+    hold("the lines of a text with faults", JSON.stringify(setOfText(library, source).reason?.faults?.map(({ rule, line }) => [rule, line?.number ?? 0]) ?? []), JSON.stringify(faults));
 console.log(`${native.misread.length + native.texts.length} texts read as makers/write reads them`);
 
 for (const { kind, name, text, high } of FACTS.texts) {
@@ -76,11 +78,13 @@ console.log(`${faults} faults of ${native.explained.length + native.kinds.length
 // ---- sets
 const sets = [...native.sets, ...native.recorded];
 let steps = 0;
-for (const { name, set, serial, text, listing: listed, transcript, trimmed, exported } of sets) {
+for (const { name, set, serial, text, inWords, listing: listed, transcript, trimmed, exported } of sets) {
     const [bytes, block] = [bytesOf(set), bytesOf(serial)], board = new Board(library, "one", [bytes], block);
     hold(`the listing of ${name}`, listing(bytes, board.number).map((line) => `${line}\n`).join(""), listed);
     if (text !== null)
         hold(`the text of ${name}`, textOf(bytes, block), text);
+    if (inWords !== null)
+        hold(`the text of ${name}, in words`, textOf(bytes, block, true), inWords);
     const trim = library.trim(bytes, block), dump = dumpOfSet(library, bytes, block);
     hold(`the trimmed ${name}`, trim.number === 0 ? textOfBytes(trim.written) : null, trimmed);
     hold(`the exported ${name}`, dump.number === 0 ? textOfBytes(dump.written) : null, exported);
