@@ -27,7 +27,7 @@ class Lending:
     def read(self, path):
         try:
             if self.block == "set" and path.endswith(".txt"):
-                with open(path, encoding="utf-8") as file:
+                with open(path, encoding="utf-8-sig") as file:
                     self.text = read_entries(file)
             else:
                 self.data = read_file(path)
@@ -100,7 +100,7 @@ class Orders:
 def read_script(path):
     """The steps of a script; an error names its line."""
     steps, orders = [], None
-    with open(path, encoding="utf-8") as file:
+    with open(path, encoding="utf-8-sig") as file:
         lines = read_lines(file)
         for line in lines:
             if line.text == "end" and orders:

@@ -118,7 +118,7 @@ class Line:
 
 def read_lines(texts):
     for number, text in enumerate(texts, 1):
-        text = re.sub(r"(^|\s)#.*", "", text).strip()
+        text = re.sub(r"(^|\s)#.*", "", text).replace("\t", " ").strip()
         if text:
             yield Line(number, text)
 
