@@ -31,13 +31,19 @@ function lineOf(laid, fault, serialLine) {
     return found?.part.line && (fault.place >= found.offset ? lineAt(found.part, fault.place - found.offset) : found.part.line);
 }
 
+// The piece that a fault is in, and where in its body; below 0 it is in its entry.
+function pieceOf(laid, { number, place }) {
+    const found = number === 6 ? null : pieceAt(laid, place);
+    return found ? { piece: found.part, inBody: place - found.offset } : {};
+}
+
 // Why pieces are refused: what the opener says of the set that they would make, and each fault with its line or its piece.
 function reason(library, pieces, { serial, serialLine }, kind) {
     const laid = laidOut(pieces);
     if (laid === null)
         return { words: "so many pieces, or bytes, are more than a set can count" };
     const { number } = library.open(KINDS[kind].open, [laid.set], serial), told = kind === "one" && library.has("hk_explain");
-    const faults = told ? faultsOf(library, laid.set, serial).map((fault) => ({ ...fault, line: lineOf(laid, fault, serialLine), piece: pieceAt(laid, fault.place)?.part })) : [];
+    const faults = told ? faultsOf(library, laid.set, serial).map((fault) => ({ ...fault, line: lineOf(laid, fault, serialLine), ...pieceOf(laid, fault) })) : [];
     return { number, set: laid.set, faults };
 }
 
@@ -112,9 +118,16 @@ function withoutReferences(body) {
     return body;
 }
 
+// The byte of a dump at which a fault of its set is: its pieces stand there end to end.
+function placeInDump(fault, pieces) {
+    const before = pieces.slice(0, pieces.indexOf(fault.piece)).reduce((sum, { body }) => sum + body.length, 0);
+    return fault.piece && fault.inBody >= 0 ? before + fault.inBody : undefined;
+}
+
 export function setOfDump(library, dump) {
-    const { number, written: set } = library.write("hk_import", [dump]);
-    return { number, kind: "one", sets: [set], serial: NO_BYTES, reason: number === 21 ? reason(library, piecesOfDump(dump), { serial: NO_BYTES }, "one") : null };
+    const { number, written: set } = library.write("hk_import", [dump]), pieces = number === 21 ? piecesOfDump(dump) : [];
+    const why = number === 21 ? reason(library, pieces, { serial: NO_BYTES }, "one") : null;
+    return { number, kind: "one", sets: [set], serial: NO_BYTES, reason: why && { ...why, faults: why.faults?.map((fault) => ({ ...fault, inDump: placeInDump(fault, pieces) })) } };
 }
 
 export function dumpOfSet(library, set, serial) {

@@ -107,7 +107,7 @@ export function* readLines(text) {
     let number = 0;
     for (const whole of text.split(/\r\n|\r|\n/)) {
         number++;
-        const line = whole.replace(/(^|\s)#[^]*/, "").trim();
+        const line = whole.replace(/(^|\s)#[^]*/, "").replaceAll("\t", " ").trim();
         if (line !== "")
             yield new Line(number, line);
     }

@@ -5,6 +5,7 @@ import { Texts } from "./texts.js";
 import { faultRows } from "./faultrows.js";
 import { numberWords } from "./host.js";
 import { ruleOf } from "./rules.js";
+import { likenessOf } from "./likeness.js";
 import { setOfDump, setOfPieces, dumpOfSet } from "./making.js";
 import { withoutMirrors } from "./pairs.js";
 import { Mistake, textOf } from "./text.js";
@@ -74,15 +75,17 @@ export class Workshop {
     }
 
     // Why the opener would refuse what was made: each fault, and the line or the piece that is to blame.
-    reasonRows({ reason, serial, number }) {
+    reasonRows({ reason, serial, number, kind }) {
         if (reason.words)
             return element("p", {}, reason.words);
+        const like = kind === "one" ? likenessOf(this.library, reason.set, serial) : null;
         const line = (fault) => (fault.line ? this.texts.lead(fault.line) : pieceWords(fault));
         return [
             element("p", {}, `${number === reason.number ? "Number" : "The opener would refuse the set with"} ${reason.number}: ${numberWords(reason.number)}.`),
             typeof reason.at === "number" && element("p", {}, `It is about the ${KINDS.two.sets[reason.at]}, of the ${reason.at === 0 ? "first" : "second"} text.`),
             reason.causes && element("ul", { class: "causes" }, reason.causes.map((words) => element("li", {}, words))),
             faultRows(reason.faults, { set: reason.set, serial, line }),
+            like && element("p", { class: "hinted" }, element("strong", {}, `${like.words.replace(/^./, (letter) => letter.toUpperCase())}.`)),
         ];
     }
 

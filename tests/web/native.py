@@ -12,6 +12,7 @@ from text import Mistake, piece, read_entries, read_text as whole_text, text_of
 sys.path[1:1] = [os.path.join(TOP, "page"), os.path.join(TOP, "bench")]
 from facts import TEXTS as TEMPLATES
 from asking import LaidOut
+from dumped import dumped_set, place_in_dump
 from faults import brief
 from kinds import looks_like
 from mending import faults_of
@@ -153,6 +154,16 @@ def blamed(room, texts):
         yield {"source": source, "faults": [[fault.rule, getattr(text.line_of(fault), "number", 0)] for fault in faults]}
 
 
+def imported(room, name, dump):
+    """The set of a dump; of one that breaks rules, each rule and its byte of the dump."""
+    told, made = room.program("maker import", {"descriptors": dump}, "set.bin")
+    faults = []
+    if told.startswith("refused 21"):
+        data, serial = dumped_set(dump)
+        faults = [[fault.rule, place_in_dump(data, fault)] for fault in faults_of(data, serial, lambda *lent: explained(room, dict(zip(("set.bin", "unit.bin"), lent))))]
+    return {"name": name, "dump": dump.hex(), "set": made, "faults": faults}
+
+
 # ---- texts of every kind
 def read_text(path):
     entries, serial = read_entries(read(path).decode().splitlines())
@@ -200,7 +211,7 @@ def main():
             "sets": [told(room, host, *one) for one in sets],
             "recorded": [told(room, host, *one) for one in enumerations()],
             "long": [{"name": name, "set": data.hex(), "serial": serial.hex(), "listing": room.program("lister", {"set.bin": data, "unit.bin": serial})[0]} for name, data, serial in long_sets()],
-            "dumps": [{"name": name, "dump": dump.hex(), "set": room.program("maker import", {"descriptors": dump}, "set.bin")[1]} for name, dump in recordings()],
+            "dumps": [imported(room, name, dump) for name, dump in recordings()],
         }, sys.stdout)
 
 

@@ -99,8 +99,9 @@ for (const { name, set, serial, text, inWords, listing: listed, transcript, trim
 }
 console.log(`${sets.length} sets listed, read as a text, trimmed, exported and enumerated as the native programs do, in ${steps} steps`);
 
-for (const { name, dump, set } of native.dumps) {
+for (const { name, dump, set, faults: expected } of native.dumps) {
     const made = setOfDump(library, bytesOf(dump));
+    hold(`the faults of the import of ${name}`, JSON.stringify(made.reason?.faults?.map(({ rule, inDump }) => [rule, inDump]) ?? []), JSON.stringify(expected));
     hold(`the import of ${name}`, made.number === 0 ? textOfBytes(made.sets[0]) : null, set);
 }
 console.log(`${native.dumps.length} recorded devices imported as the importer does`);
