@@ -5,6 +5,9 @@ import { readFile } from "./files.js";
 import { countWords } from "./bytes.js";
 
 const NAMED_ALIKE = 3;
+const NO_OTHER = "Choose the other set, or keep this one as it is and change it: then both stand here.";
+const ALL_ALIKE = "All descriptors are alike; they stand in the set in another way.";
+const column = (name) => element("th", { scope: "col" }, name);
 
 // Rows that are alike are told together.
 function grouped(rows) {
@@ -18,8 +21,8 @@ function grouped(rows) {
 }
 
 function alikeRow({ alike }) {
-    const names = alike.slice(0, NAMED_ALIKE).map(({ title }) => title).join("; ");
-    return element("tr", { class: "alike" }, element("td", { colspan: 3 }, `${countWords(alike.length, "descriptor")} alike: ${names}${alike.length > NAMED_ALIKE ? " …" : ""}`));
+    const names = alike.slice(0, NAMED_ALIKE).map(({ title }) => title).join("; "), more = alike.length > NAMED_ALIKE ? " …" : "";
+    return element("tr", { class: "alike" }, element("td", { colspan: 3 }, `${countWords(alike.length, "descriptor")} alike: ${names}${more}`));
 }
 
 export class Comparison {
@@ -59,7 +62,7 @@ export class Comparison {
         byId("this-name").textContent = `${this.names[0]}, ${countWords(bytes.length, "byte")}`;
         byId("other-name").textContent = partner ? `${partner.name}, ${countWords(partner.bytes.length, "byte")}` : "none";
         byId("no-other").disabled = this.other === null;
-        fill(byId("differences"), partner ? this.told(partner) : element("p", { class: "quiet" }, "Choose the other set, or keep this one as it is and change it: then both stand here."));
+        fill(byId("differences"), partner ? this.told(partner) : element("p", { class: "quiet" }, NO_OTHER));
     }
 
     told(partner) {
@@ -67,13 +70,13 @@ export class Comparison {
         if (same)
             return element("p", { class: "outcome accepted" }, "Byte for byte the same.");
         const differing = rows.filter((row) => !row.alike).length, place = firstDifference(bytes, partner.bytes);
-        const words = differing > 0 ? `${countWords(differing, "descriptor")} of ${rows.length} not alike.` : "All descriptors are alike; they stand in the set in another way.";
+        const words = differing > 0 ? `${countWords(differing, "descriptor")} of ${rows.length} not alike.` : ALL_ALIKE;
         const first = place < bytes.length ? button(`byte ${place}`, () => this.show("set", place), { class: "link" }) : `byte ${place}, where ${this.names[0]} ends`;
         return [
             element("p", { class: "outcome refused" }, words, " "),
             element("p", {}, "The first difference is at ", first, "."),
             element("table", { class: "compared" },
-                element("thead", {}, element("tr", {}, element("th", { scope: "col" }, "What"), element("th", { scope: "col" }, this.names[0]), element("th", { scope: "col" }, partner.name))),
+                element("thead", {}, element("tr", {}, ["What", this.names[0], partner.name].map(column))),
                 element("tbody", {}, grouped(rows).flatMap((row) => this.rowsOf(row)))),
         ];
     }
@@ -85,7 +88,8 @@ export class Comparison {
         const heading = (...cells) => element("tr", { class: "differs" }, element("th", { scope: "row" }, title), cells);
         if (row.only !== undefined)
             return [heading(...[0, 1].map((side) => element("td", {}, row.only === side ? "only here" : "not there")))];
-        const fields = row.fields.map(({ name, one, other }) => element("tr", {}, element("th", { scope: "row", class: "field" }, name), element("td", {}, one), element("td", {}, other)));
+        const fields = row.fields.map(({ name, one, other }) =>
+            element("tr", {}, element("th", { scope: "row", class: "field" }, name), element("td", {}, one), element("td", {}, other)));
         return [heading(element("td", { colspan: 2 })), ...fields];
     }
 }

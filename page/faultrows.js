@@ -26,6 +26,11 @@ export function faultRows(faults, about) {
     if (faults.length === 0)
         return null;
     const { nodes } = treeOf(about.set), [first, ...others] = faults.map((fault) => faultLines(fault, nodes, about));
-    const count = `${others.length} more fault${others.length === 1 ? "" : "s"}${faults.length >= MOST_TOLD ? ", and there may be more" : ""}, found by mending a copy as told:`;
-    return [first, others.length > 0 && element("details", { class: "more-faults", open: others.length <= MOST_OPEN }, element("summary", {}, count), element("ol", {}, others.map((lines) => element("li", {}, lines))))];
+    const some = `${others.length} more fault${others.length === 1 ? "" : "s"}`, most = faults.length >= MOST_TOLD ? ", and there may be more" : "";
+    const list = element("ol", {}, others.map((lines) => element("li", {}, lines)));
+    return [
+        first,
+        others.length > 0 && element("details", { class: "more-faults", open: others.length <= MOST_OPEN },
+            element("summary", {}, `${some}${most}, found by mending a copy as told:`), list),
+    ];
 }

@@ -29,7 +29,8 @@ export class Inspection {
     // Shows what is lent: each set, and the serial block.
     show(board, judged) {
         const names = KINDS[board.kind].sets;
-        const broken = (isSerial) => judged.faults.filter(({ number }) => (number === 6) === isSerial).map(({ place }) => place), serialNodes = board.serial.length > 0 ? [serialNode(board.serial)] : [];
+        const broken = (isSerial) => judged.faults.filter(({ number }) => (number === 6) === isSerial).map(({ place }) => place);
+        const serialNodes = board.serial.length > 0 ? [serialNode(board.serial)] : [];
         this.blocks = board.sets.map((bytes, at) => ({ name: names[at], bytes, ...treeOf(bytes, board.kind), broken: broken(false) }));
         this.blocks.push({ name: "serial block", bytes: board.serial, nodes: serialNodes, broken: broken(true) });
         fill(byId("blocks"), this.blocks.map(({ name, bytes }, at) => element("option", { value: at }, `${name}, ${countWords(bytes.length, "byte")}`)));

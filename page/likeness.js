@@ -36,9 +36,10 @@ function whole(parts) {
 
 // A set with types 6 and 7: which of the two it is.
 function ofPair(library, set, serial, parts) {
-    const other = otherOfPair(parts), open = (...sets) => library.open("hk_two_open", sets, serial).number, asFull = open(set, other), asHigh = open(other, set);
+    const other = otherOfPair(parts), [asFull, asHigh] = [[set, other], [other, set]].map((sets) => library.open("hk_two_open", sets, serial).number);
+    const refused = `(it has types 6 and 7): as the full-speed set ${opened(asFull)}, as the high-speed one ${opened(asHigh)}`;
     if (asFull !== 0 && asHigh !== 0)
-        return { kind: "two", at: asHigh > asFull ? 1 : 0, words: `this looks like a set of a pair (it has types 6 and 7): as the full-speed set ${opened(asFull)}, as the high-speed one ${opened(asHigh)}` };
+        return { kind: "two", at: asHigh > asFull ? 1 : 0, words: `this looks like a set of a pair ${refused}` };
     if (asFull === 0 && asHigh === 0)
         return { kind: "two", at: 0, words: "this looks like a set of a pair: opened as one, beside a set made of its types 6 and 7, it is accepted at either speed" };
     const at = asFull === 0 ? 0 : 1;

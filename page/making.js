@@ -127,7 +127,8 @@ function placeInDump(fault, pieces) {
 export function setOfDump(library, dump) {
     const { number, written: set } = library.write("hk_import", [dump]), pieces = number === 21 ? piecesOfDump(dump) : [];
     const why = number === 21 ? reason(library, pieces, { serial: NO_BYTES }, "one") : null;
-    return { number, kind: "one", sets: [set], serial: NO_BYTES, reason: why && { ...why, faults: why.faults?.map((fault) => ({ ...fault, inDump: placeInDump(fault, pieces) })) } };
+    const faults = why?.faults?.map((fault) => ({ ...fault, inDump: placeInDump(fault, pieces) }));
+    return { number, kind: "one", sets: [set], serial: NO_BYTES, reason: why && { ...why, faults } };
 }
 
 export function dumpOfSet(library, set, serial) {

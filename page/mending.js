@@ -61,7 +61,8 @@ class Copy {
 
     // String 0 with the languages that strings are in; added, if there is none.
     listLanguages(list) {
-        const used = [...new Set(this.ofType(TYPE.STRING).map(({ language }) => language).filter((language) => language !== 0))].sort((one, next) => one - next).slice(0, MOST_LANGUAGES);
+        const spoken = new Set(this.ofType(TYPE.STRING).map(({ language }) => language).filter((language) => language !== 0));
+        const used = [...spoken].sort((one, next) => one - next).slice(0, MOST_LANGUAGES);
         const listed = used.length > 0 ? used : [ENGLISH], body = [2 + 2 * listed.length, TYPE.STRING, ...listed.flatMap((language) => [...littleEndian(language, 2)])];
         if (list)
             list.body = body;

@@ -178,7 +178,8 @@ class Page {
     }
 
     pairDropped(sets) {
-        const orders = [sets, [...sets].reverse()], opens = ([set, high]) => GO_TOGETHER.includes(this.library.open("hk_two_open", [set.bytes, high.bytes], NO_FILE.bytes).number);
+        const orders = [sets, [...sets].reverse()], open = (order) => this.library.open("hk_two_open", order.map(({ bytes }) => bytes), NO_FILE.bytes).number;
+        const opens = (order) => GO_TOGETHER.includes(open(order));
         const [set, high] = orders.find(opens) ?? orders[isHighByName(sets[0]) && !isHighByName(sets[1]) ? 1 : 0];
         if (this.lent.kind === "two" || sets.every(({ bytes }) => isOfPair(bytes)))
             return { kind: "two", set, high };

@@ -1,6 +1,6 @@
 // The texts that sets are made of: typed in, started from one that is there, undone, and kept over a reload.
 import { FACTS } from "./facts.js";
-import { byId, button, element, fill } from "./element.js";
+import { byId, button, element, fill, save } from "./element.js";
 import { History } from "./history.js";
 import { keep, recall } from "./memory.js";
 import { pairOfTexts, setOfText } from "./making.js";
@@ -39,6 +39,7 @@ export class Texts {
         byId("make-kind").addEventListener("change", (event) => this.change({ ...this.typed(), kind: event.target.value }));
         byId("undo-text").addEventListener("click", () => this.go("undo"));
         byId("redo-text").addEventListener("click", () => this.go("redo"));
+        byId("save-text").addEventListener("click", () => this.save());
     }
 
     get kind() {
@@ -107,6 +108,13 @@ export class Texts {
         this.write();
     }
 
+    save() {
+        const state = this.typed();
+        save(state.kind === "two" ? "full.txt" : "set.txt", state[state.kind]);
+        if (state.kind === "two")
+            save("high.txt", state.high);
+    }
+
     show() {
         const { state } = this.history, { text, high } = this.fields;
         byId("make-kind").value = state.kind;
@@ -115,7 +123,8 @@ export class Texts {
         byId("text-label").textContent = LABELS[state.kind];
         byId("high-form").hidden = state.kind !== "two";
         const starts = FACTS.texts.filter(({ kind }) => kind === state.kind);
-        fill(byId("texts"), starts.map((one) => button(one.name, () => this.set(one.text, one.high))), state.kind === "two" && button("The text for one set", () => this.pairOfOne()));
+        const ofOne = state.kind === "two" && button("The text for one set", () => this.pairOfOne());
+        fill(byId("texts"), starts.map((one) => button(one.name, () => this.set(one.text, one.high))), ofOne);
     }
 
     look() {

@@ -69,9 +69,18 @@ export class Workshop {
         if (made.mistake)
             return fill(place, refused(`Not read: ${name}. ${made.mistake}`), made.line && this.texts.lead(made.line, made.text));
         if (made.number !== 0)
-            return fill(place, made.reason?.number ? refused(`Refused with ${made.number}: ${name}.`) : refusal(made.number, name), made.reason && this.reasonRows(made), made.reason?.set && this.lookButton(made, [made.reason.set], `${name}, refused`));
+            return fill(place, this.refusedRows(made, name));
         const lengths = made.sets.map((set, at) => `${FILES[made.kind][at]}: ${countWords(set.length, "byte")}`).join(", ");
         return fill(place, accepted(`Accepted: ${name}. Wrote ${lengths}.`), this.saveButtons(made, name));
+    }
+
+    refusedRows(made, name) {
+        const { number, reason } = made;
+        return [
+            reason?.number ? refused(`Refused with ${number}: ${name}.`) : refusal(number, name),
+            reason && this.reasonRows(made),
+            reason?.set && this.lookButton(made, [reason.set], `${name}, refused`),
+        ];
     }
 
     // Why the opener would refuse what was made: each fault, and the line or the piece that is to blame.
@@ -160,4 +169,4 @@ function briefly({ mistake, number, sets, reason }) {
     return fault ? `Refused: ${where}rule ${fault.rule}, ${ruleOf(fault.rule).rule}${more}` : `Refused with ${number}`;
 }
 
-const pieceWords = ({ piece }) => (piece ? `the piece of type ${piece.type}, index ${piece.index}` : "");
+const pieceWords = ({ piece, inDump }) => (piece && inDump === undefined ? `the piece of type ${piece.type}, index ${piece.index}` : "");

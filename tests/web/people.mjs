@@ -104,7 +104,7 @@ async function checkFaults(browser, room, native) {
 // ---- what was typed survives a reload, and can be undone
 const reload = (browser) => browser.reload("document.body?.dataset.ready === 'yes'");
 
-async function checkReload(browser) {
+async function checkReload(browser, room) {
     const text = () => browser.evaluate("document.getElementById('text').value"), own = "# my own\ndevice idProduct 7\nconfiguration\ninterface\n";
     await openPanel(browser, "make");
     const before = await text();
@@ -115,6 +115,8 @@ async function checkReload(browser) {
     hold("and undone", await text(), own);
     await reload(browser);
     hold("what was typed survives a reload", await text(), own);
+    await browser.press("#save-text");
+    hold("what was typed can be saved", (await room.savedFile("set.txt"))?.toString(), own);
     hold("so does the panel", await browser.evaluate("document.querySelector('[aria-selected=true]').id"), "tab-make");
     await browser.evaluate("document.getElementById('text').focus()");
     for (let count = 0; count < 8 && (await text()) !== before; count++)
@@ -300,7 +302,7 @@ export async function checkPeople(browser, room, native) {
     await checkSubject(browser);
     await checkLines(browser);
     await checkFaults(browser, room, native);
-    await checkReload(browser);
+    await checkReload(browser, room);
     await checkCompare(browser, room, native);
     await checkTwoDropped(browser, room, native);
     await checkC(browser, room, native);
