@@ -2,8 +2,8 @@
 import collections, html, json
 from xml.sax.saxutils import escape, quoteattr
 
-# What was tried: its name, how it went (`passed`, `failed` or `error`), one line of words, all lines, what JSON has besides, and more for the page.
-Case = collections.namedtuple("Case", "name outcome words lines facts page", defaults=[[], {}, ""])
+# What was tried: its name, how it went (`passed`, `failed` or `error`), one line of words, all lines, what JSON has besides, and what makes more for the page.
+Case = collections.namedtuple("Case", "name outcome words lines facts page", defaults=[[], {}, lambda: ""])
 PASSED, FAILED, ERROR = "passed", "failed", "error"
 
 STYLE = """body { font: 15px/1.5 system-ui, sans-serif; max-width: 75em; margin: 2em auto; padding: 0 1em; color: #222 }
@@ -17,7 +17,7 @@ ul.tree { list-style: none; padding-left: 1.2em; font: 13px/1.6 ui-monospace, mo
 def case_html(case):
     shown = "" if case.outcome == PASSED else " open"
     lines = f"<pre>{html.escape(chr(10).join(case.lines))}</pre>" if case.lines else ""
-    return f'<details class="{case.outcome}"{shown}><summary>{html.escape(case.name)}: {html.escape(case.words)}</summary>\n{lines}{case.page}</details>\n'
+    return f'<details class="{case.outcome}"{shown}><summary>{html.escape(case.name)}: {html.escape(case.words)}</summary>\n{lines}{case.page()}</details>\n'
 
 
 def as_html(title, summary, cases):
@@ -27,8 +27,8 @@ def as_html(title, summary, cases):
 
 
 def case_xml(case):
-    text = escape("\n".join(case.lines) or case.words)
-    inside = "" if case.outcome == PASSED else f"<{'failure' if case.outcome == FAILED else 'error'} message={quoteattr(case.words)}>{text}</{'failure' if case.outcome == FAILED else 'error'}>"
+    tag, text = "failure" if case.outcome == FAILED else "error", escape("\n".join(case.lines) or case.words)
+    inside = "" if case.outcome == PASSED else f"<{tag} message={quoteattr(case.words)}>{text}</{tag}>"
     return f"  <testcase classname={quoteattr(case.facts.get('folder', 'heideklonk'))} name={quoteattr(case.name)}>{inside}</testcase>\n"
 
 

@@ -148,7 +148,7 @@ def missed(expected, phrases):
 
 # The kinds of phrases but those of a record's fields: what came is told by those of the kind that was expected.
 KINDS = [r"\d+", "done|stall|refused", r"no data|[\d,]+ bytes?", "no data|bytes( [0-9A-F]{2})+", r"packets( \d+)+|no data", "record (unchanged|changed)",
-         "record( [0-9A-F]{2})*", r"[\d,]+ ends?", "answers alike"]
+         "record( [0-9A-F]{2})*", r"[\d,]+ ends?", "answers alike", "order .*", r"room \d+", "pipe (unchanged|changed)", "pipe .*", "host gets .*"]
 
 
 def came_instead(expected, phrases):
@@ -156,8 +156,9 @@ def came_instead(expected, phrases):
     phrase = expected.removeprefix("not ")
     kind = next((kind for kind in KINDS if re.fullmatch(kind, phrase)), None)
     found = [other for other in phrases if (re.fullmatch(kind, other) if kind else not any(re.fullmatch(known, other) for known in KINDS))]
+    number = next((number_words(int(other)) for other in phrases if re.fullmatch(KINDS[0], other)), "no number")
     if kind == KINDS[0]:
-        return number_words(int(found[0]))
-    if kind == KINDS[1]:
-        return f"{found[0]}, {number_words(int(phrases[0]))}"
+        return number
+    if kind == KINDS[1] and found:
+        return f"{found[0]}, {number}"
     return ", ".join(found) or ("answers that differ" if phrase == "answers alike" else "none")

@@ -172,7 +172,9 @@ def mend_entry(copy, part, fault, exact):
     return True
 
 
-def mended(copy, data, serial, fault, part, in_contents, at):
+def mended(copy, data, serial, fault):
+    """Whether the copy, laid out as `data`, could be mended of this fault."""
+    part, in_contents, at = copy.find(fault.place)
     exact = should_be(data, serial, fault)
     if in_contents:
         return mend_entry(copy, part, fault, exact)
@@ -204,6 +206,6 @@ def faults_of(data, serial, ask):
             told.append(fault._replace(place=place))
         elif (fault.rule, place) in {(other.rule, other.place) for other in told}:
             break
-        if not mended(copy, now, serial, fault, part, in_contents, at):
+        if not mended(copy, now, serial, fault):
             break
     return told
