@@ -36,9 +36,21 @@ def rules():
     return [{"number": number, "group": number // 100, "rule": asks, "words": may} for number, (asks, may) in RULES.items()]
 
 
+def words_for_values():
+    """Each field that has words for its values, with them; of many the first and the last."""
+    for line, known in values.VALUES.items():
+        for field, words in known.items():
+            names = list(words) if len(words) < 20 else [*list(words)[:2], "..", list(words)[-1]]
+            yield f"    {line:15}{field}: {', '.join(names)}"
+    yield from (f"    {field}: a number with its unit, as 100{unit}" for field, (unit, _) in values.UNITS.items())
+    yield f"    {', '.join(values.BITS)}: words may be joined, as isochronous+adaptive"
+    yield "    languages: " + ", ".join(values.LANGUAGES)
+
+
 def text_help():
-    """The fields of a text, from the words of makers/write."""
-    return read("makers/write").split('"""')[1].partition("    device ")[2].join(["    device ", ""]).replace("\\\\", "\\")
+    """The fields of a text, from the words of makers/write; and the words for values."""
+    fields = "    device " + read("makers/write").split('"""')[1].partition("    device ")[2].partition("\n\n")[0]
+    return fields.replace("\\\\", "\\") + "\n\nWords for values; a number may stand wherever a word does:\n\n" + "\n".join(words_for_values()) + "\n"
 
 
 def texts():

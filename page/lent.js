@@ -7,8 +7,16 @@ export const NO_FILE = { name: "", bytes: new Uint8Array(0) };
 const NOTHING = { kind: "one", set: NO_FILE, high: NO_FILE, serial: NO_FILE };
 const BLOCKS = ["set", "high", "serial"];
 
+const texts = new WeakMap(); // of bytes that were made text before: what is lent is never changed in place
+
+function textOfBytes(bytes) {
+    if (!texts.has(bytes))
+        texts.set(bytes, toBase64(bytes));
+    return texts.get(bytes);
+}
+
 // A state with its bytes as text, and back.
-const inText = (state) => ({ ...state, ...Object.fromEntries(BLOCKS.map((block) => [block, { name: state[block].name, bytes: toBase64(state[block].bytes) }])) });
+const inText = (state) => ({ ...state, ...Object.fromEntries(BLOCKS.map((block) => [block, { name: state[block].name, bytes: textOfBytes(state[block].bytes) }])) });
 const inBytes = (state) => ({ ...state, ...Object.fromEntries(BLOCKS.map((block) => [block, { name: `${state[block].name}`, bytes: fromBase64(state[block].bytes) }])) });
 
 // What was kept, unless it is not of this page's making.
