@@ -90,9 +90,9 @@ export function showVerdict(place, board, judged, { show, useAs }) {
     fill(place,
         element("h2", {}, accepted ? ["Accepted: ", subject] : [`Refused with ${judged.number}${which}: `, subject]),
         accepted ? acceptedWords(board) : element("p", { class: "number" }, `Number ${judged.number}: ${numberWords(judged.number)}.`),
+        hint(board, judged, useAs),
         faultRows(judged.faults, { set: board.sets[0], serial: board.serial, show }),
         judged.number === 24 && element("ul", { class: "causes" }, pairCauses(board.sets).map((words) => element("li", {}, words))),
-        hint(board, judged, useAs),
         accepted ? null : groupRules(judged.number),
         remarks(board, judged, show));
 }

@@ -93,8 +93,8 @@ export class Workshop {
             element("p", {}, `${number === reason.number ? "Number" : "The opener would refuse the set with"} ${reason.number}: ${numberWords(reason.number)}.`),
             typeof reason.at === "number" && element("p", {}, `It is about the ${KINDS.two.sets[reason.at]}, of the ${reason.at === 0 ? "first" : "second"} text.`),
             reason.causes && element("ul", { class: "causes" }, reason.causes.map((words) => element("li", {}, words))),
-            faultRows(reason.faults, { set: reason.set, serial, line }),
             like && element("p", { class: "hinted" }, element("strong", {}, `${like.words.replace(/^./, (letter) => letter.toUpperCase())}.`)),
+            faultRows(reason.faults, { set: reason.set, serial, line }),
         ];
     }
 

@@ -131,6 +131,10 @@ async function checkReload(browser, room) {
     hold("a changed byte is undone", await textOf(browser, "#verdict h2"), "Accepted: Laboratory scale");
     await browser.press("#redo");
     hold("and done again", await verdict(browser), "Refused with 1");
+    await browser.evaluate("document.body.dataset.ready = 'no'");
+    await browser.press("#forget");
+    await browser.until("document.body?.dataset.ready === 'yes'");
+    hold("what was kept is forgotten when asked", `${await textOf(browser, "#verdict h2")} ${await browser.evaluate("document.getElementById('undo').disabled")}`, "Accepted: Bench set S true");
     console.log("what was typed survives a reload, and can be undone");
 }
 
