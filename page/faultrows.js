@@ -9,8 +9,8 @@ const upper = (letter) => letter.toUpperCase();
 
 // One fault, as lines; `show` leads to its byte, and `line` gives the line of the text that it is in.
 function faultLines(fault, nodes, { set, serial, show, line }) {
-    const words = wordsOf(set, serial, fault), isSerial = fault.number === 6, inDump = fault.inDump !== undefined;
-    const place = inDump ? `Byte ${fault.inDump} of the descriptors file` : `Byte ${fault.place}${isSerial ? " of the serial block" : ""}`;
+    const words = wordsOf(set, serial, fault), isSerial = fault.number === 6, block = isSerial ? " of the serial block" : show ? "" : " of the set";
+    const place = fault.inDump === undefined ? `Byte ${fault.place}${block}` : `Byte ${fault.inDump} of the descriptors file`;
     const lead = show ? button(place, () => show(isSerial ? "serial" : "set", fault.place), { class: "link lead" }) : place;
     return [
         element("p", { class: "rule" }, element("strong", {}, `Rule ${fault.rule}: `), words.rule),

@@ -71,7 +71,7 @@ async function checkLines(browser) {
     const endpoint = await told("device\nconfiguration\ninterface\nendpoint\nendpoint bEndpointAddress 0x82 bmAttributes 2 wMaxPacketSize 9");
     holdWords("an endpoint's fault has its line", endpoint, "Line 5: endpoint bEndpointAddress 0x82 bmAttributes 2 wMaxPacketSize 9");
     holdWords("an endpoint's fault has its rule", endpoint, "Rule 428");
-    holdWords("an endpoint's fault has its byte and field", endpoint, "wMaxPacketSize: found 09 00 (9), allowed: 08 00, 10 00, 20 00 or 40 00");
+    holdWords("an endpoint's fault has its byte and field", endpoint, "Byte 67 of the set, wMaxPacketSize: found 09 00 (9), allowed: 08 00, 10 00, 20 00 or 40 00");
     const missing = await told("languages 0x0407 en-US\nstring 1 0x0407 a\ndevice\nconfiguration\ninterface iInterface 1");
     holdWords("a missing string has the reference's line", missing, "Line 5: interface iInterface 1");
     holdWords("a missing string, by language", missing, "String 1 is missing in 0409 (en-US)");
