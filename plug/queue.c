@@ -1,4 +1,3 @@
-#define NOBODY_WAITS (-1)
 #include "queue.h"
 
 #include <stdio.h>
@@ -7,6 +6,9 @@
 #include <time.h>
 
 #include "../tools/host/words.h"
+
+#define NOBODY_WAITS (-1)
+#define MOST_EARLY 64
 
 /* A transfer that waits. */
 struct waiting {
@@ -22,6 +24,9 @@ static struct host *plugged;
 static struct replies *outbox;
 static struct waiting waiting[MOST_WAITING_TRANSFERS];
 static size_t waiting_count, waiting_bytes;
+static uint32_t newest; /* the last sequence number of a submit */
+static uint32_t early[MOST_EARLY]; /* those of submits that were unlinked before they came */
+static size_t early_count;
 static uint64_t due[32]; /* by the endpoints' bits: when a paced one has its next packet, in microseconds */
 
 static uint64_t microseconds(void) {
@@ -226,6 +231,8 @@ void queue_start(struct host *host, struct replies *replies) {
     while (waiting_count > 0)
         forget(waiting_count - 1);
     memset(due, 0, sizeof due);
+    newest = 0;
+    early_count = 0;
 }
 
 static void *copied(const uint8_t *bytes, size_t length) {
@@ -262,7 +269,43 @@ static int enqueue(const struct command *command, const uint8_t *data, const uin
     return 0;
 }
 
+/* ---- Unlinking. Linux may send an unlink ahead of its submit, since it sends from two lists: then the submit, when it comes,
+ * has no answer. */
+
+static int is_newer(uint32_t sequence) {
+    return (int32_t)(sequence - newest) > 0;
+}
+
+/* Whether the submit was unlinked before it came. */
+static int was_unlinked(uint32_t sequence) {
+    size_t at = 0;
+    if (is_newer(sequence))
+        newest = sequence;
+    while (at < early_count && early[at] != sequence)
+        at++;
+    if (at == early_count)
+        return 0;
+    early[at] = early[--early_count];
+    return 1;
+}
+
+/* One that has ended already is not there. */
+void queue_unlink(const struct command *command) {
+    uint32_t sequence = command->flags;
+    size_t at = 0;
+    while (at < waiting_count && waiting[at].command.sequence != sequence)
+        at++;
+    int is_early = at == waiting_count && is_newer(sequence) && early_count < MOST_EARLY;
+    write_unlinked(more_replies(COMMAND_LENGTH), command, at < waiting_count || is_early ? STATUS_UNLINKED : STATUS_DONE);
+    if (at < waiting_count)
+        forget(at);
+    if (is_early)
+        early[early_count++] = sequence;
+}
+
 void queue_submit(const struct command *command, const uint8_t *data, const uint8_t *packets) {
+    if (was_unlinked(command->sequence))
+        return;
     if (command->endpoint == 0 && packets == NULL && fits_setup(command))
         submit_control(command, data);
     else if (command->endpoint == 0 || !has_sound_packets(command, packets))
@@ -271,16 +314,6 @@ void queue_submit(const struct command *command, const uint8_t *data, const uint
              !enqueue(command, data, packets))
         refuse_transfer(command, packets, STATUS_OUT_OF_MEMORY);
     queue_progress();
-}
-
-/* One that has ended already is not there. */
-void queue_unlink(const struct command *command) {
-    size_t at = 0;
-    while (at < waiting_count && waiting[at].command.sequence != command->flags)
-        at++;
-    write_unlinked(more_replies(COMMAND_LENGTH), command, at < waiting_count ? STATUS_UNLINKED : STATUS_DONE);
-    if (at < waiting_count)
-        forget(at);
 }
 
 static void reply_waiting(const struct waiting *transfer) {
