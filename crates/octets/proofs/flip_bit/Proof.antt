@@ -4,11 +4,8 @@ use Rattle.octets.proofs.Bits.{shifted-one, xor-flips}
 use Rattle.octets.proofs.flip_bit.Statement.{statement}
 use Rattle.octets.proofs.flip_bit.Tie as tie
 
-shl-result : tie.Need-shl-result
-shl-result c = search needs
-
 returns : tie.Need-returns
 returns c = rw (shifted-one (c .args .e) (c .pre)) (xor-flips (c .args .word) (c .args .e))
 
 pub flip-bit-spec : {M : Type 1} → statement M
-flip-bit-spec = tie.close (tie.spec shl-result returns)
+flip-bit-spec = tie.close (tie.spec (λ c. search needs) returns)
