@@ -13,13 +13,20 @@
 
 #include "heideklonk.h"
 
-/* Of a board that lends one set, and of one that lends two: on x86-64 what is reached, and a little room; on a board's processor what every call of a board must keep. */
+/* Of a board that lends one set, and of one that lends two: on x86-64 what is reached, and a little room (of the pipe, hk_setup's and a hundred); on a board's processor
+ * what every call of a board must keep. */
 #ifdef __x86_64__
 #define MOST 768
 #define MOST_OF_TWO 864
+#define MOST_OF_PIPE 777
+#define MOST_OF_TWO_PIPE 1008
+#define MOST_OF_TWO_PACKET 608
 #else
 #define MOST 1024
 #define MOST_OF_TWO 1024
+#define MOST_OF_PIPE 1024
+#define MOST_OF_TWO_PIPE 1024
+#define MOST_OF_TWO_PACKET MOST_OF_PACKET
 #endif
 /* Of the second way to answer, with one set lent and with two. */
 #define MOST_OF_TABLE 1024
@@ -347,8 +354,10 @@ static size_t most_of(int function) {
     case TRIM: return MOST + ASIDE;
     case TABLE_EVENT:
     case TWO_TABLE_EVENT: return MOST_OF_TABLE;
-    case PIPE_PACKET:
-    case TWO_PIPE_PACKET: return MOST_OF_PACKET;
+    case PIPE_PACKET: return MOST_OF_PACKET;
+    case TWO_PIPE_PACKET: return MOST_OF_TWO_PACKET;
+    case PIPE_EVENT: return MOST_OF_PIPE;
+    case TWO_PIPE_EVENT: return MOST_OF_TWO_PIPE;
     default: return is_of_two(function) ? MOST_OF_TWO : MOST;
     }
 }
