@@ -1,4 +1,5 @@
--- When the address byte may change: "only at a taken in status in after a SET_ADDRESS that was answered with 0 and no SETUP or reset since, or at a reset".
+-- When the address byte may change (PIPE 53): "only at a taken in status in after a SET_ADDRESS that was answered with 0, with no SETUP of 8 bytes and no reset answered with 0
+-- since; or at a reset".
 use Prim.Native.Nat.{ℕ}
 use mathlib.Core.Path.{_≡_}
 use mathlib.Core.Bool.{Bool, false}
@@ -17,7 +18,7 @@ use Rattle.pipes.specs.Image.{transferOf}
 use Rattle.pipes.specs.Pipe.{Told, Records}
 use Rattle.pipe_runs.specs.Runs.{Happening, onWire, beside, leaves, leavesBy, aSetup, answeredWith, addressIn}
 
--- "no SETUP or reset since": a SETUP packet of 8 bytes, or a reset that was answered with 0, drops the transfer
+-- "no SETUP of 8 bytes and no reset answered with 0 since": what drops a transfer
 abbrev pub drops : Board → Records → Told → Wire → Bool
 drops b r e Setup = eqb (length (e .setup)) 8
 drops b r e (Reset speed) = eqb (numberOf (event b (r .image) (BusReset speed) .answer)) 0
@@ -33,7 +34,7 @@ abbrev pub dropsBy : Board → Records → Happening → Bool
 dropsBy b r (onWire e) = drops b r e (e .wire)
 dropsBy b r (beside x) = false
 
--- "after a SET_ADDRESS that was answered with 0 and no SETUP or reset since", to the address a
+-- "after a SET_ADDRESS that was answered with 0, with no SETUP .. since", to the address a
 pub data Addressed (b : Board) (a : ℕ) : Records → Type 0 where
   asks : (r : Records) (setup reply : List ℕ) → length setup ≡ 8 → setupOf setup .bRequest ≡ 0x05 → setupOf setup .wValue ≡ a → answeredWith b (r .image) setup ≡ 0
       → Addressed b a (leaves b r (aSetup setup reply))

@@ -1,4 +1,4 @@
--- The packets that are handed over in a run, and those of a reply: "the k-th that is handed over is the cutter's packet k".
+-- The packets that are handed over in a run, and those of a reply (PIPE 52): "The k-th packet that is handed over is the cutter's packet k".
 use Prim.Native.Nat.{ℕ, _*_, _≤_}
 use mathlib.Core.Path.{_≡_}
 use mathlib.Core.Bool.{Bool, true, false, _||_}
@@ -20,7 +20,7 @@ use Rattle.pipes.specs.Sending.{bytesIn}
 use Rattle.pipes.specs.Pipe.{Told, Records, heard, handsOver}
 use Rattle.pipe_runs.specs.Runs.{Happening, onWire, beside, leaves, leavesBy, quiet}
 
--- ---- what is handed over: "the bytes handed back, or the part", of the blocks that are lent
+-- ---- what is handed over, PIPE 5: "the bytes handed back, or the part, which may be empty", of the blocks that are lent
 abbrev pub packetAt : Board → Records → Told → List ℕ
 packetAt b r e = heard b r e .bytes ++ bytesIn (b .set) (setFor b (deviceOf (r .image) .speed)) (b .serial) (e .reply) (handsOver b r e)
 
@@ -52,7 +52,7 @@ given b speed a = bytesOf a ++ bytesAt b speed (partOf a)
 abbrev pub replyTo : Board → List ℕ → List ℕ → List ℕ
 replyTo b image setup = given b (deviceOf image .speed) (event b image (setupEvent setup) .answer)
 
--- neither a SETUP nor a reset, "where the same reply is lent while it goes out"
+-- neither a SETUP nor a reset; PIPE 44: the reply is "lent at each event while it goes out, unchanged"
 abbrev pub Within : List ℕ → Happening → Type 0
 Within reply (onWire e) = (quiet (e .wire) ≡ true) × (e .reply ≡ reply)
 Within reply (beside x) = Unit {0}

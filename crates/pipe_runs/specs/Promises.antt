@@ -60,9 +60,9 @@ OrderDoesNotCount =
     → (after b r es .image ≡ after b r fs .image)
     × ((k : ℕ) → imageHeard b (r .image) k (requestsIn b r es) ≡ imageHeard b (r .image) k (requestsIn b r fs))
 
--- ---- PIPE 52: "What the host reads is the reply, where the same reply is lent while it goes out": of a SETUP that is answered 0 and asks for bytes, whatever follows it but a SETUP and a
--- reset. "Of a transfer's packets the k-th that is handed over is the cutter's packet k, each once, in order, none after the last; what the host has taken is the beginning of the
--- reply, and all of it when await was ordered."
+-- ---- PIPE 52: "What the host reads is the reply, where 44 and 45 are kept. The k-th packet that is handed over is the cutter's packet k, each once, in order, none after the last;
+-- what the host has taken is the beginning of the reply, and all of it when await was ordered." Of a SETUP that is answered 0 and asks for bytes, whatever follows but a SETUP and a
+-- reset
 abbrev pub ReadsTheReply : Type 0
 ReadsTheReply =
     (b : Board) (r : Records) (setup reply : List ℕ) → length (r .pipe) ≡ 16 → length setup ≡ 8 → Bytes setup

@@ -104,7 +104,7 @@ isQuiet (beside x) = Unit {0}
 abbrev pub endsAt : Board → Records → Told → Bool
 endsAt b r e = pick (fitsIn (lengthsOf b (r .image) (e .reply)) (r .pipe)) (turned (length (e .reply)) (e .wire) (transferOf (r .pipe)) .ended) false
 
--- ---- the library's own events at an event: "a setup at each SETUP, a status end at each transfer that has ended, a reset at each reset, and no other"
+-- ---- PIPE 51, the library's own events at an event: "a setup at each SETUP, a status end at each transfer that has ended, a reset at each reset, and no other"
 abbrev pub ifEnded : Bool → List Event
 ifEnded ended = pick ended (StatusEnd ∷ []) []
 
@@ -131,7 +131,7 @@ eventsIn b r (beside x ∷ es) = otherEvent x ∷ eventsIn b (leavesBy b r (besi
 abbrev pub deviceAfter : Board → List ℕ → List Event → List ℕ
 deviceAfter b = run (λ image e. event b image e .image)
 
--- a number that the library gave at its last event, or 0 where it was told none
+-- the number that the library gave, 0 where it was told nothing
 abbrev pub numberAfter : Board → List ℕ → List Event → ℕ
 numberAfter b image [] = 0
 numberAfter b image (e ∷ es) = numberOf (event b image e .answer)
