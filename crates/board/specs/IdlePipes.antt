@@ -12,18 +12,17 @@ use Rattle.octets.specs.Octets.{byte}
 use Rattle.octets.specs.Sentences.{pick}
 use Rattle.sets.specs.Opening.{Board, BytesOf}
 use Rattle.sets.specs.View.{accepted}
+use Rattle.requests.specs.Setup.{setupOf}
 use Rattle.events.specs.Answer.{numberOf}
 use Rattle.events.specs.Step.{event, setupEvent}
 use Rattle.promises.specs.Examples.{computed, S}
 use Rattle.promises.specs.Inhabited.{acceptedS, bytesS}
-use Rattle.promises.specs.Refusal.{freshImage}
 use Rattle.pipes.specs.declared.Transfer.{Transfer}
-use Rattle.pipes.specs.declared.Turn.{Turn}
 use Rattle.pipes.specs.declared.Wire.the-variants.{Setup}
 use Rattle.pipes.specs.Transfer.{askingSetup, send, ask, withStage}
 use Rattle.pipes.specs.Image.{imageOf}
-use Rattle.pipes.specs.Turns.{goesOn, stalls, sendsStatus, begun}
-use Rattle.pipes.specs.Pipe.{Records, unheard, orderBegun, turnBegun, heardAs, heard, wireOf}
+use Rattle.pipes.specs.Turns.{goesOn, stalls, sendsStatus, replyAt, started, begun}
+use Rattle.pipes.specs.Pipe.{Records, unheard, packetSize, orderBegun, heardAs, heard, wireOf}
 use Rattle.board.specs.Exports.{Spot, Spots}
 use Rattle.board.specs.Pipes.{AnswersPipe}
 use Rattle.board.specs.PipeRuns.{PipeGiven, PipeRuns, toldBy}
@@ -48,7 +47,9 @@ unknownSendsNot b r = go (eqb (length (r .pipe)) 16)
   where
     go : (x : Bool) → pick x (heardAs b r (toldBy 0 0 unknown []) Setup) (unheard 8 r) .order ≡ 1 → ⊥
     go false q = omega arith
-    go true q = refused-sends-not (numberOf (event b (r .image) (setupEvent unknown) .answer)) _ (unknown-refused b (r .image)) q
+    go true q =
+        let a = event b (r .image) (setupEvent unknown) .answer in
+        refused-sends-not (numberOf a) (started (replyAt a) (setupOf unknown) (packetSize b (r .image))) (unknown-refused b (r .image)) q
 
 -- ---- on every accepted board, the first event after power-on
 module _ (b : Board) (small : BytesOf b) (opens : accepted b ≡ true) (lies : Spots) (at : Spot) where

@@ -1,7 +1,7 @@
 -- Runs of exported calls on a board that uses the pipe: its events, and other calls beside them, over the device record and the pipe record. Each run's
 -- device record is that of a run of the library's own calls, so that demands 1 to 3 hold from packet to packet. No axiom.
 use Prim.Native.Nat.{ℕ}
-use mathlib.Core.Path.{_≡_, refl, sym, ap, _∙_}
+use mathlib.Core.Path.{_≡_, refl, sym, ap, subst, _∙_}
 use mathlib.Core.List.{List, [], _∷_, _++_}
 use mathlib.Core.Bool.{Bool, true, false}
 use lib.ListN.{length}
@@ -136,7 +136,8 @@ module _ (b : Board) (r : Records) (bytes reply : List ℕ) where
   -- of one that looks at the transfer
   on-transfer : (w : Wire) → libraryEvent w bytes ≡ StatusEnd → onTransfer b r (told w) .left .image
       ≡ pick (pick (fitsIn (lengthsOf b (r .image) reply) (r .pipe)) (turned (length reply) w (transferOf (r .pipe)) .ended) false) (left-by w) (r .image)
-  on-transfer w e = rw e (go (fitsIn (lengthsOf b (r .image) reply) (r .pipe)) (turned (length reply) w (transferOf (r .pipe))))
+  on-transfer w e = go (fitsIn (lengthsOf b (r .image) reply) (r .pipe)) (turned (length reply) w (transferOf (r .pipe)))
+      ∙ ap (λ (x : Event). pick (pick (fitsIn (lengthsOf b (r .image) reply) (r .pipe)) (turned (length reply) w (transferOf (r .pipe)) .ended) false) (event b (r .image) x .image) (r .image)) (sym e)
     where
       go : (f : Bool) (t : Turn) → pick f (moves b (r .image) t) (unheard 8 r) .left .image ≡ pick (pick f (t .ended) false) (event b (r .image) StatusEnd .image) (r .image)
       go false t = refl
@@ -181,14 +182,16 @@ module _ (b : Board) (lie : Spots) where
   step-runs : (r : Records) (c : PipeCall) → Runs b lie (r .image) (callsAt b r c) (givenAt r c) (leaves b lie r c .image)
   step-runs r (beside c) = library.runs b lie (r .image) (c ∷ [])
   step-runs r (pipeEvent kind value bytes reply at) =
-      rw (moved b r bytes reply (wireOf kind value)) (go (hears b r (toldBy kind value bytes reply)))
+      subst (λ (i : List ℕ). Runs b lie (r .image) (callsAt b r (pipeEvent kind value bytes reply at)) (givenAt r (pipeEvent kind value bytes reply at)) i)
+      (sym (moved b r bytes reply (wireOf kind value))) (go (hears b r (toldBy kind value bytes reply)))
     where
       w : Wire
       w = wireOf kind value
 
       go : (t : Bool) → Runs b lie (r .image) (pick t (toldAs w bytes ∷ []) []) (answers (library.gives b lie) (library.leaves b lie) (r .image) (pick t (toldAs w bytes ∷ []) []))
           (pick t (event b (r .image) (libraryEvent w bytes) .image) (r .image))
-      go true = rw (← same-event w bytes) (library.runs b lie (r .image) (toldAs w bytes ∷ []))
+      go true = subst (λ (x : Event). Runs b lie (r .image) (toldAs w bytes ∷ []) (answers (library.gives b lie) (library.leaves b lie) (r .image) (toldAs w bytes ∷ [])) (event b (r .image) x .image))
+          (same-event w bytes) (library.runs b lie (r .image) (toldAs w bytes ∷ []))
       go false = ends
 
   -- every run of the pipe's calls is, for the device record, a run of the library's own: a setup at each SETUP, a status end at each transfer that has
@@ -198,4 +201,4 @@ module _ (b : Board) (lie : Spots) where
   nothingElse r (c ∷ cs) = let (gs, rest) = nothingElse (leaves b lie r c) cs in (givenAt r c ++ gs, joined (step-runs r c) rest)
 
   pub pipeMoves : {r last : Records} {cs : List PipeCall} {gs : List PipeGiven} → PipeRuns b lie r cs gs last → (hs : List Given) × Runs b lie (r .image) (callsIn b lie r cs) hs (last .image)
-  pipeMoves {r} {last} {cs} p = let (hs, q) = nothingElse r cs in (hs, rw (ran b lie p .1) q)
+  pipeMoves {r} {last} {cs} p = let (hs, q) = nothingElse r cs in (hs, subst (λ (x : Records). Runs b lie (r .image) (callsIn b lie r cs) hs (x .image)) (sym (ran b lie p .1)) q)

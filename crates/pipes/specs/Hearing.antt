@@ -54,7 +54,6 @@ looked l w pipe = pick (eqb (length pipe) 16) (pick (tells w) (record { number =
 abbrev pub pipeLooked : Lengths → Wire → List ℕ → List ℕ
 pipeLooked l w pipe = pick (eqb (length pipe) 16) (pick (tells w) pipe (pipeMoved l w pipe)) pipe
 
-
 -- ---- what an event gets
 abbrev pub bare : ℕ → ℕ → Response
 bare number order = record { number = number; order = order; count = 0; first = 0; second = 0 }
