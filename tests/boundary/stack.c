@@ -13,28 +13,25 @@
 
 #include "heideklonk.h"
 
-/* Of a board that lends one set, and of one that lends two: on x86-64 what is reached, and a little room; on a board's processor what every call of a board must keep. */
+/* Of a board that lends one set, and of one that lends two: on x86-64 what is reached, and a little room (of the pipe, hk_setup's and a hundred); on a board's processor
+ * what every call of a board must keep. */
 #ifdef __x86_64__
 #define MOST 768
 #define MOST_OF_TWO 864
+#define MOST_OF_PIPE 777
+#define MOST_OF_TWO_PIPE 1008
+#define MOST_OF_TWO_PACKET 608
 #else
 #define MOST 1024
 #define MOST_OF_TWO 1024
+#define MOST_OF_PIPE 1024
+#define MOST_OF_TWO_PIPE 1024
+#define MOST_OF_TWO_PACKET MOST_OF_PACKET
 #endif
 /* Of the second way to answer, with one set lent and with two. */
 #define MOST_OF_TABLE 1024
-/* Of the pipe's events, with one set lent and with two: those that open a set, and those that open none. */
-#ifdef __x86_64__
-#define MOST_OF_PIPE 784
-#define MOST_OF_TWO_PIPE 1008
+/* Of the pipe's events that open no set, with one set lent and with two. */
 #define MOST_OF_PACKET 512
-#define MOST_OF_TWO_PACKET 608
-#else
-#define MOST_OF_PIPE 1024
-#define MOST_OF_TWO_PIPE 1024
-#define MOST_OF_PACKET 512
-#define MOST_OF_TWO_PACKET 512
-#endif
 /* hk_trim keeps the first bytes of the set aside, as many as 64 entries have: it may take these besides. */
 #define ASIDE 516
 #define STACK_LENGTH 16384
@@ -348,7 +345,8 @@ static size_t read_file(const char *path, uint8_t *to, size_t room) {
 }
 
 static int is_of_two(int function) {
-    return function == TWO_OPEN || function == TWO_EVENT || function == TWO_ENDPOINT || function == TWO_PORT_EVENT;
+    return function == TWO_OPEN || function == TWO_EVENT || function == TWO_ENDPOINT || function == TWO_PORT_EVENT ||
+           function == TWO_PIPE_EVENT;
 }
 
 static size_t most_of(int function) {
@@ -356,10 +354,10 @@ static size_t most_of(int function) {
     case TRIM: return MOST + ASIDE;
     case TABLE_EVENT:
     case TWO_TABLE_EVENT: return MOST_OF_TABLE;
-    case PIPE_EVENT: return MOST_OF_PIPE;
-    case TWO_PIPE_EVENT: return MOST_OF_TWO_PIPE;
     case PIPE_PACKET: return MOST_OF_PACKET;
     case TWO_PIPE_PACKET: return MOST_OF_TWO_PACKET;
+    case PIPE_EVENT: return MOST_OF_PIPE;
+    case TWO_PIPE_EVENT: return MOST_OF_TWO_PIPE;
     default: return is_of_two(function) ? MOST_OF_TWO : MOST;
     }
 }
@@ -386,7 +384,7 @@ int main(int argument_count, char **arguments) {
         printf("  %5zu bytes of stack  %s%s\n", taken, names[at], taken > most ? "  TOO DEEP" : "");
         too_deep |= taken > most;
     }
-    printf("stack: %s %d bytes at the most (with two sets lent %d, by the second way %d, by the pipe %d and %d, hk_trim %d more) on a pair and %d sets\n",
-           too_deep ? "OVER" : "within", MOST, MOST_OF_TWO, MOST_OF_TABLE, MOST_OF_PIPE, MOST_OF_TWO_PIPE, ASIDE, argument_count / 2 - 2);
+    printf("stack: %s %d bytes at the most (with two sets lent %d, by the second way %d, packets of the pipe %d, hk_trim %d more) on a pair and %d sets\n",
+           too_deep ? "OVER" : "within", MOST, MOST_OF_TWO, MOST_OF_TABLE, MOST_OF_PACKET, ASIDE, argument_count / 2 - 2);
     return too_deep;
 }
