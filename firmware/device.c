@@ -63,13 +63,20 @@ static uint8_t tell_power(struct device *device) {
     return TELL(device, HK_EVENT_POWER, hardware_power_source());
 }
 
+/* Setups, status ends and bus resets reach the library by the pipe alone. */
+static void step(struct device *device, uint8_t event, uint16_t value, const uint8_t *setup) {
+    device->order = CALL(step)(device->board, own_record(device), &device->pipe, event, value, setup);
+}
+
 /* The fresh record is at full speed, and says that the bus is the supply: opening cannot know. */
 static uint8_t open_afresh(struct device *device, uint8_t speed) {
     static const hk_pipe idle = {{HK_STAGE_IDLE}, HK_NO_PART};
     device->pipe = idle;
     uint8_t number = CALL(start)(device->board, own_record(device));
-    if (number == HK_DONE && speed != HK_SPEED_FULL)
-        number = TELL(device, HK_EVENT_BUS_RESET, speed);
+    if (number == HK_DONE && speed != HK_SPEED_FULL) {
+        step(device, HK_PIPE_RESET, speed, NULL);
+        number = device->order.number;
+    }
     return number == HK_DONE ? tell_power(device) : number;
 }
 
@@ -106,10 +113,6 @@ static void obey(struct device *device) {
         application_hear(number == HK_DONE ? HK_REQUEST_UNKNOWN : number);
         break;
     }
-}
-
-static void step(struct device *device, uint8_t event, uint16_t value, const uint8_t *setup) {
-    device->order = CALL(step)(device->board, own_record(device), &device->pipe, event, value, setup);
 }
 
 static void tell_pipe(struct device *device, uint8_t event, uint16_t value) {

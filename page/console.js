@@ -90,11 +90,11 @@ export class Console {
 
     lendPipe(pipe) {
         this.transfers = new Transfers(this.board, pipe);
-        return [element("div", { class: "event" }, "packet by packet, from here on"), this.pipeRow(pipe)];
+        return [element("div", { class: "event" }, "packet by packet, from here on"), this.row("pipe", pipeWords(pipe), pipe)];
     }
 
-    pipeRow(pipe) {
-        return element("div", { class: "record" }, element("span", { class: "name" }, "pipe"), `${pipeWords(pipe)} `, element("code", {}, spaced(pipe)));
+    row(name, words, bytes) {
+        return element("div", { class: "record" }, element("span", { class: "name" }, name), `${words} `, element("code", {}, spaced(bytes)));
     }
 
     // What the host got, the answer, the order with its packet, and the records where they changed.
@@ -107,8 +107,8 @@ export class Console {
             element("div", { class: "event" }, text),
             got,
             element("div", { class: heard.number === 0 ? "answer" : "answer stalled" }, `${heard.number} ${name}${heard.number === 0 ? "" : `: ${remark}`}`),
-            element("div", { class: "datum" }, element("span", {}, `order: ${orderWords(heard)}`), element("code", {}, spaced(heard.packet))),
-            heard.pipeChanged && this.pipeRow(heard.pipe),
+            this.row("order", orderWords(heard), heard.packet),
+            heard.pipeChanged && this.row("pipe", pipeWords(heard.pipe), heard.pipe),
             heard.recordChanged && element("div", { class: "record" }, element("span", { class: "name" }, "record"), recordWords(heard.record)),
         ];
     }
