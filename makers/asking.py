@@ -5,7 +5,7 @@ TOP = os.path.dirname(os.path.dirname(os.path.abspath(__file__)))
 sys.path.insert(1, os.path.join(TOP, "tools"))
 from command import CannotBeDone, write_file
 from faults import byte_words, words_of
-from fields import entries_of, entry_at
+from fields import entry_at
 from pieces import a_set
 
 MAKER = os.path.join(TOP, "target", "bin", "maker")

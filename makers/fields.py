@@ -1,7 +1,7 @@
 """What a byte of a set is: its entry, its descriptor, and its field by chapter 9's name."""
 import collections
 
-from text import CONFIGURATION, DEVICE, ENDPOINT, FIELDS, INTERFACE, STRING, WORDS
+from text import CONFIGURATION, DEVICE, FIELDS, STRING, WORDS
 
 FRAME = [("total length", 2), ("number of entries", 1), ("byte 3", 1)]
 ENTRY = [("type", 1), ("index", 1), ("language", 2), ("offset", 2), ("length", 2)]

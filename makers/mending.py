@@ -5,7 +5,7 @@ import os, sys
 TOP = os.path.dirname(os.path.dirname(os.path.abspath(__file__)))
 sys.path.insert(1, os.path.join(TOP, "tools"))
 from faults import Fault, should_be, word
-from fields import ENTRY, descriptors_in, entries_of, field_at
+from fields import descriptors_in, entries_of, field_at
 from pieces import a_set
 from text import CONFIGURATION, DEVICE, ENDPOINT, STRING
 
