@@ -6,7 +6,7 @@ export class History {
     // `states` and `at` as kept() gave them.
     constructor({ states = [], at = states.length - 1 } = {}) {
         this.states = states.slice();
-        this.at = Math.max(-1, Math.min(at, states.length - 1));
+        this.at = Number.isInteger(at) && at >= 0 && at < states.length ? at : states.length - 1;
     }
 
     get state() {

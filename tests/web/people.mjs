@@ -104,6 +104,9 @@ async function checkFaults(browser, room, native) {
 // ---- what was typed survives a reload, and can be undone
 const reload = (browser) => browser.reload("document.body?.dataset.ready === 'yes'");
 
+// What may stand under the page's name in a browser's storage.
+const FOREIGN = ["no JSON", "[1]", '{"lent":{"states":[{}]},"texts":5,"panel":"x"}', '{"texts":{"states":[{"kind":"one"}],"at":-3},"lent":{"states":[],"at":7}}'];
+
 async function checkReload(browser, room) {
     const text = () => browser.evaluate("document.getElementById('text').value"), own = "# my own\ndevice idProduct 7\nconfiguration\ninterface\n";
     await openPanel(browser, "make");
@@ -131,6 +134,11 @@ async function checkReload(browser, room) {
     hold("a changed byte is undone", await textOf(browser, "#verdict h2"), "Accepted: Laboratory scale");
     await browser.press("#redo");
     hold("and done again", await verdict(browser), "Refused with 1");
+    for (const kept of FOREIGN) {
+        await browser.call((text) => localStorage.setItem("heideklonk", text), kept);
+        await reload(browser);
+        hold("what is not the page's own is not taken up", await textOf(browser, "#verdict h2"), "Accepted: Bench set S");
+    }
     await browser.evaluate("document.body.dataset.ready = 'no'");
     await browser.press("#forget");
     await browser.until("document.body?.dataset.ready === 'yes'");
