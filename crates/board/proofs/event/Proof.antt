@@ -14,9 +14,6 @@ use Rattle.board.proofs.event.Tie as tie
 happen-requires : tie.Need-happen-requires
 happen-requires c κs = λ z. (fullSpeed, sym (c .before .before .before .before .pre) ∙ z)
 
-same-length : tie.Need-same-length
-same-length c = search needs
-
 returns : tie.Need-returns
 returns c =
     let start = c .before .before .before .before .before .before .before in
@@ -26,4 +23,4 @@ returns c =
     (e .0 ∙ ap (λ (r : Reply). r .answer) q, e .1 ∙ ap (λ (r : Reply). r .image) q)
 
 pub event-spec : {M : Type 1} → statement M
-event-spec = tie.close (tie.spec happen-requires same-length returns)
+event-spec = tie.close (tie.spec happen-requires (λ c. search needs) returns)

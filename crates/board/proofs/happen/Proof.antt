@@ -12,12 +12,6 @@ learn-requires c κs = c .before .before .before .before .pre
 react-requires : tie.Need-react-requires
 react-requires c κs = λ z. (c .before .before .before .before .before .before .pre z, c .before .learn .ensures z)
 
-renew-requires : tie.Need-renew-requires
-renew-requires c κs = search needs
-
-same-length : tie.Need-same-length
-same-length c = search needs
-
 returns : tie.Need-returns
 returns c =
     let a = c .before .before .before .before .before .before .before .before .before .before .before .args in
@@ -27,4 +21,4 @@ returns c =
     (answered (a .number) v (a .image .now) (a .what) r s, c .before .before .renew .ensures ∙ left-behind (a .number) v (a .image .now) (a .what) r s)
 
 pub happen-spec : {M : Type 1} → statement M
-happen-spec = tie.close (tie.spec learn-requires react-requires renew-requires same-length returns)
+happen-spec = tie.close (tie.spec learn-requires react-requires (λ c κs. search needs) (λ c. search needs) returns)

@@ -11,15 +11,6 @@ use Rattle.board.proofs.hk_open.Tie as tie
 returns : tie.Need-returns
 returns c = record { opens = open-short _ _ (c .if1 .taken); octets = (λ k. omega (arith, c .before .before .before .shared-slice-known .given k), tt) }
 
-renew-requires : tie.Need-renew-requires
-renew-requires c κs = search needs
-
-opening-requires : tie.Need-opening-requires
-opening-requires c κs = search needs
-
-same-length : tie.Need-same-length
-same-length c = search needs
-
 returns-2 : tie.Need-returns-2
 unfolding renewed
 returns-2 c =
@@ -30,4 +21,4 @@ returns-2 c =
     }
 
 pub hk-open-spec : {M : Type 1} → statement M
-hk-open-spec = tie.close (tie.spec returns renew-requires opening-requires same-length returns-2)
+hk-open-spec = tie.close (tie.spec returns (λ c κs. search needs) (λ c κs. search needs) (λ c. search needs) returns-2)

@@ -5,12 +5,6 @@ use borrow.Author.Needs.{needs}
 use Rattle.board.proofs.hk_packet.Statement.{statement}
 use Rattle.board.proofs.hk_packet.Tie as tie
 
-cut-requires : tie.Need-cut-requires
-cut-requires c κs = search needs
-
-packet-of-requires : tie.Need-packet-of-requires
-packet-of-requires c κs = search needs
-
 returns : tie.Need-returns
 returns c =
     let p = c .before .cut .ensures in
@@ -21,4 +15,4 @@ returns c =
     }
 
 pub hk-packet-spec : {M : Type 1} → statement M
-hk-packet-spec = tie.close (tie.spec cut-requires packet-of-requires returns)
+hk-packet-spec = tie.close (tie.spec (λ c κs. search needs) (λ c κs. search needs) returns)

@@ -9,24 +9,12 @@ use borrow.Author.Needs.{needs}
 use Rattle.board.proofs.hk_setup.Statement.{statement}
 use Rattle.board.proofs.hk_setup.Tie as tie
 
-opening-requires : tie.Need-opening-requires
-opening-requires c κs = search needs
-
-setup-event-requires : tie.Need-setup-event-requires
-setup-event-requires c κs = search needs
-
-event-requires : tie.Need-event-requires
-event-requires c κs = search needs
-
 hand-out-requires : tie.Need-hand-out-requires
 hand-out-requires c κs =
     let was = c .before .before .before .before .before in
     let a = was .before .before .before .before .before .before .before .before .args in
     let b = lent (a .set .now) (a .serial .now) in
     rw (was .event .ensures .0) (eventInside b (a .image .now) (was .before .setup-event .result))
-
-same-length : tie.Need-same-length
-same-length c = search needs
 
 returns : tie.Need-returns
 returns c =
@@ -44,9 +32,9 @@ pub hk-setup-spec : {M : Type 1} → statement M
 hk-setup-spec =
     tie.close
     (tie.spec
-    opening-requires
-    setup-event-requires
-    event-requires
+    (λ c κs. search needs)
+    (λ c κs. search needs)
+    (λ c κs. search needs)
     hand-out-requires
-    same-length
+    (λ c. search needs)
     returns)

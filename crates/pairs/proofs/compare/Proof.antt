@@ -12,9 +12,6 @@ use borrow.Author.Needs.{needs}
 use Rattle.pairs.proofs.compare.Statement.{statement}
 use Rattle.pairs.proofs.compare.Tie as tie
 
-agree-requires : tie.Need-agree-requires
-agree-requires c κs = search needs
-
 -- both sets open
 met : (c : tie.After-agree) {b : Bool} → c .agree .result ≡ b → let a = c .before .before .before .args in (serial : List ℕ)
     → opening pairedFull (lent (a .full .now) serial) ≡ 0 → opening highSpeed (lent (a .high .now) serial) ≡ 0 → pick b 0 24 ≡ openingTwo (a .full .now) (a .high .now) serial
@@ -29,4 +26,4 @@ returns-2 : tie.Need-returns-2
 returns-2 c = met (c .before) (c .if1 .left)
 
 pub compare-spec : {M : Type 1} → statement M
-compare-spec = tie.close (tie.spec agree-requires returns returns-2)
+compare-spec = tie.close (tie.spec (λ c κs. search needs) returns returns-2)

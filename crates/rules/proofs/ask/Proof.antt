@@ -4,12 +4,6 @@ use borrow.Author.Needs.{needs}
 use Rattle.rules.proofs.ask.Statement.{statement}
 use Rattle.rules.proofs.ask.Tie as tie
 
-add-place : tie.Need-add-place
-add-place c = search needs
-
-add-place-2 : tie.Need-add-place-2
-add-place-2 c = search needs
-
 returns : tie.Need-returns
 unfolding orBroken
 returns c = rw (c .if1 .taken)
@@ -22,7 +16,7 @@ pub ask-spec : {M : Type 1} → statement M
 ask-spec =
     tie.close
     (tie.spec
-    add-place
-    add-place-2
+    (λ c. search needs)
+    (λ c. search needs)
     returns
     returns-2)

@@ -40,36 +40,6 @@ whole : (limits : Limits) (b : Board) (n : ℕ) (f : Fault) (p : ℕ) → n ≡ 
 unfolding explained
 whole limits b n f p e t q = rw (q, e, t)
 
-opening-requires : tie.Need-opening-requires
-opening-requires c κs = search needs
-
-frame-fault-requires : tie.Need-frame-fault-requires
-frame-fault-requires c κs = search needs
-
-contents-fault-requires : tie.Need-contents-fault-requires
-contents-fault-requires c κs = search needs
-
-device-fault-requires : tie.Need-device-fault-requires
-device-fault-requires c κs = search needs
-
-configurations-fault-requires : tie.Need-configurations-fault-requires
-configurations-fault-requires c κs = search needs
-
-strings-fault-requires : tie.Need-strings-fault-requires
-strings-fault-requires c κs = search needs
-
-serial-index-requires : tie.Need-serial-index-requires
-serial-index-requires c κs = search needs
-
-serial-fault-requires : tie.Need-serial-fault-requires
-serial-fault-requires c κs = search needs
-
-place-inside-requires : tie.Need-place-inside-requires
-place-inside-requires c κs = search needs
-
-place-inside-requires-2 : tie.Need-place-inside-requires-2
-place-inside-requires-2 c κs = search needs
-
 returns : tie.Need-returns
 returns c =
     let a = c .before .before .before .before .before .before .before .before .before .before .before .before .before .args in
@@ -84,15 +54,15 @@ pub explain-spec : {M : Type 1} → statement M
 explain-spec =
     tie.close
     (tie.spec
-    opening-requires
-    frame-fault-requires
-    contents-fault-requires
-    device-fault-requires
-    configurations-fault-requires
-    strings-fault-requires
-    serial-index-requires
-    serial-fault-requires
-    place-inside-requires
-    place-inside-requires-2
+    (λ c κs. search needs)
+    (λ c κs. search needs)
+    (λ c κs. search needs)
+    (λ c κs. search needs)
+    (λ c κs. search needs)
+    (λ c κs. search needs)
+    (λ c κs. search needs)
+    (λ c κs. search needs)
+    (λ c κs. search needs)
+    (λ c κs. search needs)
     returns
     returns-2)

@@ -11,12 +11,6 @@ returns c = simp (lt-ltb _ _ (c .if1 .taken))
 returns-2 : tie.Need-returns-2
 returns-2 c = simp (le-ltb _ _ (c .before .if1 .left)) (omega (arith, c .if2 .taken))
 
-sub-result : tie.Need-sub-result
-sub-result c = search needs
-
-cast-result : tie.Need-cast-result
-cast-result c = search needs
-
 returns-3 : tie.Need-returns-3
 returns-3 c = simp (le-ltb _ _ (c .before .if1 .left))
 
@@ -26,6 +20,6 @@ place-inside-spec =
     (tie.spec
     returns
     returns-2
-    sub-result
-    cast-result
+    (λ c. search needs)
+    (λ c. search needs)
     returns-3)

@@ -4,9 +4,6 @@ use Rattle.single_walk.proofs.AtSpeed.{paired-at}
 use Rattle.single_walk.proofs.open_full.Statement.{statement}
 use Rattle.single_walk.proofs.open_full.Tie as tie
 
-paired-full-requires : tie.Need-paired-full-requires
-paired-full-requires c κs = search needs
-
 open-set-requires : tie.Need-open-set-requires
 open-set-requires c κs = rw (c .paired-full .ensures) paired-at
 
@@ -14,4 +11,4 @@ returns : tie.Need-returns
 returns c = rw (c .before .paired-full .ensures) at (c .open-set .ensures)
 
 pub open-full-spec : {M : Type 1} → statement M
-open-full-spec = tie.close (tie.spec paired-full-requires open-set-requires returns)
+open-full-spec = tie.close (tie.spec (λ c κs. search needs) open-set-requires returns)

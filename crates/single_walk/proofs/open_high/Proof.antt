@@ -4,9 +4,6 @@ use borrow.Author.Needs.{needs}
 use Rattle.single_walk.proofs.open_high.Statement.{statement}
 use Rattle.single_walk.proofs.open_high.Tie as tie
 
-high-speed-requires : tie.Need-high-speed-requires
-high-speed-requires c κs = search needs
-
 open-set-requires : tie.Need-open-set-requires
 open-set-requires c κs = rw (c .high-speed .ensures) (λ body. refl)
 
@@ -14,4 +11,4 @@ returns : tie.Need-returns
 returns c = rw (c .before .high-speed .ensures) at (c .open-set .ensures)
 
 pub open-high-spec : {M : Type 1} → statement M
-open-high-spec = tie.close (tie.spec high-speed-requires open-set-requires returns)
+open-high-spec = tie.close (tie.spec (λ c κs. search needs) open-set-requires returns)

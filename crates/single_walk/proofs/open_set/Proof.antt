@@ -8,12 +8,6 @@ use Rattle.sets.proofs.Passing.{ordered}
 use Rattle.single_walk.proofs.open_set.Statement.{statement}
 use Rattle.single_walk.proofs.open_set.Tie as tie
 
-begin-requires : tie.Need-begin-requires
-begin-requires c κs = search needs
-
-refuses-requires : tie.Need-refuses-requires
-refuses-requires c κs = search needs
-
 returns : tie.Need-returns
 returns c = record {
   number = c .refuses .ensures ∙ c .before .before .begin .ensures .1 (c .before .if1 .taken) (c .before .before .before .before .before .args .serial .now);
@@ -47,8 +41,8 @@ pub open-set-spec : {M : Type 1} → statement M
 open-set-spec =
     tie.close
     (tie.spec
-    begin-requires
-    refuses-requires
+    (λ c κs. search needs)
+    (λ c κs. search needs)
     returns
     read-strings-requires
     configurations-requires

@@ -7,9 +7,6 @@ use Rattle.pairs.proofs.Opening.{refused-first, refused-second}
 use Rattle.single_walk.proofs.open_two.Statement.{statement}
 use Rattle.single_walk.proofs.open_two.Tie as tie
 
-open-full-requires : tie.Need-open-full-requires
-open-full-requires c κs = search needs
-
 returns : tie.Need-returns
 returns c =
     let a = c .before .before .before .before .before .before .args in
@@ -17,9 +14,6 @@ returns c =
       number = refused-first (a .full .now) (a .high .now) (a .serial .now) _ (c .before .before .open-full .ensures .number) (c .if1 .taken);
       known = λ z. absurd (c .if1 .taken z);
     }
-
-open-high-requires : tie.Need-open-high-requires
-open-high-requires c κs = search needs
 
 returns-2 : tie.Need-returns-2
 returns-2 c =
@@ -29,9 +23,6 @@ returns-2 c =
       number = refused-second (a .full .now) (a .high .now) (a .serial .now) _ _ (slow .number) (c .before .before .before .if1 .left) (c .before .before .open-high .ensures .number) (c .if2 .taken);
       known = λ z. absurd (c .if2 .taken z);
     }
-
-compare-requires : tie.Need-compare-requires
-compare-requires c κs = search needs
 
 -- both sets opened: the number is that of the pair
 compared : (c : tie.After-compare)
@@ -65,10 +56,10 @@ pub open-two-spec : {M : Type 1} → statement M
 open-two-spec =
     tie.close
     (tie.spec
-    open-full-requires
+    (λ c κs. search needs)
     returns
-    open-high-requires
+    (λ c κs. search needs)
     returns-2
-    compare-requires
+    (λ c κs. search needs)
     returns-3
     returns-4)

@@ -5,15 +5,6 @@ use Rattle.descriptors.specs.Limits.{fullSpeed}
 use Rattle.single_walk.proofs.react.Statement.{statement}
 use Rattle.single_walk.proofs.react.Tie as tie
 
-read-requires : tie.Need-read-requires
-read-requires c κs = search needs
-
-asked-of-requires : tie.Need-asked-of-requires
-asked-of-requires c κs = search needs
-
-full-speed-requires : tie.Need-full-speed-requires
-full-speed-requires c κs = search needs
-
 open-set-requires : tie.Need-open-set-requires
 open-set-requires c κs = rw (c .before .full-speed .ensures) (λ body. refl)
 
@@ -31,4 +22,4 @@ returns c =
 pub react-spec : {M : Type 1} → statement M
 react-spec =
     tie.close
-    (tie.spec read-requires asked-of-requires full-speed-requires open-set-requires react-requires returns)
+    (tie.spec (λ c κs. search needs) (λ c κs. search needs) (λ c κs. search needs) open-set-requires react-requires returns)

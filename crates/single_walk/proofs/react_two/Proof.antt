@@ -5,18 +5,6 @@ use Rattle.single_walk.proofs.InUse.{openable}
 use Rattle.single_walk.proofs.react_two.Statement.{statement}
 use Rattle.single_walk.proofs.react_two.Tie as tie
 
-read-requires : tie.Need-read-requires
-read-requires c κs = search needs
-
-asked-of-requires : tie.Need-asked-of-requires
-asked-of-requires c κs = search needs
-
-open-two-requires : tie.Need-open-two-requires
-open-two-requires c κs = search needs
-
-in-use-requires : tie.Need-in-use-requires
-in-use-requires c κs = search needs
-
 react-requires : tie.Need-react-requires
 react-requires c κs = λ z.
     let a = c .before .before .before .before .before .before .before .before .before .before .before .args in
@@ -32,4 +20,4 @@ returns c = rw (c .before .before .in-use .ensures .0, c .before .before .before
 pub react-two-spec : {M : Type 1} → statement M
 react-two-spec =
     tie.close
-    (tie.spec read-requires asked-of-requires open-two-requires in-use-requires react-requires returns)
+    (tie.spec (λ c κs. search needs) (λ c κs. search needs) (λ c κs. search needs) (λ c κs. search needs) react-requires returns)

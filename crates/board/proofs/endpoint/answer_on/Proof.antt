@@ -17,12 +17,6 @@ returns-2 c =
     let a = c .before .before .before .before .before .args in
     sym (refused (a .opening) (viewIn (a .paired) (a .set .now) (a .serial .now)) (a .set .now) (a .image .now) (a .number) (c .before .if1 .taken) (c .if2 .left))
 
-load-requires : tie.Need-load-requires
-load-requires c κs = search needs
-
-endpoint-requires : tie.Need-endpoint-requires
-endpoint-requires c κs = search needs
-
 returns-3 : tie.Need-returns-3
 returns-3 c =
     let a = c .before .before .before .before .before .before .args in
@@ -30,4 +24,4 @@ returns-3 c =
     c .endpoint .ensures ∙ ap (λ (d : Device). endpointIn (a .opening) v (a .set .now) d (a .number)) (c .before .load .ensures) ∙ sym (whole (a .opening) v (a .set .now) (a .image .now) (a .number) (c .before .before .if1 .left))
 
 pub answer-on-spec : {M : Type 1} → statement M
-answer-on-spec = tie.close (tie.spec returns returns-2 load-requires endpoint-requires returns-3)
+answer-on-spec = tie.close (tie.spec returns returns-2 (λ c κs. search needs) (λ c κs. search needs) returns-3)

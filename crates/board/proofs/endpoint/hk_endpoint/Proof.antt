@@ -14,9 +14,6 @@ use Rattle.board.proofs.Spots.{lies-in}
 use Rattle.board.proofs.endpoint.hk_endpoint.Statement.{statement}
 use Rattle.board.proofs.endpoint.hk_endpoint.Tie as tie
 
-opening-requires : tie.Need-opening-requires
-opening-requires c κs = search needs
-
 answer-on-requires : tie.Need-answer-on-requires
 answer-on-requires c κs = λ z. (fullSpeed, sym (c .opening .ensures) ∙ z)
 
@@ -33,9 +30,6 @@ part-requires c κs =
     let a = c .before .before .before .before .before .args in
     rw (answered c) (inside (lent (a .set .now) (a .serial .now)) (a .image .now) (a .number))
 
-number-requires : tie.Need-number-requires
-number-requires c κs = search needs
-
 returns : tie.Need-returns
 returns c =
     let a = c .before .before .before .before .before .before .before .args in
@@ -49,4 +43,4 @@ returns c =
 
 pub hk-endpoint-spec : {M : Type 1} → statement M
 hk-endpoint-spec =
-    tie.close (tie.spec opening-requires answer-on-requires part-requires number-requires returns)
+    tie.close (tie.spec (λ c κs. search needs) answer-on-requires part-requires (λ c κs. search needs) returns)

@@ -11,15 +11,6 @@ use Rattle.board.proofs.Lengths.{answered, left-behind}
 use Rattle.board.proofs.large.happen.Statement.{statement}
 use Rattle.board.proofs.large.happen.Tie as tie
 
-react-requires : tie.Need-react-requires
-react-requires c κs = search needs
-
-renew-requires : tie.Need-renew-requires
-renew-requires c κs = search needs
-
-same-length : tie.Need-same-length
-same-length c = search needs
-
 returns : tie.Need-returns
 returns c =
     let a = c .before .before .before .before .before .before .before .before .before .args in
@@ -33,4 +24,4 @@ returns c =
     )
 
 pub happen-spec : {M : Type 1} → statement M
-happen-spec = tie.close (tie.spec react-requires renew-requires same-length returns)
+happen-spec = tie.close (tie.spec (λ c κs. search needs) (λ c κs. search needs) (λ c. search needs) returns)

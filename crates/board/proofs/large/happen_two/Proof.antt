@@ -12,18 +12,6 @@ use Rattle.board.proofs.TwoSets.{used, chosen, event-two}
 use Rattle.board.proofs.large.happen_two.Statement.{statement}
 use Rattle.board.proofs.large.happen_two.Tie as tie
 
-peek-requires : tie.Need-peek-requires
-peek-requires c κs = search needs
-
-react-two-requires : tie.Need-react-two-requires
-react-two-requires c κs = search needs
-
-renew-requires : tie.Need-renew-requires
-renew-requires c κs = search needs
-
-same-length : tie.Need-same-length
-same-length c = search needs
-
 returns : tie.Need-returns
 returns c =
     let a = c .before .before .before .before .before .before .before .before .before .before .before .before .args in
@@ -40,4 +28,4 @@ returns c =
 
 pub happen-two-spec : {M : Type 1} → statement M
 happen-two-spec =
-    tie.close (tie.spec peek-requires react-two-requires renew-requires same-length returns)
+    tie.close (tie.spec (λ c κs. search needs) (λ c κs. search needs) (λ c κs. search needs) (λ c. search needs) returns)

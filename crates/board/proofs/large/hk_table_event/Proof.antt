@@ -10,19 +10,10 @@ use Rattle.board.specs.Exports.{numbered}
 use Rattle.board.proofs.large.hk_table_event.Statement.{statement}
 use Rattle.board.proofs.large.hk_table_event.Tie as tie
 
-event-of-requires : tie.Need-event-of-requires
-event-of-requires c κs = search needs
-
-happen-requires : tie.Need-happen-requires
-happen-requires c κs = search needs
-
 hand-out-requires : tie.Need-hand-out-requires
 hand-out-requires c κs =
     let a = c .before .before .before .before .before .before .before .before .before .before .before .before .args in
     rw (c .before .before .before .before .before .happen .ensures .0) (eventInside (lent (a .set .now) (a .serial .now)) (a .image .now) (c .before .before .before .before .before .before .before .event-of .result))
-
-same-length : tie.Need-same-length
-same-length c = search needs
 
 returns : tie.Need-returns
 returns c =
@@ -37,4 +28,4 @@ returns c =
     }
 
 pub hk-table-event-spec : {M : Type 1} → statement M
-hk-table-event-spec = tie.close (tie.spec event-of-requires happen-requires hand-out-requires same-length returns)
+hk-table-event-spec = tie.close (tie.spec (λ c κs. search needs) (λ c κs. search needs) hand-out-requires (λ c. search needs) returns)

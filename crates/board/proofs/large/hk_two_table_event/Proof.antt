@@ -10,18 +10,6 @@ use Rattle.board.proofs.TwoSets.{used, chosen, place, hands-two}
 use Rattle.board.proofs.large.hk_two_table_event.Statement.{statement}
 use Rattle.board.proofs.large.hk_two_table_event.Tie as tie
 
-peek-requires : tie.Need-peek-requires
-peek-requires c κs = search needs
-
-in-use-requires : tie.Need-in-use-requires
-in-use-requires c κs = search needs
-
-event-of-requires : tie.Need-event-of-requires
-event-of-requires c κs = search needs
-
-happen-two-requires : tie.Need-happen-two-requires
-happen-two-requires c κs = search needs
-
 -- the set in use
 in-use : (c : tie.After-in-use) → let a = c .before .before .before .before .before .before .before .before .args in c .in-use .result .now ≡ used (a .full .now) (a .high .now) (a .serial .now) (a .image .now)
 in-use c =
@@ -39,9 +27,6 @@ hand-out-of-requires c κs =
     let a = c .before .before .before .before .before .before .before .before .before .before .before .before .before .before .before .before .args in
     rw (in-use (c .before .before .before .before .before .before .before .before), answered (c .before .before .before .before .before)) (eventInside (lentTwo (a .full .now) (a .high .now) (a .serial .now)) (a .image .now) (numbered (a .kind) (a .value) (a .setup .now)))
 
-same-length : tie.Need-same-length
-same-length c = search needs
-
 returns : tie.Need-returns
 returns c =
     let here = c .before .before .before .before .before .before .before .before .before in
@@ -57,10 +42,10 @@ pub hk-two-table-event-spec : {M : Type 1} → statement M
 hk-two-table-event-spec =
     tie.close
     (tie.spec
-    peek-requires
-    in-use-requires
-    event-of-requires
-    happen-two-requires
+    (λ c κs. search needs)
+    (λ c κs. search needs)
+    (λ c κs. search needs)
+    (λ c κs. search needs)
     hand-out-of-requires
-    same-length
+    (λ c. search needs)
     returns)

@@ -7,15 +7,6 @@ use Rattle.set_writer.proofs.Writing.{counted}
 use Rattle.board.proofs.makers.hk_import.Statement.{statement}
 use Rattle.board.proofs.makers.hk_import.Tie as tie
 
-import-requires : tie.Need-import-requires
-import-requires c κs = search needs
-
-length-written-requires : tie.Need-length-written-requires
-length-written-requires c κs = search needs
-
-same-length : tie.Need-same-length
-same-length c = search needs
-
 returns : tie.Need-returns
 returns c =
     let s = c .before .before .before .before .before .before .before .before in
@@ -23,4 +14,4 @@ returns c =
     record { fills = w; counts = c .length-written .ensures ∙ counted (piecesFor (s .args .dump .now)) w; octets = λ k. omega (arith, c .before .before .before .before .before .before .before .shared-slice-known .given k) }
 
 pub hk-import-spec : {M : Type 1} → statement M
-hk-import-spec = tie.close (tie.spec import-requires length-written-requires same-length returns)
+hk-import-spec = tie.close (tie.spec (λ c κs. search needs) (λ c κs. search needs) (λ c. search needs) returns)

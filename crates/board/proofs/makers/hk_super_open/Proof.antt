@@ -9,21 +9,6 @@ use Rattle.board.proofs.makers.hk_super_open.Tie as tie
 returns : tie.Need-returns
 returns c = let e = ne-eqb _ _ (c .if1 .taken) in record { number = rw e; leaves = rw e }
 
-fresh-requires : tie.Need-fresh-requires
-fresh-requires c κs = search needs
-
-store-requires : tie.Need-store-requires
-store-requires c κs = search needs
-
-super-speed-requires : tie.Need-super-speed-requires
-super-speed-requires c κs = search needs
-
-opening-requires : tie.Need-opening-requires
-opening-requires c κs = search needs
-
-same-length : tie.Need-same-length
-same-length c = search needs
-
 returns-2 : tie.Need-returns-2
 returns-2 c =
     let e = eq-eqb _ 32 (c .before .before .before .before .before .before .before .if1 .left) in
@@ -35,4 +20,4 @@ returns-2 c =
 pub hk-super-open-spec : {M : Type 1} → statement M
 hk-super-open-spec =
     tie.close
-    (tie.spec returns fresh-requires store-requires super-speed-requires opening-requires same-length returns-2)
+    (tie.spec returns (λ c κs. search needs) (λ c κs. search needs) (λ c κs. search needs) (λ c κs. search needs) (λ c. search needs) returns-2)

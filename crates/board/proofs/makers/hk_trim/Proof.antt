@@ -7,18 +7,6 @@ use Rattle.trimming.proofs.Total.{totalled}
 use Rattle.board.proofs.makers.hk_trim.Statement.{statement}
 use Rattle.board.proofs.makers.hk_trim.Tie as tie
 
-full-speed-requires : tie.Need-full-speed-requires
-full-speed-requires c κs = search needs
-
-trim-requires : tie.Need-trim-requires
-trim-requires c κs = search needs
-
-length-written-requires : tie.Need-length-written-requires
-length-written-requires c κs = search needs
-
-same-length : tie.Need-same-length
-same-length c = search needs
-
 returns : tie.Need-returns
 returns c =
     let t = rw (c .before .before .before .before .before .full-speed .ensures) at (c .before .before .before .before .trim .ensures) in
@@ -27,4 +15,4 @@ returns c =
 pub hk-trim-spec : {M : Type 1} → statement M
 hk-trim-spec =
     tie.close
-    (tie.spec full-speed-requires trim-requires length-written-requires same-length returns)
+    (tie.spec (λ c κs. search needs) (λ c κs. search needs) (λ c κs. search needs) (λ c. search needs) returns)

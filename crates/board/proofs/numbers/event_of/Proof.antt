@@ -4,9 +4,6 @@ use borrow.Author.Tests.{ne-eqb}
 use Rattle.board.proofs.numbers.event_of.Statement.{statement}
 use Rattle.board.proofs.numbers.event_of.Tie as tie
 
-setup-event-requires : tie.Need-setup-event-requires
-setup-event-requires c κs = search needs
-
 returns : tie.Need-returns
 returns c = rw (c .before .match .keys1) (c .setup-event .ensures)
 
@@ -42,4 +39,4 @@ returns-10 c =
 pub event-of-spec : {M : Type 1} → statement M
 event-of-spec =
     tie.close
-    (tie.spec setup-event-requires returns returns-2 returns-3 returns-4 returns-5 returns-6 returns-7 returns-8 returns-9 returns-10)
+    (tie.spec (λ c κs. search needs) returns returns-2 returns-3 returns-4 returns-5 returns-6 returns-7 returns-8 returns-9 returns-10)

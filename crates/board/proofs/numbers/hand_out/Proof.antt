@@ -3,11 +3,8 @@ use borrow.Author.Needs.{needs}
 use Rattle.board.proofs.numbers.hand_out.Statement.{statement}
 use Rattle.board.proofs.numbers.hand_out.Tie as tie
 
-hand-out-of-requires : tie.Need-hand-out-of-requires
-hand-out-of-requires c κs = search needs
-
 returns : tie.Need-returns
 returns c = λ speed. let h = c .hand-out-of .ensures in record { number = h .number; hands = h .hands; counts = h .counts; shows = h .shows; lies = h .lies }
 
 pub hand-out-spec : {M : Type 1} → statement M
-hand-out-spec = tie.close (tie.spec hand-out-of-requires returns)
+hand-out-spec = tie.close (tie.spec (λ c κs. search needs) returns)

@@ -6,15 +6,6 @@ use Rattle.board.proofs.Spots.{lies-in}
 use Rattle.board.proofs.numbers.hand_out_of.Statement.{statement}
 use Rattle.board.proofs.numbers.hand_out_of.Tie as tie
 
-bytes-of-requires : tie.Need-bytes-of-requires
-bytes-of-requires c κs = search needs
-
-part-requires : tie.Need-part-requires
-part-requires c κs = search needs
-
-number-requires : tie.Need-number-requires
-number-requires c κs = search needs
-
 returns : tie.Need-returns
 returns c =
     let a = c .before .before .before .before .before .before .before .args in
@@ -29,4 +20,4 @@ returns c =
     }
 
 pub hand-out-of-spec : {M : Type 1} → statement M
-hand-out-of-spec = tie.close (tie.spec bytes-of-requires part-requires number-requires returns)
+hand-out-of-spec = tie.close (tie.spec (λ c κs. search needs) (λ c κs. search needs) (λ c κs. search needs) returns)

@@ -9,12 +9,6 @@ use borrow.Author.Needs.{needs}
 use Rattle.board.proofs.pipe.finish_two.Statement.{statement}
 use Rattle.board.proofs.pipe.finish_two.Tie as tie
 
-in-use-requires : tie.Need-in-use-requires
-in-use-requires c κs = search needs
-
-hand-over-requires : tie.Need-hand-over-requires
-hand-over-requires c κs = search needs
-
 returns : tie.Need-returns
 returns c =
     let a = c .before .before .before .before .before .before .before .before .before .args in
@@ -31,4 +25,4 @@ returns c =
     )
 
 pub finish-two-spec : {M : Type 1} → statement M
-finish-two-spec = tie.close (tie.spec in-use-requires hand-over-requires returns)
+finish-two-spec = tie.close (tie.spec (λ c κs. search needs) (λ c κs. search needs) returns)

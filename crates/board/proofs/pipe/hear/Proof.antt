@@ -11,21 +11,6 @@ use borrow.Author.Needs.{needs}
 use Rattle.board.proofs.pipe.hear.Statement.{statement}
 use Rattle.board.proofs.pipe.hear.Tie as tie
 
-look-requires : tie.Need-look-requires
-look-requires c κs = search needs
-
-opening-requires : tie.Need-opening-requires
-opening-requires c κs = search needs
-
-library-event-requires : tie.Need-library-event-requires
-library-event-requires c κs = search needs
-
-event-requires : tie.Need-event-requires
-event-requires c κs = search needs
-
-setup-of-requires : tie.Need-setup-of-requires
-setup-of-requires c κs = search needs
-
 settle-requires : tie.Need-settle-requires
 settle-requires c κs =
     let a = c .before .before .before .before .before .before .before .before .before .before .before .before .before .before .before .before .before .before .before .args in
@@ -41,12 +26,6 @@ settle-requires c κs =
       ),
     )
 
-same-length : tie.Need-same-length
-same-length c = search needs
-
-same-length-2 : tie.Need-same-length-2
-same-length-2 c = search needs
-
 returns : tie.Need-returns
 returns c =
     let a = c .before .before .before .before .before .before .before .before .before .before .before .before .before .before .before .before .before .before .before .before .before .before .args in
@@ -59,12 +38,6 @@ returns c =
     told-gets b (a .image .now) (a .pipe .now) (a .setup .now) (a .reply .now) (a .wire) (looked .result) (what .result) (e .result) (s .result) (packetSize b (a .image .now))
     (looked .ensures .0) (c .before .before .before .before .before .before .before .before .before .before .before .if1 .taken) (looked .ensures .1) (what .ensures) (e .ensures .0) (e .ensures .1) (s .ensures) refl (z .0) (z .1)
 
-plain-requires : tie.Need-plain-requires
-plain-requires c κs = search needs
-
-same-length-3 : tie.Need-same-length-3
-same-length-3 c = search needs
-
 returns-2 : tie.Need-returns-2
 returns-2 c =
     let a = c .before .before .before .before .before .before .before .before .before .before .before .before .args in
@@ -76,15 +49,15 @@ pub hear-spec : {M : Type 1} → statement M
 hear-spec =
     tie.close
     (tie.spec
-    look-requires
-    opening-requires
-    library-event-requires
-    event-requires
-    setup-of-requires
+    (λ c κs. search needs)
+    (λ c κs. search needs)
+    (λ c κs. search needs)
+    (λ c κs. search needs)
+    (λ c κs. search needs)
     settle-requires
-    same-length
-    same-length-2
+    (λ c. search needs)
+    (λ c. search needs)
     returns
-    plain-requires
-    same-length-3
+    (λ c κs. search needs)
+    (λ c. search needs)
     returns-2)

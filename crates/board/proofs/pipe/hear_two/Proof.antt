@@ -15,21 +15,6 @@ use borrow.Author.Needs.{needs}
 use Rattle.board.proofs.pipe.hear_two.Statement.{statement}
 use Rattle.board.proofs.pipe.hear_two.Tie as tie
 
-peek-requires : tie.Need-peek-requires
-peek-requires c κs = search needs
-
-in-use-requires : tie.Need-in-use-requires
-in-use-requires c κs = search needs
-
-look-requires : tie.Need-look-requires
-look-requires c κs = search needs
-
-opened-requires : tie.Need-opened-requires
-opened-requires c κs = search needs
-
-library-event-requires : tie.Need-library-event-requires
-library-event-requires c κs = search needs
-
 -- the set in use
 in-use : (c : tie.After-in-use) → let a = c .before .before .before .before .before .before .before .before .before .before .args in c .in-use .result .now ≡ used (a .full .now) (a .high .now) (a .serial .now) (a .image .now)
 in-use c =
@@ -41,9 +26,6 @@ happen-requires c κs =
     let was = c .before .before .before .before .before .before .before .before in
     let a = was .before .before .before .before .before .before .before .before .before .before .args in
     openable (a .full .now) (a .high .now) (a .serial .now) (a .image .now) (in-use was) (c .before .before .opened .ensures)
-
-setup-of-requires : tie.Need-setup-of-requires
-setup-of-requires c κs = search needs
 
 settle-requires : tie.Need-settle-requires
 settle-requires c κs =
@@ -63,12 +45,6 @@ settle-requires c κs =
       ),
     )
 
-same-length : tie.Need-same-length
-same-length c = search needs
-
-same-length-2 : tie.Need-same-length-2
-same-length-2 c = search needs
-
 returns : tie.Need-returns
 returns c =
     let was = c .before .before .before .before .before .before .before .before .before .before .before .before .before .before .before .before in
@@ -86,15 +62,6 @@ returns c =
     (l .ensures .1 ∙ ap (λ (x : List ℕ). pipeLooked (lengthsIn x (a .serial .now) (a .reply .now)) (a .wire) (a .pipe .now)) u) (what .ensures)
     (h .ensures .0 ∙ ap (λ (r : Reply). r .answer) q) (h .ensures .1 ∙ ap (λ (r : Reply). r .image) q) (s .ensures) (ap (λ (x : List ℕ). bMaxPacketSize0 (deviceBody x)) u) (z .0) (z .1)
 
-plain-requires : tie.Need-plain-requires
-plain-requires c κs = search needs
-
-same-length-3 : tie.Need-same-length-3
-same-length-3 c = search needs
-
-same-length-4 : tie.Need-same-length-4
-same-length-4 c = search needs
-
 returns-2 : tie.Need-returns-2
 returns-2 c =
     let was = c .before .before .before .before .before .before in
@@ -109,18 +76,18 @@ pub hear-two-spec : {M : Type 1} → statement M
 hear-two-spec =
     tie.close
     (tie.spec
-    peek-requires
-    in-use-requires
-    look-requires
-    opened-requires
-    library-event-requires
+    (λ c κs. search needs)
+    (λ c κs. search needs)
+    (λ c κs. search needs)
+    (λ c κs. search needs)
+    (λ c κs. search needs)
     happen-requires
-    setup-of-requires
+    (λ c κs. search needs)
     settle-requires
-    same-length
-    same-length-2
+    (λ c. search needs)
+    (λ c. search needs)
     returns
-    plain-requires
-    same-length-3
-    same-length-4
+    (λ c κs. search needs)
+    (λ c. search needs)
+    (λ c. search needs)
     returns-2)

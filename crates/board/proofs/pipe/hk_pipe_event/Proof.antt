@@ -8,21 +8,6 @@ use borrow.Author.Needs.{needs}
 use Rattle.board.proofs.pipe.hk_pipe_event.Statement.{statement}
 use Rattle.board.proofs.pipe.hk_pipe_event.Tie as tie
 
-wire-of-requires : tie.Need-wire-of-requires
-wire-of-requires c κs = search needs
-
-hear-requires : tie.Need-hear-requires
-hear-requires c κs = search needs
-
-finish-requires : tie.Need-finish-requires
-finish-requires c κs = search needs
-
-same-length : tie.Need-same-length
-same-length c = search needs
-
-same-length-2 : tie.Need-same-length-2
-same-length-2 c = search needs
-
 returns : tie.Need-returns
 returns c =
     let a = c .before .before .before .before .before .before .before .before .before .before .before .before .before .before .before .before .before .before .args in
@@ -35,4 +20,4 @@ returns c =
 pub hk-pipe-event-spec : {M : Type 1} → statement M
 hk-pipe-event-spec =
     tie.close
-    (tie.spec wire-of-requires hear-requires finish-requires same-length same-length-2 returns)
+    (tie.spec (λ c κs. search needs) (λ c κs. search needs) (λ c κs. search needs) (λ c. search needs) (λ c. search needs) returns)

@@ -11,24 +11,6 @@ use borrow.Author.Needs.{needs}
 use Rattle.board.proofs.pipe.hk_two_pipe_event.Statement.{statement}
 use Rattle.board.proofs.pipe.hk_two_pipe_event.Tie as tie
 
-peek-requires : tie.Need-peek-requires
-peek-requires c κs = search needs
-
-wire-of-requires : tie.Need-wire-of-requires
-wire-of-requires c κs = search needs
-
-hear-two-requires : tie.Need-hear-two-requires
-hear-two-requires c κs = search needs
-
-finish-two-requires : tie.Need-finish-two-requires
-finish-two-requires c κs = search needs
-
-same-length : tie.Need-same-length
-same-length c = search needs
-
-same-length-2 : tie.Need-same-length-2
-same-length-2 c = search needs
-
 returns : tie.Need-returns
 returns c =
     let a = c .before .before .before .before .before .before .before .before .before .before .before .before .before .before .before .before .before .before .before .before .before .args in
@@ -47,4 +29,4 @@ returns c =
 pub hk-two-pipe-event-spec : {M : Type 1} → statement M
 hk-two-pipe-event-spec =
     tie.close
-    (tie.spec peek-requires wire-of-requires hear-two-requires finish-two-requires same-length same-length-2 returns)
+    (tie.spec (λ c κs. search needs) (λ c κs. search needs) (λ c κs. search needs) (λ c κs. search needs) (λ c. search needs) (λ c. search needs) returns)

@@ -16,12 +16,6 @@ use Rattle.board.specs.Exports.{numbered}
 use Rattle.board.proofs.ports.image_event.Statement.{statement}
 use Rattle.board.proofs.ports.image_event.Tie as tie
 
-opening-requires : tie.Need-opening-requires
-opening-requires c κs = search needs
-
-event-of-requires : tie.Need-event-of-requires
-event-of-requires c κs = search needs
-
 reply-in-requires : tie.Need-reply-in-requires
 reply-in-requires c κs = (λ z. (fullSpeed, sym (c .before .before .opening .ensures) ∙ z), c .before .before .before .before .before .before .before .pre)
 
@@ -41,9 +35,6 @@ hand-out-requires c κs =
     let a = was .before .before .before .before .before .before .before .before .args in
     rw (ap (λ (o : Outcome). o .answer) (answered was)) (stepInside (lent (a .set .now) (a .serial .now)) (deviceOf (a .image .now)) (numbered (a .kind) (a .value) (a .setup .now)))
 
-same-length : tie.Need-same-length
-same-length c = search needs
-
 returns : tie.Need-returns
 returns c =
     let was = c .before .before .before .before .before .before in
@@ -54,4 +45,4 @@ returns c =
     }
 
 pub image-event-spec : {M : Type 1} → statement M
-image-event-spec = tie.close (tie.spec opening-requires event-of-requires reply-in-requires hand-out-requires same-length returns)
+image-event-spec = tie.close (tie.spec (λ c κs. search needs) (λ c κs. search needs) reply-in-requires hand-out-requires (λ c. search needs) returns)

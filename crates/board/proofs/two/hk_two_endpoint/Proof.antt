@@ -11,15 +11,6 @@ use Rattle.board.proofs.TwoSets.{used, chosen, place, openable, endpoin
 use Rattle.board.proofs.two.hk_two_endpoint.Statement.{statement}
 use Rattle.board.proofs.two.hk_two_endpoint.Tie as tie
 
-opening-two-requires : tie.Need-opening-two-requires
-opening-two-requires c κs = search needs
-
-peek-requires : tie.Need-peek-requires
-peek-requires c κs = search needs
-
-in-use-requires : tie.Need-in-use-requires
-in-use-requires c κs = search needs
-
 -- the set in use
 in-use : (c : tie.After-in-use) → let a = c .before .before .before .before .before .before .before .args in
     c .in-use .result .now ≡ used (a .full .now) (a .high .now) (a .serial .now) (a .image .now)
@@ -44,9 +35,6 @@ part-requires c κs =
     let a = c .before .before .before .before .before .before .before .before .args in
     rw (in-use (c .before), answered c) (inside (lentTwo (a .full .now) (a .high .now) (a .serial .now)) (a .image .now) (a .number))
 
-number-requires : tie.Need-number-requires
-number-requires c κs = search needs
-
 returns : tie.Need-returns
 returns c =
     let was = c .before .before in
@@ -69,10 +57,10 @@ pub hk-two-endpoint-spec : {M : Type 1} → statement M
 hk-two-endpoint-spec =
     tie.close
     (tie.spec
-    opening-two-requires
-    peek-requires
-    in-use-requires
+    (λ c κs. search needs)
+    (λ c κs. search needs)
+    (λ c κs. search needs)
     answer-on-requires
     part-requires
-    number-requires
+    (λ c κs. search needs)
     returns)

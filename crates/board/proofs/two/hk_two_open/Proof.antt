@@ -11,15 +11,6 @@ use Rattle.board.proofs.two.hk_two_open.Tie as tie
 returns : tie.Need-returns
 returns c = record { opens = open-short _ _ (c .if1 .taken); octets = (λ k. omega (arith, c .before .before .before .before .shared-slice-known .given k), λ k. omega (arith, c .before .before .before .shared-slice-known2 .given k)) }
 
-renew-requires : tie.Need-renew-requires
-renew-requires c κs = search needs
-
-opening-two-requires : tie.Need-opening-two-requires
-opening-two-requires c κs = search needs
-
-same-length : tie.Need-same-length
-same-length c = search needs
-
 returns-2 : tie.Need-returns-2
 unfolding renewed
 returns-2 c =
@@ -30,4 +21,4 @@ returns-2 c =
     }
 
 pub hk-two-open-spec : {M : Type 1} → statement M
-hk-two-open-spec = tie.close (tie.spec returns renew-requires opening-two-requires same-length returns-2)
+hk-two-open-spec = tie.close (tie.spec returns (λ c κs. search needs) (λ c κs. search needs) (λ c. search needs) returns-2)

@@ -12,18 +12,6 @@ use Rattle.board.proofs.TwoSets.{used, chosen, place, openable, step-tw
 use Rattle.board.proofs.two.image_event.Statement.{statement}
 use Rattle.board.proofs.two.image_event.Tie as tie
 
-opened-requires : tie.Need-opened-requires
-opened-requires c κs = search needs
-
-peek-requires : tie.Need-peek-requires
-peek-requires c κs = search needs
-
-in-use-requires : tie.Need-in-use-requires
-in-use-requires c κs = search needs
-
-event-of-requires : tie.Need-event-of-requires
-event-of-requires c κs = search needs
-
 -- the set in use
 in-use : (c : tie.After-in-use) → let a = c .before .before .before .before .before .before .before .before .before .args in
     c .in-use .result .now ≡ used (a .full .now) (a .high .now) (a .serial .now) (a .image .now)
@@ -53,9 +41,6 @@ hand-out-of-requires c κs =
     let a = was .before .before .before .before .before .before .before .before .before .before .before .before .args in
     rw (in-use (was .before .before .before), ap (λ (o : Outcome). o .answer) (answered was)) (stepInside (lentTwo (a .full .now) (a .high .now) (a .serial .now)) (deviceOf (a .image .now)) (numbered (a .kind) (a .value) (a .setup .now)))
 
-same-length : tie.Need-same-length
-same-length c = search needs
-
 returns : tie.Need-returns
 returns c =
     let was = c .before .before .before .before .before .before in
@@ -71,11 +56,11 @@ pub image-event-spec : {M : Type 1} → statement M
 image-event-spec =
     tie.close
     (tie.spec
-    opened-requires
-    peek-requires
-    in-use-requires
-    event-of-requires
+    (λ c κs. search needs)
+    (λ c κs. search needs)
+    (λ c κs. search needs)
+    (λ c κs. search needs)
     reply-in-requires
     hand-out-of-requires
-    same-length
+    (λ c. search needs)
     returns)

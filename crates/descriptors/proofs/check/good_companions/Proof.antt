@@ -39,23 +39,11 @@ returns c = rw (not-true (c .before .before .before .args .limits .companions) (
 loop-holds : tie.Need-loop-holds Inv-loop μ-loop
 loop-holds c = record { rest = refl }
 
-advance-requires : tie.Need-advance-requires Inv-loop μ-loop
-advance-requires c κs = search needs
-
 returns-2 : tie.Need-returns-2 Inv-loop μ-loop
 returns-2 c = asked (c .before .before .before .before .before .before .before .args .limits .companions) (c .before .before .before .before .if1 .left) (companions-stuck (c .before .before .before .loop .inv) (c .before .advance .ensures .steps) (c .before .before .loop-test .taken) (c .if2 .taken))
 
-sub-is-accompanied : tie.Need-sub-is-accompanied Inv-loop μ-loop
-sub-is-accompanied c = search needs
-
-part-is-accompanied-start : tie.Need-part-is-accompanied-start Inv-loop μ-loop
-part-is-accompanied-start c = search needs
-
 part-is-accompanied-end : tie.Need-part-is-accompanied-end Inv-loop μ-loop
 part-is-accompanied-end c = inside c
-
-is-accompanied-requires : tie.Need-is-accompanied-requires Inv-loop μ-loop
-is-accompanied-requires c κs = search needs
 
 returns-3 : tie.Need-returns-3 Inv-loop μ-loop
 returns-3 c =
@@ -63,17 +51,8 @@ returns-3 c =
     let no = sym (c .before .is-accompanied .ensures) ∙ not-true _ (c .if3 .taken) in
     asked (w .before .before .before .before .before .before .before .args .limits .companions) (w .before .before .before .before .if1 .left) (walk-stop (w .before .before .before .loop .inv) (w .before .advance .ensures .steps) (w .before .before .loop-test .taken) (w .if2 .left) false (rw no))
 
-sub-peek : tie.Need-sub-peek Inv-loop μ-loop
-sub-peek c = search needs
-
-part-peek-start : tie.Need-part-peek-start Inv-loop μ-loop
-part-peek-start c = search needs
-
 part-peek-end : tie.Need-part-peek-end Inv-loop μ-loop
 part-peek-end c = inside (c .before .before .before)
-
-peek-requires : tie.Need-peek-requires Inv-loop μ-loop
-peek-requires c κs = search needs
 
 loop-less : tie.Need-loop-less Inv-loop μ-loop
 loop-less c =
@@ -97,17 +76,17 @@ good-companions-spec =
     μ-loop
     returns
     loop-holds
-    advance-requires
+    (λ c κs. search needs)
     returns-2
-    sub-is-accompanied
-    part-is-accompanied-start
+    (λ c. search needs)
+    (λ c. search needs)
     part-is-accompanied-end
-    is-accompanied-requires
+    (λ c κs. search needs)
     returns-3
-    sub-peek
-    part-peek-start
+    (λ c. search needs)
+    (λ c. search needs)
     part-peek-end
-    peek-requires
+    (λ c κs. search needs)
     loop-less
     loop-again
     returns-4)

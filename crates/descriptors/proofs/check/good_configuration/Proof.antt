@@ -46,29 +46,14 @@ head-small c p =
     let end = c .before .before .before .advance .result .end in
     head-short (length body) (take end body) (sym (c .good-head .ensures) ∙ p) (part-bytes body (λ k. omega (arith, c .before .before .before .before .shared-slice-known .given k)) 0 end)
 
-advance-requires : tie.Need-advance-requires
-advance-requires c κs = search needs
-
-refuse-requires : tie.Need-refuse-requires
-refuse-requires c κs = search needs
-
 returns : tie.Need-returns
 returns c = c .refuse .ensures ∙ refused _ (check-none (c .before .before .before .before .args .limits) (c .before .before .before .before .args .body .now) _ (stepped (c .before .before)) (c .before .if1 .taken))
 
 slice-aggregate-head : tie.Need-slice-aggregate-head
 slice-aggregate-head c = sym (length-take-le _ _ (head-inside (c .before .before .before .before .args .body .now) _ (stepped (c .before .before)) (went (c .before))))
 
-good-head-requires : tie.Need-good-head-requires
-good-head-requires c κs = search needs
-
-refuse-requires-2 : tie.Need-refuse-requires-2
-refuse-requires-2 c κs = search needs
-
 returns-2 : tie.Need-returns-2
 returns-2 c = c .refuse2 .ensures ∙ refused _ (sym (checked (c .before .before) (not-true _ (c .before .if2 .taken))))
-
-peek-requires : tie.Need-peek-requires
-peek-requires c κs = search needs
 
 good-rest-requires : tie.Need-good-rest-requires
 good-rest-requires c κs =
@@ -83,15 +68,6 @@ good-rest-requires c κs =
       one = rw (c .peek .ensures) (small .1);
       few = rw (c .peek .ensures) (small .2);
     }
-
-good-companions-requires : tie.Need-good-companions-requires
-good-companions-requires c κs = search needs
-
-peek-requires-2 : tie.Need-peek-requires-2
-peek-requires-2 c κs = search needs
-
-holds-requires : tie.Need-holds-requires
-holds-requires c κs = search needs
 
 returns-3 : tie.Need-returns-3
 returns-3 c =
@@ -116,16 +92,16 @@ pub good-configuration-spec : {M : Type 1} → statement M
 good-configuration-spec =
     tie.close
     (tie.spec
-    advance-requires
-    refuse-requires
+    (λ c κs. search needs)
+    (λ c κs. search needs)
     returns
     slice-aggregate-head
-    good-head-requires
-    refuse-requires-2
+    (λ c κs. search needs)
+    (λ c κs. search needs)
     returns-2
-    peek-requires
+    (λ c κs. search needs)
     good-rest-requires
-    good-companions-requires
-    peek-requires-2
-    holds-requires
+    (λ c κs. search needs)
+    (λ c κs. search needs)
+    (λ c κs. search needs)
     returns-3)

@@ -3,9 +3,6 @@ use borrow.Author.Needs.{needs}
 use Rattle.descriptors.proofs.check.is_accompanied.Statement.{statement}
 use Rattle.descriptors.proofs.check.is_accompanied.Tie as tie
 
-peek-requires : tie.Need-peek-requires
-peek-requires c κs = search needs
-
 returns : tie.Need-returns
 returns c = rw (c .if1 .taken, c .before .peek .ensures)
 
@@ -13,4 +10,4 @@ returns-2 : tie.Need-returns-2
 returns-2 c = rw (c .if1 .left, c .before .peek .ensures)
 
 pub is-accompanied-spec : {M : Type 1} → statement M
-is-accompanied-spec = tie.close (tie.spec peek-requires returns returns-2)
+is-accompanied-spec = tie.close (tie.spec (λ c κs. search needs) returns returns-2)

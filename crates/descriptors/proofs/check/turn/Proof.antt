@@ -11,12 +11,6 @@ use borrow.Author.Needs.{needs}
 use Rattle.descriptors.proofs.check.turn.Statement.{statement}
 use Rattle.descriptors.proofs.check.turn.Tie as tie
 
-peek-requires : tie.Need-peek-requires
-peek-requires c κs = search needs
-
-may-list-requires : tie.Need-may-list-requires
-may-list-requires c κs = search needs
-
 list-requires : tie.Need-list-requires
 list-requires c κs =
     let a = c .before .before .before .before .before .args in
@@ -33,9 +27,6 @@ returns c =
       passes = λ _ k. never (rw p) k;
     }
 
-stop-requires : tie.Need-stop-requires
-stop-requires c κs = search needs
-
 returns-2 : tie.Need-returns-2
 returns-2 c =
     let p = sym (c .before .before .before .before .peek .ensures) ∙ c .before .before .before .if1 .taken in
@@ -49,12 +40,6 @@ returns-2 c =
 begin-requires : tie.Need-begin-requires
 begin-requires c κs = c .before .before .before .before .pre
 
-peek-requires-2 : tie.Need-peek-requires-2
-peek-requires-2 c κs = search needs
-
-still-refers-requires : tie.Need-still-refers-requires
-still-refers-requires c κs = search needs
-
 returns-3 : tie.Need-returns-3
 returns-3 c =
     let p = sym (c .before .before .before .before .before .before .before .peek .ensures) ∙ c .before .before .before .before .before .if3 .taken in
@@ -67,9 +52,6 @@ returns-3 c =
       passes = λ i _. never (rw p) i;
     }
 
-stop-requires-2 : tie.Need-stop-requires-2
-stop-requires-2 c κs = search needs
-
 returns-4 : tie.Need-returns-4
 returns-4 c =
     let p = sym (c .before .before .before .before .before .peek .ensures) ∙ c .before .before .before .if3 .taken in
@@ -79,9 +61,6 @@ returns-4 c =
       starts = λ _ g. never g (c .stop2 .ensures);
       passes = λ i _. never (rw p) i;
     }
-
-is-refused-requires : tie.Need-is-refused-requires
-is-refused-requires c κs = search needs
 
 returns-5 : tie.Need-returns-5
 returns-5 c =
@@ -99,17 +78,17 @@ pub turn-spec : {M : Type 1} → statement M
 turn-spec =
     tie.close
     (tie.spec
-    peek-requires
-    may-list-requires
+    (λ c κs. search needs)
+    (λ c κs. search needs)
     list-requires
     returns
-    stop-requires
+    (λ c κs. search needs)
     returns-2
     begin-requires
-    peek-requires-2
-    still-refers-requires
+    (λ c κs. search needs)
+    (λ c κs. search needs)
     returns-3
-    stop-requires-2
+    (λ c κs. search needs)
     returns-4
-    is-refused-requires
+    (λ c κs. search needs)
     returns-5)

@@ -20,12 +20,6 @@ Inv-loop body number alternates left₀ last₀ at₀ left last at =
 abbrev μ-loop : tie.MeasureT-loop
 μ-loop body number alternates left₀ last₀ at₀ left last at = length body - at
 
-peek-requires : tie.Need-peek-requires Inv-loop μ-loop
-peek-requires c κs = search needs
-
-cast-at : tie.Need-cast-at Inv-loop μ-loop
-cast-at c = search needs
-
 loop-holds : tie.Need-loop-holds Inv-loop μ-loop
 loop-holds c =
     let b = at-first (c .before .before .args .body .now) _ (c .before .before .pre) (c .peek .ensures) in
@@ -47,12 +41,6 @@ part-lists-current-start c = let t = turned (c .before) in omega (arith, t .on)
 part-lists-current-end : tie.Need-part-lists-current-end Inv-loop μ-loop
 part-lists-current-end c = turned (c .before) .place .inside
 
-slice-aggregate-lists-current : tie.Need-slice-aggregate-lists-current Inv-loop μ-loop
-slice-aggregate-lists-current c = search needs
-
-lists-current-requires : tie.Need-lists-current-requires Inv-loop μ-loop
-lists-current-requires c κs = search needs
-
 sub-t21 : tie.Need-sub-t21 Inv-loop μ-loop
 sub-t21 c = let t = turned (c .before .before .before .before .before) in omega (arith, t .on)
 
@@ -66,9 +54,6 @@ returns c =
     let long = span-length body (t .on) (t .place .inside) in
     walk-stop (l .inv .1) (s .ensures .steps) (c .before .before .before .before .before .before .loop-test .taken) (t .on) _ (stops (a .t2) (record { left = l .left; offset = l .at }) (standIn (l .last)) (s .result .stand) (spanned body (l .at) (s .result .end)) (c .before .lists-current .ensures) (c .if1 .taken) long)
     ∙ finds _ body (c .before .before .before .before .before .before .before .before .before .before .pre) (a .number) (c .before .before .before .before .before .before .before .before .peek .ensures)
-
-pass-requires : tie.Need-pass-requires Inv-loop μ-loop
-pass-requires c κs = search needs
 
 loop-less : tie.Need-loop-less Inv-loop μ-loop
 loop-less c = let t = turned (c .before .before .before .before .before .before) in omega (arith, t .on, t .place .inside)
@@ -97,18 +82,18 @@ find-spec =
     (tie.spec
     Inv-loop
     μ-loop
-    peek-requires
-    cast-at
+    (λ c κs. search needs)
+    (λ c. search needs)
     loop-holds
     step-over-requires
     sub-lists-current
     part-lists-current-start
     part-lists-current-end
-    slice-aggregate-lists-current
-    lists-current-requires
+    (λ c. search needs)
+    (λ c κs. search needs)
     sub-t21
     returns
-    pass-requires
+    (λ c κs. search needs)
     loop-less
     loop-again
     returns-2)

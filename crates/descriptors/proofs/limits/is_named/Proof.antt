@@ -5,14 +5,8 @@ use borrow.Author.Needs.{needs}
 use Rattle.descriptors.proofs.limits.is_named.Statement.{statement}
 use Rattle.descriptors.proofs.limits.is_named.Tie as tie
 
-test-bit-requires : tie.Need-test-bit-requires
-test-bit-requires c κs = search needs
-
-returns : tie.Need-returns
-returns c = search needs
-
 returns-2 : tie.Need-returns-2
 returns-2 c = sym (bit-past 16 _ _ (c .before .fits .types .fits) (c .if1 .left))
 
 pub is-named-spec : {M : Type 1} → statement M
-is-named-spec = tie.close (tie.spec test-bit-requires returns returns-2)
+is-named-spec = tie.close (tie.spec (λ c κs. search needs) (λ c. search needs) returns-2)

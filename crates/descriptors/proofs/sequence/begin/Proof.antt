@@ -16,12 +16,6 @@ returns-2 c = record { may = simp (ne-eqb (c .before .before .before .before .ar
 place-requires : tie.Need-place-requires
 place-requires c κs = c .before .before .before .before .pre
 
-peek-requires : tie.Need-peek-requires
-peek-requires c κs = search needs
-
-cast-t8 : tie.Need-cast-t8
-cast-t8 c = search needs
-
 returns-3 : tie.Need-returns-3
 returns-3 c =
     let l = le-leb 9 _ (c .before .before .before .before .before .if1 .left) in
@@ -45,7 +39,7 @@ begin-spec =
     returns
     returns-2
     place-requires
-    peek-requires
-    cast-t8
+    (λ c κs. search needs)
+    (λ c. search needs)
     returns-3
     returns-4)

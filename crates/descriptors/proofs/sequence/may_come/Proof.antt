@@ -14,15 +14,6 @@ returns c = rw (lt-leb 7 _ (c .if1 .taken))
 returns-2 : tie.Need-returns-2
 returns-2 c = simp (c .if2 .taken, and-false)
 
-peek-requires : tie.Need-peek-requires
-peek-requires c κs = search needs
-
-good-address-requires : tie.Need-good-address-requires
-good-address-requires c κs = search needs
-
-bit-of-requires : tie.Need-bit-of-requires
-bit-of-requires c κs = search needs
-
 test-bit-requires : tie.Need-test-bit-requires
 test-bit-requires c κs = c .bit-of .ensures .1
 
@@ -46,9 +37,9 @@ may-come-spec =
     (tie.spec
     returns
     returns-2
-    peek-requires
-    good-address-requires
-    bit-of-requires
+    (λ c κs. search needs)
+    (λ c κs. search needs)
+    (λ c κs. search needs)
     test-bit-requires
     returns-3
     returns-4)

@@ -12,17 +12,11 @@ use borrow.Author.Needs.{needs}
 use Rattle.descriptors.proofs.sequence.place.Statement.{statement}
 use Rattle.descriptors.proofs.sequence.place.Tie as tie
 
-add-if1 : tie.Need-add-if1
-add-if1 c = search needs
-
 returns : tie.Need-returns
 returns c =
     let a = c .before .before .before .args in
     let q = eq-eqb (a .setting) (a .order .last + 256) (c .before .if1 .taken) in
     record { may = rw (q, lt-ltb (a .setting) 4096 (c .if2 .taken)); on = λ _. record { owns = rw q; takes = λ e l. rw q } }
-
-refused-requires : tie.Need-refused-requires
-refused-requires c κs = search needs
 
 returns-2 : tie.Need-returns-2
 returns-2 c =
@@ -30,18 +24,12 @@ returns-2 c =
     let q = eq-eqb (a .setting) (a .order .last + 256) (c .before .before .if1 .taken) in
     record { may = c .refused .ensures ∙ rw (q, le-ltb (a .setting) 4096 (c .before .if2 .left)); on = λ g. never g (c .refused .ensures) }
 
-next-of-requires : tie.Need-next-of-requires
-next-of-requires c κs = search needs
-
 returns-3 : tie.Need-returns-3
 returns-3 c =
     let a = c .before .before .before .before .before .before .args in
     let q = ne-eqb (a .setting) (a .order .last + 256) (c .before .before .before .before .if1 .left) in
     let u = eq-eqb (a .setting) (nextOf (a .order .last)) (c .before .before .if3 .taken ∙ c .before .before .before .next-of .ensures) in
     record { may = rw (q, u, lt-ltb (a .setting) 16 (c .before .if4 .taken)); on = λ _. record { owns = rw q; takes = λ e l. rw q (or-digit (a .order .others) (a .order .own) e) } }
-
-refused-requires-2 : tie.Need-refused-requires-2
-refused-requires-2 c κs = search needs
 
 returns-4 : tie.Need-returns-4
 returns-4 c =
@@ -57,11 +45,11 @@ pub place-spec : {M : Type 1} → statement M
 place-spec =
     tie.close
     (tie.spec
-    add-if1
+    (λ c. search needs)
     returns
-    refused-requires
+    (λ c κs. search needs)
     returns-2
-    next-of-requires
+    (λ c κs. search needs)
     returns-3
-    refused-requires-2
+    (λ c κs. search needs)
     returns-4)

@@ -21,30 +21,12 @@ abbrev μ-loop : tie.MeasureT-loop
 loop-holds : tie.Need-loop-holds Inv-loop μ-loop
 loop-holds c = (omega arith, λ g t. refl)
 
-sub-j : tie.Need-sub-j Inv-loop μ-loop
-sub-j c = omega arith
-
-slice-aggregate-peek : tie.Need-slice-aggregate-peek Inv-loop μ-loop
-slice-aggregate-peek c = search needs
-
-cast-peek : tie.Need-cast-peek Inv-loop μ-loop
-cast-peek c = search needs
-
-peek-requires : tie.Need-peek-requires Inv-loop μ-loop
-peek-requires c κs = search needs
-
-good-alternate-requires : tie.Need-good-alternate-requires Inv-loop μ-loop
-good-alternate-requires c κs = search needs
-
 returns : tie.Need-returns Inv-loop μ-loop
 returns c = λ g t.
     let a = c .before .before .before .before .before .before .args in
     let j = c .before .before .before .before .before .loop .j in
     let e = told g (a .t3) (j - 1) _ t (omega arith) (c .before .before .peek .ensures) (c .before .good-alternate .ensures) in
     below-not (goodAlternate g (a .t3)) j (c .before .before .before .before .loop-test .taken) (c .before .before .before .before .before .loop .inv .1 g t) e (not-true _ (c .if1 .taken))
-
-loop-less : tie.Need-loop-less Inv-loop μ-loop
-loop-less c = omega arith
 
 loop-again : tie.Need-loop-again Inv-loop μ-loop
 loop-again c = (
@@ -66,12 +48,12 @@ alternates-exist-spec =
     Inv-loop
     μ-loop
     loop-holds
-    sub-j
-    slice-aggregate-peek
-    cast-peek
-    peek-requires
-    good-alternate-requires
+    (λ c. omega arith)
+    (λ c. search needs)
+    (λ c. search needs)
+    (λ c κs. search needs)
+    (λ c κs. search needs)
     returns
-    loop-less
+    (λ c. omega arith)
     loop-again
     returns-2)

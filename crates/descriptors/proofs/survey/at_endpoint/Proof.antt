@@ -6,23 +6,11 @@ use Rattle.descriptors.proofs.Surveying.{current-adds, other-adds, outs
 use Rattle.descriptors.proofs.survey.at_endpoint.Statement.{statement}
 use Rattle.descriptors.proofs.survey.at_endpoint.Tie as tie
 
-cast-peek : tie.Need-cast-peek
-cast-peek c = search needs
-
-peek-requires : tie.Need-peek-requires
-peek-requires c κs = search needs
-
-at-current-requires : tie.Need-at-current-requires
-at-current-requires c κs = search needs
-
 returns : tie.Need-returns
 returns c =
     let e = c .before .before .before .before .before .before .before .before in
     c .at-current .ensures
     ∙ current-adds (e .args .alternates .now) (e .args .asked) (e .args .seen) (e .args .stand) (e .args .d .now) (e .pre) (c .before .before .before .before .before .if1 .taken) (eq-eqb _ _ (c .before .if2 .taken ∙ c .before .before .before .peek .ensures))
-
-at-other-requires : tie.Need-at-other-requires
-at-other-requires c κs = search needs
 
 returns-2 : tie.Need-returns-2
 returns-2 c =
@@ -37,10 +25,10 @@ pub at-endpoint-spec : {M : Type 1} → statement M
 at-endpoint-spec =
     tie.close
     (tie.spec
-    cast-peek
-    peek-requires
-    at-current-requires
+    (λ c. search needs)
+    (λ c κs. search needs)
+    (λ c κs. search needs)
     returns
-    at-other-requires
+    (λ c κs. search needs)
     returns-2
     returns-3)

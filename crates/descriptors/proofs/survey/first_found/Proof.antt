@@ -5,15 +5,6 @@ use Rattle.descriptors.proofs.Surveying.{earlier-none}
 use Rattle.descriptors.proofs.survey.first_found.Statement.{statement}
 use Rattle.descriptors.proofs.survey.first_found.Tie as tie
 
-enum-known-endpoint : tie.Need-enum-known-endpoint
-enum-known-endpoint c = search needs
-
-enum-told : tie.Need-enum-told
-enum-told c = search needs
-
-endpoint-of-requires : tie.Need-endpoint-of-requires
-endpoint-of-requires c κs = search needs
-
 returns : tie.Need-returns
 returns c = rw (c .before .before .before .if1 .taken, c .before .endpoint .given .1)
 
@@ -26,4 +17,4 @@ returns-3 c = rw (c .if1 .left) (sym (earlier-none (c .before .before .args .end
 pub first-found-spec : {M : Type 1} → statement M
 first-found-spec =
     tie.close
-    (tie.spec enum-known-endpoint enum-told endpoint-of-requires returns returns-2 returns-3)
+    (tie.spec (λ c. search needs) (λ c. search needs) (λ c κs. search needs) returns returns-2 returns-3)

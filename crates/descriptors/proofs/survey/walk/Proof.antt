@@ -21,15 +21,6 @@ Inv-loop body asked alternates seen₀ last₀ at₀ seen last at =
 abbrev μ-loop : tie.MeasureT-loop
 μ-loop body asked alternates seen₀ last₀ at₀ seen last at = length body - at
 
-nothing-seen-requires : tie.Need-nothing-seen-requires Inv-loop μ-loop
-nothing-seen-requires c κs = search needs
-
-peek-requires : tie.Need-peek-requires Inv-loop μ-loop
-peek-requires c κs = search needs
-
-cast-at : tie.Need-cast-at Inv-loop μ-loop
-cast-at c = search needs
-
 loop-holds : tie.Need-loop-holds Inv-loop μ-loop
 loop-holds c =
     let b = at-first (c .before .before .before .args .body .now) _ (c .before .before .before .pre) (c .peek .ensures) in
@@ -50,12 +41,6 @@ part-move-on-start c = let t = turned (c .before) in omega (arith, t .on)
 
 part-move-on-end : tie.Need-part-move-on-end Inv-loop μ-loop
 part-move-on-end c = turned (c .before) .place .inside
-
-slice-aggregate-move-on : tie.Need-slice-aggregate-move-on Inv-loop μ-loop
-slice-aggregate-move-on c = search needs
-
-move-on-requires : tie.Need-move-on-requires Inv-loop μ-loop
-move-on-requires c κs = search needs
 
 behind-requires : tie.Need-behind-requires Inv-loop μ-loop
 behind-requires c κs = omega (arith, c .before .before .before .before .before .loop-test .taken)
@@ -80,16 +65,16 @@ walk-spec =
     (tie.spec
     Inv-loop
     μ-loop
-    nothing-seen-requires
-    peek-requires
-    cast-at
+    (λ c κs. search needs)
+    (λ c κs. search needs)
+    (λ c. search needs)
     loop-holds
     step-over-requires
     sub-move-on
     part-move-on-start
     part-move-on-end
-    slice-aggregate-move-on
-    move-on-requires
+    (λ c. search needs)
+    (λ c κs. search needs)
     behind-requires
     loop-less
     loop-again

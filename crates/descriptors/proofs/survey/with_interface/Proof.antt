@@ -4,9 +4,6 @@ use borrow.Author.Needs.{needs}
 use Rattle.descriptors.proofs.survey.with_interface.Statement.{statement}
 use Rattle.descriptors.proofs.survey.with_interface.Tie as tie
 
-set-bit-requires : tie.Need-set-bit-requires
-set-bit-requires c κs = search needs
-
 returns : tie.Need-returns
 returns c = simp (lt-ltb _ _ (c .before .if1 .taken)) (c .set-bit .ensures)
 
@@ -14,4 +11,4 @@ returns-2 : tie.Need-returns-2
 returns-2 c = simp (le-ltb _ _ (c .if1 .left))
 
 pub with-interface-spec : {M : Type 1} → statement M
-with-interface-spec = tie.close (tie.spec set-bit-requires returns returns-2)
+with-interface-spec = tie.close (tie.spec (λ c κs. search needs) returns returns-2)

@@ -7,29 +7,11 @@ use Rattle.descriptors.proofs.Walks.{stands-still}
 use Rattle.descriptors.proofs.walk.advance.Statement.{statement}
 use Rattle.descriptors.proofs.walk.advance.Tie as tie
 
-peek-requires : tie.Need-peek-requires
-peek-requires c κs = search needs
-
-cast-size : tie.Need-cast-size
-cast-size c = search needs
-
-stay-requires : tie.Need-stay-requires
-stay-requires c κs = search needs
-
 returns : tie.Need-returns
 returns c = rw (c .stay .ensures) (stands-still _ _ _ (rw (← c .before .before .peek .ensures, lt-leb 2 (c .before .before .peek .result) (omega arith))))
 
-stay-requires-2 : tie.Need-stay-requires-2
-stay-requires-2 c κs = search needs
-
 returns-2 : tie.Need-returns-2
 returns-2 c = rw (c .stay2 .ensures) (stands-still _ _ _ (simp (le-ltb _ _ (c .before .if2 .taken), and-false)))
-
-sub-if3 : tie.Need-sub-if3
-sub-if3 c = search needs
-
-stay-requires-3 : tie.Need-stay-requires-3
-stay-requires-3 c κs = search needs
 
 returns-3 : tie.Need-returns-3
 returns-3 c = rw (c .stay3 .ensures) (stands-still _ _ _ (simp (lt-leb _ _ (rw (c .before .before .before .before .peek .ensures) at (c .before .if3 .taken)), and-false)))
@@ -39,21 +21,18 @@ step-over-requires c κs =
     let e = c .before .before .before .peek .ensures in
     rw (le-leb 2 _ (rw e at (c .before .before .if1 .left)), lt-ltb _ _ (c .before .if2 .left), le-leb _ _ (rw e at (c .if3 .left)))
 
-returns-4 : tie.Need-returns-4
-returns-4 c = search needs
-
 pub advance-spec : {M : Type 1} → statement M
 advance-spec =
     tie.close
     (tie.spec
-    peek-requires
-    cast-size
-    stay-requires
+    (λ c κs. search needs)
+    (λ c. search needs)
+    (λ c κs. search needs)
     returns
-    stay-requires-2
+    (λ c κs. search needs)
     returns-2
-    sub-if3
-    stay-requires-3
+    (λ c. search needs)
+    (λ c κs. search needs)
     returns-3
     step-over-requires
-    returns-4)
+    (λ c. search needs))

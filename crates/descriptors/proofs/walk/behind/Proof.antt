@@ -20,9 +20,6 @@ sub-kinds c = omega (arith, c .before .pre)
 part-kinds-start : tie.Need-part-kinds-start Inv-loop μ-loop
 part-kinds-start c = omega (arith, c .before .pre)
 
-part-kinds-end : tie.Need-part-kinds-end Inv-loop μ-loop
-part-kinds-end c = omega arith
-
 sub-last : tie.Need-sub-last Inv-loop μ-loop
 sub-last c = omega (arith, c .before .before .pre)
 
@@ -112,7 +109,7 @@ behind-spec =
     μ-loop
     sub-kinds
     part-kinds-start
-    part-kinds-end
+    (λ c. omega arith)
     sub-last
     loop-holds
     shared-slice-read-first

@@ -24,9 +24,6 @@ sub-kinds c = omega (arith, c .before .pre .0)
 part-kinds-start : tie.Need-part-kinds-start Inv-loop μ-loop
 part-kinds-start c = omega (arith, c .before .pre .0)
 
-part-kinds-end : tie.Need-part-kinds-end Inv-loop μ-loop
-part-kinds-end c = omega arith
-
 sub-most : tie.Need-sub-most Inv-loop μ-loop
 sub-most c = omega (arith, c .before .if1 .left)
 
@@ -81,7 +78,7 @@ pass-run-spec =
     returns
     sub-kinds
     part-kinds-start
-    part-kinds-end
+    (λ c. omega arith)
     sub-most
     loop-holds
     shared-slice-read-if2

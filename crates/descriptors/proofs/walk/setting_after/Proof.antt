@@ -8,15 +8,6 @@ use Rattle.descriptors.proofs.Walks.{stands-in}
 use Rattle.descriptors.proofs.walk.setting_after.Statement.{statement}
 use Rattle.descriptors.proofs.walk.setting_after.Tie as tie
 
-peek-requires : tie.Need-peek-requires
-peek-requires c κs = search needs
-
-word-requires : tie.Need-word-requires
-word-requires c κs = search needs
-
-cast-result : tie.Need-cast-result
-cast-result c = search needs
-
 returns : tie.Need-returns
 returns c =
     let known = c .before .before .before .shared-slice-known .given in
@@ -28,4 +19,4 @@ returns-2 : tie.Need-returns-2
 returns-2 c = let i = ne-eqb _ _ (λ e. c .if1 .left (c .before .peek .ensures ∙ e)) in record { sets = rw i; stands = rw i }
 
 pub setting-after-spec : {M : Type 1} → statement M
-setting-after-spec = tie.close (tie.spec peek-requires word-requires cast-result returns returns-2)
+setting-after-spec = tie.close (tie.spec (λ c κs. search needs) (λ c κs. search needs) (λ c. search needs) returns returns-2)

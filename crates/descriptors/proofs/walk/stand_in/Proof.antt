@@ -4,9 +4,6 @@ use borrow.Author.Tests.{lt-ltb, le-ltb}
 use Rattle.descriptors.proofs.walk.stand_in.Statement.{statement}
 use Rattle.descriptors.proofs.walk.stand_in.Tie as tie
 
-cast-t4 : tie.Need-cast-t4
-cast-t4 c = omega arith
-
 cast-t6 : tie.Need-cast-t6
 cast-t6 c = omega (arith, c .if1 .taken)
 
@@ -17,4 +14,4 @@ returns-2 : tie.Need-returns-2
 returns-2 c = rw (le-ltb _ _ (c .if1 .left))
 
 pub stand-in-spec : {M : Type 1} → statement M
-stand-in-spec = tie.close (tie.spec cast-t4 cast-t6 returns returns-2)
+stand-in-spec = tie.close (tie.spec (λ c. omega arith) cast-t6 returns returns-2)

@@ -3,11 +3,8 @@ use borrow.Author.Needs.{needs}
 use Rattle.descriptors.proofs.walk.stay.Statement.{statement}
 use Rattle.descriptors.proofs.walk.stay.Tie as tie
 
-stand-in-requires : tie.Need-stand-in-requires
-stand-in-requires c κs = search needs
-
 returns : tie.Need-returns
 returns c = rw (c .stand-in .ensures)
 
 pub stay-spec : {M : Type 1} → statement M
-stay-spec = tie.close (tie.spec stand-in-requires returns)
+stay-spec = tie.close (tie.spec (λ c κs. search needs) returns)

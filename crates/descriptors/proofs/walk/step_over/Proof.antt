@@ -7,29 +7,11 @@ use Rattle.descriptors.proofs.Walks.{steps-whole}
 use Rattle.descriptors.proofs.walk.step_over.Statement.{statement}
 use Rattle.descriptors.proofs.walk.step_over.Tie as tie
 
-peek-requires : tie.Need-peek-requires
-peek-requires c κs = search needs
-
-cast-end : tie.Need-cast-end
-cast-end c = search needs
-
 add-end : tie.Need-add-end
 add-end c = let w = steps-whole (c .before .before .args .body .now) (c .before .before .args .at) (c .before .before .pre) in omega (arith, w .ends, c .peek .ensures)
 
-sub-setting-after : tie.Need-sub-setting-after
-sub-setting-after c = search needs
-
-part-setting-after-start : tie.Need-part-setting-after-start
-part-setting-after-start c = search needs
-
 part-setting-after-end : tie.Need-part-setting-after-end
 part-setting-after-end c = let w = steps-whole (c .before .before .args .body .now) (c .before .before .args .at) (c .before .before .pre) in omega (arith, w .ends, c .peek .ensures)
-
-setting-after-requires : tie.Need-setting-after-requires
-setting-after-requires c κs = search needs
-
-stand-in-requires : tie.Need-stand-in-requires
-stand-in-requires c κs = search needs
 
 returns : tie.Need-returns
 returns c =
@@ -45,12 +27,12 @@ pub step-over-spec : {M : Type 1} → statement M
 step-over-spec =
     tie.close
     (tie.spec
-    peek-requires
-    cast-end
+    (λ c κs. search needs)
+    (λ c. search needs)
     add-end
-    sub-setting-after
-    part-setting-after-start
+    (λ c. search needs)
+    (λ c. search needs)
     part-setting-after-end
-    setting-after-requires
-    stand-in-requires
+    (λ c κs. search needs)
+    (λ c κs. search needs)
     returns)

@@ -6,23 +6,11 @@ use borrow.Author.Needs.{needs}
 use Rattle.pipes.proofs.hearing.look_at.Statement.{statement}
 use Rattle.pipes.proofs.hearing.look_at.Tie as tie
 
-unheard-requires : tie.Need-unheard-requires
-unheard-requires c κs = search needs
-
 returns : tie.Need-returns
 returns c = let e = ne-eqb _ _ (c .before .if1 .taken) in (rw (c .unheard .ensures, e), rw e)
 
-tells-requires : tie.Need-tells-requires
-tells-requires c κs = search needs
-
 returns-2 : tie.Need-returns-2
 returns-2 c = let e = eq-eqb _ _ (c .before .before .if1 .left) in let t = sym (c .before .tells .ensures) ∙ c .if2 .taken in (rw (e, t), rw (e, t))
-
-move-on-requires : tie.Need-move-on-requires
-move-on-requires c κs = search needs
-
-same-length : tie.Need-same-length
-same-length c = search needs
 
 returns-3 : tie.Need-returns-3
 returns-3 c =
@@ -36,10 +24,10 @@ pub look-at-spec : {M : Type 1} → statement M
 look-at-spec =
     tie.close
     (tie.spec
-    unheard-requires
+    (λ c κs. search needs)
     returns
-    tells-requires
+    (λ c κs. search needs)
     returns-2
-    move-on-requires
-    same-length
+    (λ c κs. search needs)
+    (λ c. search needs)
     returns-3)

@@ -6,29 +6,11 @@ use borrow.Author.Needs.{needs}
 use Rattle.pipes.proofs.hearing.move_on.Statement.{statement}
 use Rattle.pipes.proofs.hearing.move_on.Tie as tie
 
-fits-in-requires : tie.Need-fits-in-requires
-fits-in-requires c κs = search needs
-
-read-requires : tie.Need-read-requires
-read-requires c κs = search needs
-
 turned-requires : tie.Need-turned-requires
 turned-requires c κs = let s = c .before .before .before in let a = s .before .before .before .args in rw (c .read .ensures) (received-fits (a .lengths) (a .pipe .now) (sym (s .fits-in .ensures) ∙ c .before .before .if1 .taken))
 
-store-requires : tie.Need-store-requires
-store-requires c κs = search needs
-
-same-length : tie.Need-same-length
-same-length c = search needs
-
 returns : tie.Need-returns
 returns c = let s = c .before .before .before .before .before .before .before .before in let e = sym (s .before .fits-in .ensures) ∙ s .if1 .taken in let t = c .before .before .before .before .before .turned .ensures in let u = c .before .before .before .before .before .before .read .ensures in (rw (t, u, e), rw (c .before .before .store .ensures, t, u, e))
-
-unheard-requires : tie.Need-unheard-requires
-unheard-requires c κs = search needs
-
-same-length-2 : tie.Need-same-length-2
-same-length-2 c = search needs
 
 returns-2 : tie.Need-returns-2
 returns-2 c = let e = sym (c .before .before .fits-in .ensures) ∙ c .before .if1 .left in (rw (c .unheard .ensures, e), rw e)
@@ -37,12 +19,12 @@ pub move-on-spec : {M : Type 1} → statement M
 move-on-spec =
     tie.close
     (tie.spec
-    fits-in-requires
-    read-requires
+    (λ c κs. search needs)
+    (λ c κs. search needs)
     turned-requires
-    store-requires
-    same-length
+    (λ c κs. search needs)
+    (λ c. search needs)
     returns
-    unheard-requires
-    same-length-2
+    (λ c κs. search needs)
+    (λ c. search needs)
     returns-2)

@@ -10,21 +10,6 @@ use borrow.Author.Needs.{needs}
 use Rattle.pipes.proofs.response.hand_over.Statement.{statement}
 use Rattle.pipes.proofs.response.hand_over.Tie as tie
 
-read-requires : tie.Need-read-requires
-read-requires c κs = search needs
-
-sent-requires : tie.Need-sent-requires
-sent-requires c κs = search needs
-
-room-for-requires : tie.Need-room-for-requires
-room-for-requires c κs = search needs
-
-cast-t17 : tie.Need-cast-t17
-cast-t17 c = search needs
-
-cast-t20 : tie.Need-cast-t20
-cast-t20 c = search needs
-
 part-of-requires : tie.Need-part-of-requires
 part-of-requires c κs =
     let a = c .before .before .before .before .before .before .before .before .before .args in
@@ -50,10 +35,10 @@ pub hand-over-spec : {M : Type 1} → statement M
 hand-over-spec =
     tie.close
     (tie.spec
-    read-requires
-    sent-requires
-    room-for-requires
-    cast-t17
-    cast-t20
+    (λ c κs. search needs)
+    (λ c κs. search needs)
+    (λ c κs. search needs)
+    (λ c. search needs)
+    (λ c. search needs)
     part-of-requires
     returns)

@@ -9,25 +9,10 @@ use borrow.Author.Needs.{needs}
 use Rattle.pipes.proofs.response.settle.Statement.{statement}
 use Rattle.pipes.proofs.response.settle.Tie as tie
 
-is-setup-requires : tie.Need-is-setup-requires
-is-setup-requires c κs = search needs
-
-device-body-requires : tie.Need-device-body-requires
-device-body-requires c κs = search needs
-
-peek-requires : tie.Need-peek-requires
-peek-requires c κs = search needs
-
 begin-requires : tie.Need-begin-requires
 begin-requires c κs =
     let start = c .before .before .before .before .before .before .before in
     (start .pre .0, (start .pre .1 .0, start .pre .1 .1 (sym (c .before .before .before .before .is-setup .ensures) ∙ c .before .before .before .if1 .taken)))
-
-with-bytes-requires : tie.Need-with-bytes-requires
-with-bytes-requires c κs = search needs
-
-same-length : tie.Need-same-length
-same-length c = search needs
 
 returns : tie.Need-returns
 returns c =
@@ -35,18 +20,6 @@ returns c =
     let a = was .before .before .before .before .before .before .before .before .args in
     let size = was .before .before .peek .ensures ∙ ap (λ (l : List ℕ). byte l 7) (was .before .before .before .device-body .ensures) in
     settle-begins (bMaxPacketSize0 (deviceBody (a .set .now))) (a .wire) (a .setup) (a .answer) (a .pipe .now) (was .before .before .peek .result) (was .begin .result) (sym (was .before .before .before .before .before .is-setup .ensures) ∙ was .before .before .before .before .if1 .taken) size (was .begin .ensures .0) (was .begin .ensures .1) (c .with-bytes .ensures)
-
-number-requires : tie.Need-number-requires
-number-requires c κs = search needs
-
-restart-requires : tie.Need-restart-requires
-restart-requires c κs = search needs
-
-plain-requires : tie.Need-plain-requires
-plain-requires c κs = search needs
-
-same-length-2 : tie.Need-same-length-2
-same-length-2 c = search needs
 
 returns-2 : tie.Need-returns-2
 returns-2 c =
@@ -58,15 +31,15 @@ pub settle-spec : {M : Type 1} → statement M
 settle-spec =
     tie.close
     (tie.spec
-    is-setup-requires
-    device-body-requires
-    peek-requires
+    (λ c κs. search needs)
+    (λ c κs. search needs)
+    (λ c κs. search needs)
     begin-requires
-    with-bytes-requires
-    same-length
+    (λ c κs. search needs)
+    (λ c. search needs)
     returns
-    number-requires
-    restart-requires
-    plain-requires
-    same-length-2
+    (λ c κs. search needs)
+    (λ c κs. search needs)
+    (λ c κs. search needs)
+    (λ c. search needs)
     returns-2)

@@ -3,14 +3,8 @@ use borrow.Author.Needs.{needs}
 use Rattle.pipes.proofs.response.with_bytes.Statement.{statement}
 use Rattle.pipes.proofs.response.with_bytes.Tie as tie
 
-bytes-of-requires : tie.Need-bytes-of-requires
-bytes-of-requires c κs = search needs
-
-number-requires : tie.Need-number-requires
-number-requires c κs = search needs
-
 returns : tie.Need-returns
 returns c = rw (c .number .ensures, c .before .bytes-of .ensures)
 
 pub with-bytes-spec : {M : Type 1} → statement M
-with-bytes-spec = tie.close (tie.spec bytes-of-requires number-requires returns)
+with-bytes-spec = tie.close (tie.spec (λ c κs. search needs) (λ c κs. search needs) returns)

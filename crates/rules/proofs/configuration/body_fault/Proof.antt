@@ -24,20 +24,8 @@ stepped c = c .advance .ensures .steps
 some : (c : tie.Else1) → 0 < length (c .before .before .args .body .now)
 some c = omega (arith, c .if1 .left)
 
-ask-requires : tie.Need-ask-requires
-ask-requires c κs = search needs
-
 returns : tie.Need-returns
 returns c = rw (body-none (c .before .before .before .args .limits) (c .before .before .before .args .start) (c .before .before .before .args .body .now) (c .before .if1 .taken)) (ends _ _ (c .ask .ensures))
-
-advance-requires : tie.Need-advance-requires
-advance-requires c κs = search needs
-
-peek-requires : tie.Need-peek-requires
-peek-requires c κs = search needs
-
-stuck-fault-requires : tie.Need-stuck-fault-requires
-stuck-fault-requires c κs = search needs
 
 returns-2 : tie.Need-returns-2
 returns-2 c =
@@ -47,15 +35,6 @@ returns-2 c =
 
 slice-aggregate-head : tie.Need-slice-aggregate-head
 slice-aggregate-head c = sym (length-take-le _ _ (head-inside (c .before .before .before .before .before .args .body .now) _ (stepped (c .before .before)) (omega (arith, c .before .if2 .left))))
-
-head-fault-requires : tie.Need-head-fault-requires
-head-fault-requires c κs = search needs
-
-head-numbers-fault-requires : tie.Need-head-numbers-fault-requires
-head-numbers-fault-requires c κs = search needs
-
-peek-requires-2 : tie.Need-peek-requires-2
-peek-requires-2 c κs = search needs
 
 rest-fault-requires : tie.Need-rest-fault-requires
 rest-fault-requires c κs = c .before .before .before .before .before .before .before .before .pre
@@ -76,15 +55,15 @@ pub body-fault-spec : {M : Type 1} → statement M
 body-fault-spec =
     tie.close
     (tie.spec
-    ask-requires
+    (λ c κs. search needs)
     returns
-    advance-requires
-    peek-requires
-    stuck-fault-requires
+    (λ c κs. search needs)
+    (λ c κs. search needs)
+    (λ c κs. search needs)
     returns-2
     slice-aggregate-head
-    head-fault-requires
-    head-numbers-fault-requires
-    peek-requires-2
+    (λ c κs. search needs)
+    (λ c κs. search needs)
+    (λ c κs. search needs)
     rest-fault-requires
     returns-3)

@@ -23,49 +23,13 @@ Inv-loop set limits count found₀ index₀ seen₀ i₀ found index seen i =
 abbrev μ-loop : tie.MeasureT-loop
 μ-loop set limits count found₀ index₀ seen₀ i₀ found index seen i = count - i
 
-peek-requires : tie.Need-peek-requires Inv-loop μ-loop
-peek-requires c κs = search needs
-
 loop-holds : tie.Need-loop-holds Inv-loop μ-loop
 loop-holds c =
     let a = c .before .before .args in
     (omega arith, refl, [], seen-none, ap (λ es. after (a .found) (configurationsFrom (a .limits) (a .set .now) 4 0 [] es)) (rest-start (a .set .now)))
 
-entry-at-requires : tie.Need-entry-at-requires Inv-loop μ-loop
-entry-at-requires c κs = search needs
-
-cast-at : tie.Need-cast-at Inv-loop μ-loop
-cast-at c = search needs
-
-mul-at : tie.Need-mul-at Inv-loop μ-loop
-mul-at c = search needs
-
-add-at : tie.Need-add-at Inv-loop μ-loop
-add-at c = search needs
-
-add-i : tie.Need-add-i Inv-loop μ-loop
-add-i c = search needs
-
-body-of-requires : tie.Need-body-of-requires Inv-loop μ-loop
-body-of-requires c κs = search needs
-
-peek-requires-2 : tie.Need-peek-requires-2 Inv-loop μ-loop
-peek-requires-2 c κs = search needs
-
-holds-requires : tie.Need-holds-requires Inv-loop μ-loop
-holds-requires c κs = search needs
-
 configuration-fault-requires : tie.Need-configuration-fault-requires Inv-loop μ-loop
 configuration-fault-requires c κs = rw (c .before .before .before .body-of .ensures) (body-small (c .before .before .before .before .before .before .before .before .before .before .before .args .set .now) (4 + 8 * c .before .before .before .before .before .before .before .before .loop .i) (λ k. c .before .before .before .before .before .before .before .before .before .before .shared-slice-known .given k .fits) (c .before .before .before .before .before .before .entry-at .ensures))
-
-join-requires : tie.Need-join-requires Inv-loop μ-loop
-join-requires c κs = search needs
-
-add-index : tie.Need-add-index Inv-loop μ-loop
-add-index c = search needs
-
-loop-less : tie.Need-loop-less Inv-loop μ-loop
-loop-less c = search needs
 
 loop-again : tie.Need-loop-again Inv-loop μ-loop
 loop-again c =
@@ -88,9 +52,6 @@ loop-again c =
           ∙ configuration-in (a .limits) set (l .i) (l .index) (l .inv .2) (l .found) e _ (t .if1 .taken)
           (rw (c .before .before .before .holds .ensures, value, l .inv .3 (bodyOf set e) small, c .before .before .before .before .before .before .body-of .ensures) at (c .before .before .configuration-fault .ensures)),
     )
-
-loop-less-2 : tie.Need-loop-less-2 Inv-loop μ-loop
-loop-less-2 c = search needs
 
 loop-again-2 : tie.Need-loop-again-2 Inv-loop μ-loop
 loop-again-2 c =
@@ -125,21 +86,21 @@ configurations-fault-spec =
     (tie.spec
     Inv-loop
     μ-loop
-    peek-requires
+    (λ c κs. search needs)
     loop-holds
-    entry-at-requires
-    cast-at
-    mul-at
-    add-at
-    add-i
-    body-of-requires
-    peek-requires-2
-    holds-requires
+    (λ c κs. search needs)
+    (λ c. search needs)
+    (λ c. search needs)
+    (λ c. search needs)
+    (λ c. search needs)
+    (λ c κs. search needs)
+    (λ c κs. search needs)
+    (λ c κs. search needs)
     configuration-fault-requires
-    join-requires
-    add-index
-    loop-less
+    (λ c κs. search needs)
+    (λ c. search needs)
+    (λ c. search needs)
     loop-again
-    loop-less-2
+    (λ c. search needs)
     loop-again-2
     returns)

@@ -6,36 +6,6 @@ use borrow.Author.Needs.{needs}
 use Rattle.rules.proofs.configuration.endpoint_fault.Statement.{statement}
 use Rattle.rules.proofs.configuration.endpoint_fault.Tie as tie
 
-peek-requires : tie.Need-peek-requires
-peek-requires c κs = search needs
-
-peek-requires-2 : tie.Need-peek-requires-2
-peek-requires-2 c κs = search needs
-
-word-requires : tie.Need-word-requires
-word-requires c κs = search needs
-
-peek-requires-3 : tie.Need-peek-requires-3
-peek-requires-3 c κs = search needs
-
-ask-requires : tie.Need-ask-requires
-ask-requires c κs = search needs
-
-surplus-fault-requires : tie.Need-surplus-fault-requires
-surplus-fault-requires c κs = search needs
-
-numbers-fault-requires : tie.Need-numbers-fault-requires
-numbers-fault-requires c κs = search needs
-
-size-fault-requires : tie.Need-size-fault-requires
-size-fault-requires c κs = search needs
-
-interval-fault-requires : tie.Need-interval-fault-requires
-interval-fault-requires c κs = search needs
-
-address-fault-requires : tie.Need-address-fault-requires
-address-fault-requires c κs = search needs
-
 returns : tie.Need-returns
 returns c =
     let a = c .before .before .before .before .before .before .before .before .before .before .before .args in
@@ -54,14 +24,14 @@ pub endpoint-fault-spec : {M : Type 1} → statement M
 endpoint-fault-spec =
     tie.close
     (tie.spec
-    peek-requires
-    peek-requires-2
-    word-requires
-    peek-requires-3
-    ask-requires
-    surplus-fault-requires
-    numbers-fault-requires
-    size-fault-requires
-    interval-fault-requires
-    address-fault-requires
+    (λ c κs. search needs)
+    (λ c κs. search needs)
+    (λ c κs. search needs)
+    (λ c κs. search needs)
+    (λ c κs. search needs)
+    (λ c κs. search needs)
+    (λ c κs. search needs)
+    (λ c κs. search needs)
+    (λ c κs. search needs)
+    (λ c κs. search needs)
     returns)

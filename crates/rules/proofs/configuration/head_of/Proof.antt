@@ -5,9 +5,6 @@ use borrow.Author.Needs.{needs}
 use Rattle.rules.proofs.configuration.head_of.Statement.{statement}
 use Rattle.rules.proofs.configuration.head_of.Tie as tie
 
-peek-requires : tie.Need-peek-requires
-peek-requires c κs = search needs
-
 returns : tie.Need-returns
 returns c = simp (eq-eqb _ _ (sym (c .before .peek .ensures) ∙ c .if1 .taken))
 
@@ -18,6 +15,6 @@ pub head-of-spec : {M : Type 1} → statement M
 head-of-spec =
     tie.close
     (tie.spec
-    peek-requires
+    (λ c κs. search needs)
     returns
     returns-2)

@@ -4,18 +4,6 @@ use borrow.Author.Needs.{needs}
 use Rattle.rules.proofs.configuration.interface_fault.Statement.{statement}
 use Rattle.rules.proofs.configuration.interface_fault.Tie as tie
 
-ask-requires : tie.Need-ask-requires
-ask-requires c κs = search needs
-
-ask-requires-2 : tie.Need-ask-requires-2
-ask-requires-2 c κs = search needs
-
-placed-fault-requires : tie.Need-placed-fault-requires
-placed-fault-requires c κs = search needs
-
-ask-requires-3 : tie.Need-ask-requires-3
-ask-requires-3 c κs = search needs
-
 returns : tie.Need-returns
 returns c = asks _ _ _ (c .before .before .before .before .ask .ensures) (asks _ _ _ (c .before .before .before .ask2 .ensures) (joins _ _ _ (c .before .before .placed-fault .ensures) (ends _ _ (c .ask3 .ensures))))
 
@@ -23,8 +11,8 @@ pub interface-fault-spec : {M : Type 1} → statement M
 interface-fault-spec =
     tie.close
     (tie.spec
-    ask-requires
-    ask-requires-2
-    placed-fault-requires
-    ask-requires-3
+    (λ c κs. search needs)
+    (λ c κs. search needs)
+    (λ c κs. search needs)
+    (λ c κs. search needs)
     returns)

@@ -24,23 +24,11 @@ abbrev μ-loop : tie.MeasureT-loop
 inside : (c : tie.Else1 Inv-loop μ-loop) → c .before .advance .result .end ≤ length (c .before .before .before .before .before .before .args .body .now)
 inside c = goes-on (c .before .before .before .before .before .before .args .body .now) (c .before .before .before .loop .at) (standIn (c .before .before .before .loop .last)) (paceOf (c .before .advance .result)) (c .before .advance .ensures .steps) (c .before .before .loop-test .taken) (c .if1 .left) .inside
 
-start-requires : tie.Need-start-requires Inv-loop μ-loop
-start-requires c κs = search needs
-
 loop-holds : tie.Need-loop-holds Inv-loop μ-loop
 loop-holds c = rw (c .start .ensures)
 
 cast-place : tie.Need-cast-place Inv-loop μ-loop
 cast-place c = omega (arith, c .loop-test .taken, c .before .before .before .before .pre)
-
-advance-requires : tie.Need-advance-requires Inv-loop μ-loop
-advance-requires c κs = search needs
-
-peek-requires : tie.Need-peek-requires Inv-loop μ-loop
-peek-requires c κs = search needs
-
-stuck-fault-requires : tie.Need-stuck-fault-requires Inv-loop μ-loop
-stuck-fault-requires c κs = search needs
 
 returns : tie.Need-returns Inv-loop μ-loop
 returns c =
@@ -49,26 +37,8 @@ returns c =
     (rw (c .before .peek .ensures) at (c .stuck-fault .ensures))
     ∙ sym (l .inv ∙ rest-stuck (a .limits) (a .start) (a .interfaces) (a .body .now) (l .at) (l .head) (progressIn (l .progress)) (standIn (l .last)) (l .found) _ (c .before .before .before .advance .ensures .steps) (c .before .before .before .before .loop-test .taken) (c .before .before .if1 .taken))
 
-sub-d : tie.Need-sub-d Inv-loop μ-loop
-sub-d c = search needs
-
-part-d-start : tie.Need-part-d-start Inv-loop μ-loop
-part-d-start c = search needs
-
 part-d-end : tie.Need-part-d-end Inv-loop μ-loop
 part-d-end c = inside c
-
-stand-in-requires : tie.Need-stand-in-requires Inv-loop μ-loop
-stand-in-requires c κs = search needs
-
-descriptor-fault-requires : tie.Need-descriptor-fault-requires Inv-loop μ-loop
-descriptor-fault-requires c κs = search needs
-
-move-on-requires : tie.Need-move-on-requires Inv-loop μ-loop
-move-on-requires c κs = search needs
-
-head-of-requires : tie.Need-head-of-requires Inv-loop μ-loop
-head-of-requires c κs = search needs
 
 loop-less : tie.Need-loop-less Inv-loop μ-loop
 loop-less c = let w = c .before .before .before .before .before in let i = inside w in omega (arith, i, w .if1 .left, w .before .before .loop-test .taken)
@@ -85,12 +55,6 @@ loop-again c =
     ∙ rest-on (a .limits) (a .start) (a .interfaces) (a .body .now) (l .at) (l .head) (progressIn (l .progress)) (standIn (l .last)) (l .found) _ (s .ensures .steps) (w .before .before .loop-test .taken) (w .if1 .left)
     (rw last at (c .before .before .descriptor-fault .ensures)) (rw last at (c .before .move-on .ensures)) (c .head-of .ensures))
 
-stand-in-requires-2 : tie.Need-stand-in-requires-2 Inv-loop μ-loop
-stand-in-requires-2 c κs = search needs
-
-end-fault-requires : tie.Need-end-fault-requires Inv-loop μ-loop
-end-fault-requires c κs = search needs
-
 returns-2 : tie.Need-returns-2 Inv-loop μ-loop
 returns-2 c =
     let l = c .before .before .before .loop in
@@ -104,22 +68,22 @@ rest-fault-spec =
     (tie.spec
     Inv-loop
     μ-loop
-    start-requires
+    (λ c κs. search needs)
     loop-holds
     cast-place
-    advance-requires
-    peek-requires
-    stuck-fault-requires
+    (λ c κs. search needs)
+    (λ c κs. search needs)
+    (λ c κs. search needs)
     returns
-    sub-d
-    part-d-start
+    (λ c. search needs)
+    (λ c. search needs)
     part-d-end
-    stand-in-requires
-    descriptor-fault-requires
-    move-on-requires
-    head-of-requires
+    (λ c κs. search needs)
+    (λ c κs. search needs)
+    (λ c κs. search needs)
+    (λ c κs. search needs)
     loop-less
     loop-again
-    stand-in-requires-2
-    end-fault-requires
+    (λ c κs. search needs)
+    (λ c κs. search needs)
     returns-2)

@@ -6,17 +6,8 @@ use borrow.Author.Needs.{needs}
 use Rattle.rules.proofs.configuration.type_fault.Statement.{statement}
 use Rattle.rules.proofs.configuration.type_fault.Tie as tie
 
-peek-requires : tie.Need-peek-requires
-peek-requires c κs = search needs
-
-interface-fault-requires : tie.Need-interface-fault-requires
-interface-fault-requires c κs = search needs
-
 returns : tie.Need-returns
 returns c = simp (eq-eqb _ _ (sym (c .before .before .peek .ensures) ∙ c .before .if1 .taken)) (c .interface-fault .ensures)
-
-endpoint-fault-requires : tie.Need-endpoint-fault-requires
-endpoint-fault-requires c κs = search needs
 
 returns-2 : tie.Need-returns-2
 returns-2 c = simp (ne-eqb _ _ (λ e. c .before .before .if1 .left (c .before .before .before .peek .ensures ∙ e)), eq-eqb _ _ (sym (c .before .before .before .peek .ensures) ∙ c .before .if2 .taken)) (c .endpoint-fault .ensures)
@@ -29,9 +20,9 @@ pub type-fault-spec : {M : Type 1} → statement M
 type-fault-spec =
     tie.close
     (tie.spec
-    peek-requires
-    interface-fault-requires
+    (λ c κs. search needs)
+    (λ c κs. search needs)
     returns
-    endpoint-fault-requires
+    (λ c κs. search needs)
     returns-2
     returns-3)

@@ -7,27 +7,6 @@ use borrow.Author.Needs.{needs}
 use Rattle.rules.proofs.device.device_fault.Statement.{statement}
 use Rattle.rules.proofs.device.device_fault.Tie as tie
 
-entry-of-requires : tie.Need-entry-of-requires
-entry-of-requires c κs = search needs
-
-enum-known-e : tie.Need-enum-known-e
-enum-known-e c = search needs
-
-count-of-requires : tie.Need-count-of-requires
-count-of-requires c κs = search needs
-
-ask-requires : tie.Need-ask-requires
-ask-requires c κs = search needs
-
-one-fault-requires : tie.Need-one-fault-requires
-one-fault-requires c κs = search needs
-
-enum-told : tie.Need-enum-told
-enum-told c = search needs
-
-ask-requires-2 : tie.Need-ask-requires-2
-ask-requires-2 c κs = search needs
-
 returns : tie.Need-returns
 returns c =
     let s = c .before .before .before .before .before .before in
@@ -46,12 +25,12 @@ pub device-fault-spec : {M : Type 1} → statement M
 device-fault-spec =
     tie.close
     (tie.spec
-    entry-of-requires
-    enum-known-e
-    count-of-requires
-    ask-requires
-    one-fault-requires
-    enum-told
-    ask-requires-2
+    (λ c κs. search needs)
+    (λ c. search needs)
+    (λ c κs. search needs)
+    (λ c κs. search needs)
+    (λ c κs. search needs)
+    (λ c. search needs)
+    (λ c κs. search needs)
     returns
     returns-2)

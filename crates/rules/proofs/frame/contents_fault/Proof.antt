@@ -23,47 +23,8 @@ Inv-loop set limits count found₀ start₀ last₀ i₀ found start last i =
 abbrev μ-loop : tie.MeasureT-loop
 μ-loop set limits count found₀ start₀ last₀ i₀ found start last i = count - i
 
-peek-requires : tie.Need-peek-requires Inv-loop μ-loop
-peek-requires c κs = search needs
-
-cast-start : tie.Need-cast-start Inv-loop μ-loop
-cast-start c = search needs
-
-mul-start : tie.Need-mul-start Inv-loop μ-loop
-mul-start c = search needs
-
-add-start : tie.Need-add-start Inv-loop μ-loop
-add-start c = search needs
-
 loop-holds : tie.Need-loop-holds Inv-loop μ-loop
 loop-holds c = let a = c .before .before .args in (omega arith, omega arith, rw (c .peek .ensures) (ap (λ es. after (a .found) (contentsAsked (a .limits) (total (a .set .now)) 4 true noEntry (bodiesAt (a .set .now)) es)) (rest-start (a .set .now))))
-
-entry-at-requires : tie.Need-entry-at-requires Inv-loop μ-loop
-entry-at-requires c κs = search needs
-
-cast-entry-fault : tie.Need-cast-entry-fault Inv-loop μ-loop
-cast-entry-fault c = search needs
-
-mul-entry-fault : tie.Need-mul-entry-fault Inv-loop μ-loop
-mul-entry-fault c = search needs
-
-add-entry-fault : tie.Need-add-entry-fault Inv-loop μ-loop
-add-entry-fault c = search needs
-
-entry-fault-requires : tie.Need-entry-fault-requires Inv-loop μ-loop
-entry-fault-requires c κs = search needs
-
-cast-start-2 : tie.Need-cast-start-2 Inv-loop μ-loop
-cast-start-2 c = search needs
-
-add-start-2 : tie.Need-add-start-2 Inv-loop μ-loop
-add-start-2 c = search needs
-
-add-i : tie.Need-add-i Inv-loop μ-loop
-add-i c = search needs
-
-loop-less : tie.Need-loop-less Inv-loop μ-loop
-loop-less c = search needs
 
 loop-again : tie.Need-loop-again Inv-loop μ-loop
 loop-again c =
@@ -78,24 +39,6 @@ loop-again c =
           (next-entry set (s .before .before .before .peek .result) (s .before .before .before .peek .ensures) (l .i) (s .before .loop-test .taken) (s .entry-at .result) (s .entry-at .ensures))
           ∙ contents-turn (a .limits) (total set) (l .i) (l .last) (l .start) (l .found) (s .entry-at .result) _ (c .before .entry-fault .ensures),
     )
-
-cast-ask : tie.Need-cast-ask Inv-loop μ-loop
-cast-ask c = search needs
-
-mul-ask : tie.Need-mul-ask Inv-loop μ-loop
-mul-ask c = search needs
-
-add-ask : tie.Need-add-ask Inv-loop μ-loop
-add-ask c = search needs
-
-word-requires : tie.Need-word-requires Inv-loop μ-loop
-word-requires c κs = search needs
-
-cast-ask-2 : tie.Need-cast-ask-2 Inv-loop μ-loop
-cast-ask-2 c = search needs
-
-ask-requires : tie.Need-ask-requires Inv-loop μ-loop
-ask-requires c κs = search needs
 
 returns : tie.Need-returns Inv-loop μ-loop
 returns c =
@@ -116,25 +59,25 @@ contents-fault-spec =
     (tie.spec
     Inv-loop
     μ-loop
-    peek-requires
-    cast-start
-    mul-start
-    add-start
+    (λ c κs. search needs)
+    (λ c. search needs)
+    (λ c. search needs)
+    (λ c. search needs)
     loop-holds
-    entry-at-requires
-    cast-entry-fault
-    mul-entry-fault
-    add-entry-fault
-    entry-fault-requires
-    cast-start-2
-    add-start-2
-    add-i
-    loop-less
+    (λ c κs. search needs)
+    (λ c. search needs)
+    (λ c. search needs)
+    (λ c. search needs)
+    (λ c κs. search needs)
+    (λ c. search needs)
+    (λ c. search needs)
+    (λ c. search needs)
+    (λ c. search needs)
     loop-again
-    cast-ask
-    mul-ask
-    add-ask
-    word-requires
-    cast-ask-2
-    ask-requires
+    (λ c. search needs)
+    (λ c. search needs)
+    (λ c. search needs)
+    (λ c κs. search needs)
+    (λ c. search needs)
+    (λ c κs. search needs)
     returns)

@@ -21,28 +21,10 @@ Inv-loop set language table count next₀ i₀ next i = (length next ≡ 8) × (
 abbrev μ-loop : tie.MeasureT-loop
 μ-loop set language table count next₀ i₀ next i = count - i
 
-peek-requires : tie.Need-peek-requires Inv-loop μ-loop
-peek-requires c κs = search needs
-
 loop-holds : tie.Need-loop-holds Inv-loop μ-loop
 loop-holds c =
     let a = c .before .before .args in
     (refl, λ j h. rw (has-none j) (ap (λ es. has (a .table .now) j && any (isString j (a .language)) (piecesOf 3 (map (pieceFor (a .set .now)) es))) (rest-start (a .set .now))))
-
-entry-at-requires : tie.Need-entry-at-requires Inv-loop μ-loop
-entry-at-requires c κs = search needs
-
-add-i : tie.Need-add-i Inv-loop μ-loop
-add-i c = search needs
-
-is-listed-requires : tie.Need-is-listed-requires Inv-loop μ-loop
-is-listed-requires c κs = search needs
-
-join-requires : tie.Need-join-requires Inv-loop μ-loop
-join-requires c κs = search needs
-
-loop-less : tie.Need-loop-less Inv-loop μ-loop
-loop-less c = search needs
 
 loop-again : tie.Need-loop-again Inv-loop μ-loop
 loop-again c =
@@ -52,9 +34,6 @@ loop-again c =
       rw (c .join .ensures) (with-long (l .next) _ (l .inv .0)),
       λ j h. asked-next (λ es. has (l .next) j || (has (a .table .now) j && any (isString j (a .language)) (piecesOf 3 (map (pieceFor (a .set .now)) es)))) (a .set .now) _ (s .before .before .before .peek .ensures) (l .i) (l .inv .1 j h) (s .before .loop-test .taken) _ (s .entry-at .ensures) ∙ entry-in (a .table .now) (l .next) (a .language) (pieceFor (a .set .now) (s .entry-at .result)) _ j (l .inv .0) (search needs) (sym (c .before .before .before .is-listed .ensures) ∙ c .before .before .if1 .taken) ∙ rw (c .join .ensures),
     )
-
-loop-less-2 : tie.Need-loop-less-2 Inv-loop μ-loop
-loop-less-2 c = search needs
 
 loop-again-2 : tie.Need-loop-again-2 Inv-loop μ-loop
 loop-again-2 c =
@@ -80,14 +59,14 @@ in-language-spec =
     (tie.spec
     Inv-loop
     μ-loop
-    peek-requires
+    (λ c κs. search needs)
     loop-holds
-    entry-at-requires
-    add-i
-    is-listed-requires
-    join-requires
-    loop-less
+    (λ c κs. search needs)
+    (λ c. search needs)
+    (λ c κs. search needs)
+    (λ c κs. search needs)
+    (λ c. search needs)
     loop-again
-    loop-less-2
+    (λ c. search needs)
     loop-again-2
     returns)

@@ -5,17 +5,8 @@ use borrow.Author.Needs.{needs}
 use Rattle.rules.proofs.progress.move_on.Statement.{statement}
 use Rattle.rules.proofs.progress.move_on.Tie as tie
 
-peek-requires : tie.Need-peek-requires
-peek-requires c κs = search needs
-
-at-interface-requires : tie.Need-at-interface-requires
-at-interface-requires c κs = search needs
-
 returns : tie.Need-returns
 returns c = simp (eq-eqb _ _ (sym (c .before .before .peek .ensures) ∙ c .before .if1 .taken)) (c .at-interface .ensures)
-
-at-endpoint-requires : tie.Need-at-endpoint-requires
-at-endpoint-requires c κs = search needs
 
 returns-2 : tie.Need-returns-2
 returns-2 c = simp (ne-eqb _ _ (λ e. c .before .before .if1 .left (c .before .before .before .peek .ensures ∙ e)), eq-eqb _ _ (sym (c .before .before .before .peek .ensures) ∙ c .before .if2 .taken)) (c .at-endpoint .ensures)
@@ -26,4 +17,4 @@ returns-3 c = simp (ne-eqb _ _ (λ e. c .before .if1 .left (c .before .before .p
 pub move-on-spec : {M : Type 1} → statement M
 move-on-spec =
     tie.close
-    (tie.spec peek-requires at-interface-requires returns at-endpoint-requires returns-2 returns-3)
+    (tie.spec (λ c κs. search needs) (λ c κs. search needs) returns (λ c κs. search needs) returns-2 returns-3)

@@ -53,23 +53,11 @@ refs c p =
     (rw (c .before .peek .ensures, c .before .before .body-of .ensures, judged-same (c .before .before .before .before .pre .0) (a .e .offset) 0 6 (iConfiguration body) small) at (c .reference-fault .ensures))
     (sym (rw (c .before .before .body-of .ensures) at p))
 
-body-of-requires : tie.Need-body-of-requires Inv-loop μ-loop
-body-of-requires c κs = search needs
-
-peek-requires : tie.Need-peek-requires Inv-loop μ-loop
-peek-requires c κs = search needs
-
-reference-fault-requires : tie.Need-reference-fault-requires Inv-loop μ-loop
-reference-fault-requires c κs = search needs
-
 loop-holds : tie.Need-loop-holds Inv-loop μ-loop
 loop-holds c = refl
 
 cast-place : tie.Need-cast-place Inv-loop μ-loop
 cast-place c = let s = rw (← c .before .before .before .before .body-of .ensures) at (short (c .before .before .before .before .before .before .args .set .now) (c .before .before .before .before .before .before .args .e)) in omega (arith, c .loop-test .taken, s, c .before .before .before .before .before .before .pre .1)
-
-advance-requires : tie.Need-advance-requires Inv-loop μ-loop
-advance-requires c κs = search needs
 
 returns : tie.Need-returns Inv-loop μ-loop
 returns c =
@@ -78,17 +66,8 @@ returns c =
     refs (c .before .before .before .before)
     (l .inv ∙ interfaces-stuck (a .set .now) (a .e .offset) (c .before .before .before .before .before .before .body-of .result .now) (l .at) (l .found) (standIn (l .last)) _ (c .before .advance .ensures .steps) (c .before .before .loop-test .taken) (c .if1 .taken))
 
-sub-interface-fault : tie.Need-sub-interface-fault Inv-loop μ-loop
-sub-interface-fault c = search needs
-
-part-interface-fault-start : tie.Need-part-interface-fault-start Inv-loop μ-loop
-part-interface-fault-start c = search needs
-
 part-interface-fault-end : tie.Need-part-interface-fault-end Inv-loop μ-loop
 part-interface-fault-end c = inside c
-
-interface-fault-requires : tie.Need-interface-fault-requires Inv-loop μ-loop
-interface-fault-requires c κs = search needs
 
 loop-less : tie.Need-loop-less Inv-loop μ-loop
 loop-less c = let w = c .before .before in let i = inside w in omega (arith, i, w .if1 .left, w .before .before .loop-test .taken)
@@ -116,17 +95,17 @@ configuration-fault-spec =
     (tie.spec
     Inv-loop
     μ-loop
-    body-of-requires
-    peek-requires
-    reference-fault-requires
+    (λ c κs. search needs)
+    (λ c κs. search needs)
+    (λ c κs. search needs)
     loop-holds
     cast-place
-    advance-requires
+    (λ c κs. search needs)
     returns
-    sub-interface-fault
-    part-interface-fault-start
+    (λ c. search needs)
+    (λ c. search needs)
     part-interface-fault-end
-    interface-fault-requires
+    (λ c κs. search needs)
     loop-less
     loop-again
     returns-2)

@@ -21,35 +21,11 @@ Inv-loop set zero serial count found₀ i₀ found i =
 abbrev μ-loop : tie.MeasureT-loop
 μ-loop set zero serial count found₀ i₀ found i = count - i
 
-peek-requires : tie.Need-peek-requires Inv-loop μ-loop
-peek-requires c κs = search needs
-
 loop-holds : tie.Need-loop-holds Inv-loop μ-loop
 loop-holds c = let a = c .before .before .before .args in ap (λ es. after (a .found) (stringsFrom (a .set .now) (words (drop 2 (a .zero .now))) (a .serial) 4 es)) (rest-start (a .set .now))
 
-entry-at-requires : tie.Need-entry-at-requires Inv-loop μ-loop
-entry-at-requires c κs = search needs
-
-cast-at : tie.Need-cast-at Inv-loop μ-loop
-cast-at c = search needs
-
-mul-at : tie.Need-mul-at Inv-loop μ-loop
-mul-at c = search needs
-
-add-at : tie.Need-add-at Inv-loop μ-loop
-add-at c = search needs
-
-add-i : tie.Need-add-i Inv-loop μ-loop
-add-i c = search needs
-
-body-of-requires : tie.Need-body-of-requires Inv-loop μ-loop
-body-of-requires c κs = search needs
-
 entry-fault-requires : tie.Need-entry-fault-requires Inv-loop μ-loop
 entry-fault-requires c κs = c .before .before .before .before .before .before .before .before .before .pre
-
-loop-less : tie.Need-loop-less Inv-loop μ-loop
-loop-less c = search needs
 
 loop-again : tie.Need-loop-again Inv-loop μ-loop
 loop-again c =
@@ -62,9 +38,6 @@ loop-again c =
     ∙ ap (λ es. after (l .found) (stringsFrom set (words (drop 2 (a .zero .now))) (a .serial) (4 + 8 * l .i) es))
     (next-entry set (s .before .before .before .peek .result) (s .before .before .before .peek .ensures) (l .i) (s .before .loop-test .taken) (s .entry-at .result) (s .entry-at .ensures))
     ∙ string-in set (words (drop 2 (a .zero .now))) (a .serial) (l .i) (l .found) (s .entry-at .result) _ (t .if1 .taken) (rw (c .before .body-of .ensures) at (c .entry-fault .ensures))
-
-loop-less-2 : tie.Need-loop-less-2 Inv-loop μ-loop
-loop-less-2 c = search needs
 
 loop-again-2 : tie.Need-loop-again-2 Inv-loop μ-loop
 loop-again-2 c =
@@ -94,17 +67,17 @@ entries-fault-spec =
     (tie.spec
     Inv-loop
     μ-loop
-    peek-requires
+    (λ c κs. search needs)
     loop-holds
-    entry-at-requires
-    cast-at
-    mul-at
-    add-at
-    add-i
-    body-of-requires
+    (λ c κs. search needs)
+    (λ c. search needs)
+    (λ c. search needs)
+    (λ c. search needs)
+    (λ c. search needs)
+    (λ c κs. search needs)
     entry-fault-requires
-    loop-less
+    (λ c. search needs)
     loop-again
-    loop-less-2
+    (λ c. search needs)
     loop-again-2
     returns)

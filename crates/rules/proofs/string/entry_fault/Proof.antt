@@ -5,24 +5,6 @@ use borrow.Author.Needs.{needs}
 use Rattle.rules.proofs.string.entry_fault.Statement.{statement}
 use Rattle.rules.proofs.string.entry_fault.Tie as tie
 
-lists-requires : tie.Need-lists-requires
-lists-requires c κs = search needs
-
-body-fault-requires : tie.Need-body-fault-requires
-body-fault-requires c κs = search needs
-
-ask-requires : tie.Need-ask-requires
-ask-requires c κs = search needs
-
-zero-fault-requires : tie.Need-zero-fault-requires
-zero-fault-requires c κs = search needs
-
-ask-requires-2 : tie.Need-ask-requires-2
-ask-requires-2 c κs = search needs
-
-ask-requires-3 : tie.Need-ask-requires-3
-ask-requires-3 c κs = search needs
-
 returns : tie.Need-returns
 returns c =
     let a = c .before .before .before .before .before .before .before .before .before .before .before .args in
@@ -34,10 +16,10 @@ pub entry-fault-spec : {M : Type 1} → statement M
 entry-fault-spec =
     tie.close
     (tie.spec
-    lists-requires
-    body-fault-requires
-    ask-requires
-    zero-fault-requires
-    ask-requires-2
-    ask-requires-3
+    (λ c κs. search needs)
+    (λ c κs. search needs)
+    (λ c κs. search needs)
+    (λ c κs. search needs)
+    (λ c κs. search needs)
+    (λ c κs. search needs)
     returns)

@@ -6,15 +6,6 @@ use borrow.Author.Needs.{needs}
 use Rattle.rules.proofs.string.interface_fault.Statement.{statement}
 use Rattle.rules.proofs.string.interface_fault.Tie as tie
 
-peek-requires : tie.Need-peek-requires
-peek-requires c κs = search needs
-
-peek-requires-2 : tie.Need-peek-requires-2
-peek-requires-2 c κs = search needs
-
-reference-fault-requires : tie.Need-reference-fault-requires
-reference-fault-requires c κs = search needs
-
 returns : tie.Need-returns
 returns c = simp (eq-eqb _ _ (sym (c .before .before .before .peek .ensures) ∙ c .before .before .if1 .taken)) (rw (c .before .peek2 .ensures) at (c .reference-fault .ensures))
 
@@ -26,8 +17,8 @@ pub interface-fault-spec : {M : Type 1} → statement M
 interface-fault-spec =
     tie.close
     (tie.spec
-    peek-requires
-    peek-requires-2
-    reference-fault-requires
+    (λ c κs. search needs)
+    (λ c κs. search needs)
+    (λ c κs. search needs)
     returns
     returns-2)

@@ -31,66 +31,6 @@ second c = rw (← c .before .before .before .before .before .before .before .be
 third : (c : tie.After-peek4) → iSerialNumber (deviceBody (c .before .before .before .before .before .before .before .before .before .before .before .before .before .before .before .before .before .args .set .now)) < 256
 third c = rw (← c .before .before .before .before .before .before .before .before .before .before .before .before .device-body .ensures, ← c .peek4 .ensures) (search needs)
 
-serial-index-requires : tie.Need-serial-index-requires
-serial-index-requires c κs = search needs
-
-in-every-language-requires : tie.Need-in-every-language-requires
-in-every-language-requires c κs = search needs
-
-device-body-requires : tie.Need-device-body-requires
-device-body-requires c κs = search needs
-
-peek-requires : tie.Need-peek-requires
-peek-requires c κs = search needs
-
-cast-start : tie.Need-cast-start
-cast-start c = search needs
-
-mul-start : tie.Need-mul-start
-mul-start c = search needs
-
-add-start : tie.Need-add-start
-add-start c = search needs
-
-count-of-requires : tie.Need-count-of-requires
-count-of-requires c κs = search needs
-
-count-of-requires-2 : tie.Need-count-of-requires-2
-count-of-requires-2 c κs = search needs
-
-cast-ask : tie.Need-cast-ask
-cast-ask c = search needs
-
-mul-ask : tie.Need-mul-ask
-mul-ask c = search needs
-
-add-ask : tie.Need-add-ask
-add-ask c = search needs
-
-ask-requires : tie.Need-ask-requires
-ask-requires c κs = search needs
-
-entries-fault-requires : tie.Need-entries-fault-requires
-entries-fault-requires c κs = search needs
-
-peek-requires-2 : tie.Need-peek-requires-2
-peek-requires-2 c κs = search needs
-
-reference-fault-requires : tie.Need-reference-fault-requires
-reference-fault-requires c κs = search needs
-
-peek-requires-3 : tie.Need-peek-requires-3
-peek-requires-3 c κs = search needs
-
-reference-fault-requires-2 : tie.Need-reference-fault-requires-2
-reference-fault-requires-2 c κs = search needs
-
-peek-requires-4 : tie.Need-peek-requires-4
-peek-requires-4 c κs = search needs
-
-reference-fault-requires-3 : tie.Need-reference-fault-requires-3
-reference-fault-requires-3 c κs = search needs
-
 references-fault-requires : tie.Need-references-fault-requires
 references-fault-requires c κs = judges (c .before .before .before .before .before .before .before .before .before .before .before .before .before .before .before .before)
 
@@ -116,25 +56,25 @@ pub judged-fault-spec : {M : Type 1} → statement M
 judged-fault-spec =
     tie.close
     (tie.spec
-    serial-index-requires
-    in-every-language-requires
-    device-body-requires
-    peek-requires
-    cast-start
-    mul-start
-    add-start
-    count-of-requires
-    count-of-requires-2
-    cast-ask
-    mul-ask
-    add-ask
-    ask-requires
-    entries-fault-requires
-    peek-requires-2
-    reference-fault-requires
-    peek-requires-3
-    reference-fault-requires-2
-    peek-requires-4
-    reference-fault-requires-3
+    (λ c κs. search needs)
+    (λ c κs. search needs)
+    (λ c κs. search needs)
+    (λ c κs. search needs)
+    (λ c. search needs)
+    (λ c. search needs)
+    (λ c. search needs)
+    (λ c κs. search needs)
+    (λ c κs. search needs)
+    (λ c. search needs)
+    (λ c. search needs)
+    (λ c. search needs)
+    (λ c κs. search needs)
+    (λ c κs. search needs)
+    (λ c κs. search needs)
+    (λ c κs. search needs)
+    (λ c κs. search needs)
+    (λ c κs. search needs)
+    (λ c κs. search needs)
+    (λ c κs. search needs)
     references-fault-requires
     returns)

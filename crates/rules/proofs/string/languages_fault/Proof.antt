@@ -22,26 +22,8 @@ abbrev μ-loop : tie.MeasureT-loop
 loop-holds : tie.Need-loop-holds Inv-loop μ-loop
 loop-holds c = (omega arith, refl)
 
-add-loop : tie.Need-add-loop Inv-loop μ-loop
-add-loop c = search needs
-
 cast-place : tie.Need-cast-place Inv-loop μ-loop
 cast-place c = omega (arith, c .loop-test .taken, c .before .before .before .pre)
-
-word-requires : tie.Need-word-requires Inv-loop μ-loop
-word-requires c κs = search needs
-
-ask-requires : tie.Need-ask-requires Inv-loop μ-loop
-ask-requires c κs = search needs
-
-ask-requires-2 : tie.Need-ask-requires-2 Inv-loop μ-loop
-ask-requires-2 c κs = search needs
-
-add-at : tie.Need-add-at Inv-loop μ-loop
-add-at c = search needs
-
-loop-less : tie.Need-loop-less Inv-loop μ-loop
-loop-less c = search needs
 
 loop-again : tie.Need-loop-again Inv-loop μ-loop
 loop-again c =
@@ -71,12 +53,12 @@ languages-fault-spec =
     Inv-loop
     μ-loop
     loop-holds
-    add-loop
+    (λ c. search needs)
     cast-place
-    word-requires
-    ask-requires
-    ask-requires-2
-    add-at
-    loop-less
+    (λ c κs. search needs)
+    (λ c κs. search needs)
+    (λ c κs. search needs)
+    (λ c. search needs)
+    (λ c. search needs)
     loop-again
     returns)

@@ -19,23 +19,11 @@ Inv-loop set there serial table count found₀ i₀ found i = after found₀ (re
 abbrev μ-loop : tie.MeasureT-loop
 μ-loop set there serial table count found₀ i₀ found i = count - i
 
-peek-requires : tie.Need-peek-requires Inv-loop μ-loop
-peek-requires c κs = search needs
-
 loop-holds : tie.Need-loop-holds Inv-loop μ-loop
 loop-holds c = let a = c .before .before .args in ap (λ es. after (a .found) (referencesFrom (a .set .now) es)) (rest-start (a .set .now))
 
-entry-at-requires : tie.Need-entry-at-requires Inv-loop μ-loop
-entry-at-requires c κs = search needs
-
-add-i : tie.Need-add-i Inv-loop μ-loop
-add-i c = search needs
-
 configuration-fault-requires : tie.Need-configuration-fault-requires Inv-loop μ-loop
 configuration-fault-requires c κs = (c .before .before .before .before .before .before .before .pre, entry-small (c .before .before .before .before .before .before .before .args .set .now) (4 + 8 * c .before .before .before .before .loop .i) (λ k. c .before .before .before .before .before .before .shared-slice-known .given k .fits) (c .before .before .entry-at .ensures))
-
-loop-less : tie.Need-loop-less Inv-loop μ-loop
-loop-less c = search needs
 
 loop-again : tie.Need-loop-again Inv-loop μ-loop
 loop-again c =
@@ -48,9 +36,6 @@ loop-again c =
     ∙ ap (λ es. after (l .found) (referencesFrom set es))
     (next-entry set (s .before .before .before .peek .result) (s .before .before .before .peek .ensures) (l .i) (s .before .loop-test .taken) (s .entry-at .result) (s .entry-at .ensures))
     ∙ references-in set (l .found) (s .entry-at .result) _ (t .if1 .taken) (c .configuration-fault .ensures)
-
-loop-less-2 : tie.Need-loop-less-2 Inv-loop μ-loop
-loop-less-2 c = search needs
 
 loop-again-2 : tie.Need-loop-again-2 Inv-loop μ-loop
 loop-again-2 c =
@@ -80,13 +65,13 @@ references-fault-spec =
     (tie.spec
     Inv-loop
     μ-loop
-    peek-requires
+    (λ c κs. search needs)
     loop-holds
-    entry-at-requires
-    add-i
+    (λ c κs. search needs)
+    (λ c. search needs)
     configuration-fault-requires
-    loop-less
+    (λ c. search needs)
     loop-again
-    loop-less-2
+    (λ c. search needs)
     loop-again-2
     returns)

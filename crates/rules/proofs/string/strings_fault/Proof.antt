@@ -13,15 +13,6 @@ no-words : words [] ≡ []
 unfolding words
 no-words = refl
 
-find-entry-requires : tie.Need-find-entry-requires
-find-entry-requires c κs = search needs
-
-enum-known-e : tie.Need-enum-known-e
-enum-known-e c = search needs
-
-body-of-requires : tie.Need-body-of-requires
-body-of-requires c κs = search needs
-
 judged-fault-requires : tie.Need-judged-fault-requires
 judged-fault-requires c κs =
     let s = c .before .before .before .before in
@@ -32,18 +23,6 @@ judged-fault-requires c κs =
       found = rw p;
       small = rw (c .body-of .ensures) (zero-small set (λ k. s .before .shared-slice-known .given k .fits) (sym (s .find-entry .ensures) ∙ c .before .before .e .given .1));
     }
-
-enum-told : tie.Need-enum-told
-enum-told c = search needs
-
-sub-judged-fault : tie.Need-sub-judged-fault
-sub-judged-fault c = search needs
-
-part-judged-fault-start : tie.Need-part-judged-fault-start
-part-judged-fault-start c = search needs
-
-part-judged-fault-end : tie.Need-part-judged-fault-end
-part-judged-fault-end c = search needs
 
 judged-fault-requires-2 : tie.Need-judged-fault-requires-2
 judged-fault-requires-2 c κs =
@@ -66,14 +45,14 @@ pub strings-fault-spec : {M : Type 1} → statement M
 strings-fault-spec =
     tie.close
     (tie.spec
-    find-entry-requires
-    enum-known-e
-    body-of-requires
+    (λ c κs. search needs)
+    (λ c. search needs)
+    (λ c κs. search needs)
     judged-fault-requires
-    enum-told
-    sub-judged-fault
-    part-judged-fault-start
-    part-judged-fault-end
+    (λ c. search needs)
+    (λ c. search needs)
+    (λ c. search needs)
+    (λ c. search needs)
     judged-fault-requires-2
     returns
     returns-2)

@@ -6,15 +6,6 @@ use borrow.Author.Needs.{needs}
 use Rattle.rules.proofs.string.zero_fault.Statement.{statement}
 use Rattle.rules.proofs.string.zero_fault.Tie as tie
 
-ask-requires : tie.Need-ask-requires
-ask-requires c κs = search needs
-
-ask-requires-2 : tie.Need-ask-requires-2
-ask-requires-2 c κs = search needs
-
-languages-fault-requires : tie.Need-languages-fault-requires
-languages-fault-requires c κs = search needs
-
 returns : tie.Need-returns
 returns c =
     rw (c .before .before .before .if1 .taken)
@@ -28,8 +19,8 @@ pub zero-fault-spec : {M : Type 1} → statement M
 zero-fault-spec =
     tie.close
     (tie.spec
-    ask-requires
-    ask-requires-2
-    languages-fault-requires
+    (λ c κs. search needs)
+    (λ c κs. search needs)
+    (λ c κs. search needs)
     returns
     returns-2)

@@ -4,12 +4,6 @@ use borrow.Author.Needs.{needs}
 use Rattle.sets.proofs.capabilities.good_capabilities.Statement.{statement}
 use Rattle.sets.proofs.capabilities.good_capabilities.Tie as tie
 
-is-named-requires : tie.Need-is-named-requires
-is-named-requires c κs = search needs
-
-good-store-entries-requires : tie.Need-good-store-entries-requires
-good-store-entries-requires c κs = search needs
-
 returns : tie.Need-returns
 returns c = rw (sym (c .before .before .is-named .ensures) ∙ c .before .if1 .taken) (c .good-store-entries .ensures)
 
@@ -17,4 +11,4 @@ returns-2 : tie.Need-returns-2
 returns-2 c = rw (sym (c .before .is-named .ensures) ∙ c .if1 .left)
 
 pub good-capabilities-spec : {M : Type 1} → statement M
-good-capabilities-spec = tie.close (tie.spec is-named-requires good-store-entries-requires returns returns-2)
+good-capabilities-spec = tie.close (tie.spec (λ c κs. search needs) (λ c κs. search needs) returns returns-2)

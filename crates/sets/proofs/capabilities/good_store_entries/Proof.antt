@@ -9,28 +9,10 @@ use Rattle.sets.proofs.Devices.{sole-one, sole-other, sole-missing}
 use Rattle.sets.proofs.capabilities.good_store_entries.Statement.{statement}
 use Rattle.sets.proofs.capabilities.good_store_entries.Tie as tie
 
-count-of-requires : tie.Need-count-of-requires
-count-of-requires c κs = search needs
-
 returns : tie.Need-returns
 returns c =
     let a = c .before .before .before .args in
     sole-other (a .set .now) goodStore (entriesOf 15 (a .set .now)) (λ p. c .if1 .taken (c .before .count-of .ensures ∙ p)) ∙ ap (sole goodStore) (of-kind (a .set .now) 15)
-
-entry-of-requires : tie.Need-entry-of-requires
-entry-of-requires c κs = search needs
-
-enum-known-e : tie.Need-enum-known-e
-enum-known-e c = search needs
-
-body-of-requires : tie.Need-body-of-requires
-body-of-requires c κs = search needs
-
-good-store-requires : tie.Need-good-store-requires
-good-store-requires c κs = search needs
-
-enum-told : tie.Need-enum-told
-enum-told c = search needs
 
 returns-2 : tie.Need-returns-2
 returns-2 c =
@@ -50,12 +32,12 @@ pub good-store-entries-spec : {M : Type 1} → statement M
 good-store-entries-spec =
     tie.close
     (tie.spec
-    count-of-requires
+    (λ c κs. search needs)
     returns
-    entry-of-requires
-    enum-known-e
-    body-of-requires
-    good-store-requires
-    enum-told
+    (λ c κs. search needs)
+    (λ c. search needs)
+    (λ c κs. search needs)
+    (λ c κs. search needs)
+    (λ c. search needs)
     returns-2
     returns-3)

@@ -45,9 +45,6 @@ asked : (c : tie.After-good-configuration-entry Inv-loop μ-loop)
 asked c =
     rw (c .before .holds .ensures, c .before .before .before .peek2 .ensures, c .before .before .before .before .body-of .ensures) at (c .good-configuration-entry .ensures)
 
-peek-requires : tie.Need-peek-requires Inv-loop μ-loop
-peek-requires c κs = search needs
-
 loop-holds : tie.Need-loop-holds Inv-loop μ-loop
 loop-holds c =
     let a = c .before .before .args in (
@@ -56,27 +53,6 @@ loop-holds c =
       good-start (a .limits) (a .set .now) ∙ ap (λ es. goodFrom (a .limits) 0 (allOf 0) (map (pieceFor (a .set .now)) (only (isKind 2) es))) (rest-start (a .set .now)),
       ap (λ es. every (configurationRefers (a .names .now)) (map (bodyOf (a .set .now)) (only (isKind 2) es))) (rest-start (a .set .now)),
     )
-
-entry-at-requires : tie.Need-entry-at-requires Inv-loop μ-loop
-entry-at-requires c κs = search needs
-
-add-i : tie.Need-add-i Inv-loop μ-loop
-add-i c = search needs
-
-body-of-requires : tie.Need-body-of-requires Inv-loop μ-loop
-body-of-requires c κs = search needs
-
-peek-requires-2 : tie.Need-peek-requires-2 Inv-loop μ-loop
-peek-requires-2 c κs = search needs
-
-holds-requires : tie.Need-holds-requires Inv-loop μ-loop
-holds-requires c κs = search needs
-
-good-configuration-entry-requires : tie.Need-good-configuration-entry-requires Inv-loop μ-loop
-good-configuration-entry-requires c κs = search needs
-
-refuse-requires : tie.Need-refuse-requires Inv-loop μ-loop
-refuse-requires c κs = search needs
 
 returns : tie.Need-returns Inv-loop μ-loop
 returns c =
@@ -90,15 +66,6 @@ returns c =
     (asked-here 2 (λ es. goodFrom (a .limits) (l .index) (l .seen) (map (pieceFor (a .set .now)) es)) (a .set .now) _ (s .before .before .before .peek .ensures) (l .i) (l .inv .2) (s .before .loop-test .taken) _ (s .entry-at .ensures) (c .before .before .before .before .before .before .before .before .if1 .taken)
     ∙ good-more (a .limits) (l .index) (l .seen) (s .entry-at .result) (bodyOf (a .set .now) (s .entry-at .result)) _ (small (c .before .before .before .before .before .before)) (l .inv .1)
     ∙ rw (sym (ap (λ v. v .good) (asked v)), not-true (v .good-configuration-entry .result .good) (c .before .if2 .taken))))
-
-join-requires : tie.Need-join-requires Inv-loop μ-loop
-join-requires c κs = search needs
-
-add-index : tie.Need-add-index Inv-loop μ-loop
-add-index c = search needs
-
-loop-less : tie.Need-loop-less Inv-loop μ-loop
-loop-less c = search needs
 
 loop-again : tie.Need-loop-again Inv-loop μ-loop
 loop-again c =
@@ -117,9 +84,6 @@ loop-again c =
       rw (told (v .good-configuration-entry .result) _ (f (bodyOf (a .set .now) (s .entry-at .result))) (asked v) good)
           (asked-here 2 (λ es. l .refers && every f (map (bodyOf (a .set .now)) es)) (a .set .now) _ (s .before .before .before .peek .ensures) (l .i) (l .inv .3) (s .before .loop-test .taken) _ (s .entry-at .ensures) kind ∙ rw every-cons (sym (and-assoc (l .refers) _ _))),
     )
-
-loop-less-2 : tie.Need-loop-less-2 Inv-loop μ-loop
-loop-less-2 c = search needs
 
 loop-again-2 : tie.Need-loop-again-2 Inv-loop μ-loop
 loop-again-2 c =
@@ -148,20 +112,20 @@ good-configurations-spec =
     (tie.spec
     Inv-loop
     μ-loop
-    peek-requires
+    (λ c κs. search needs)
     loop-holds
-    entry-at-requires
-    add-i
-    body-of-requires
-    peek-requires-2
-    holds-requires
-    good-configuration-entry-requires
-    refuse-requires
+    (λ c κs. search needs)
+    (λ c. search needs)
+    (λ c κs. search needs)
+    (λ c κs. search needs)
+    (λ c κs. search needs)
+    (λ c κs. search needs)
+    (λ c κs. search needs)
     returns
-    join-requires
-    add-index
-    loop-less
+    (λ c κs. search needs)
+    (λ c. search needs)
+    (λ c. search needs)
     loop-again
-    loop-less-2
+    (λ c. search needs)
     loop-again-2
     returns-2)

@@ -8,27 +8,6 @@ use borrow.Author.Needs.{needs}
 use Rattle.sets.proofs.contents.entry_whole.Statement.{statement}
 use Rattle.sets.proofs.contents.entry_whole.Tie as tie
 
-mul-at : tie.Need-mul-at
-mul-at c = search needs
-
-add-at : tie.Need-add-at
-add-at c = search needs
-
-add-entry-in : tie.Need-add-entry-in
-add-entry-in c = search needs
-
-sub-entry-in : tie.Need-sub-entry-in
-sub-entry-in c = search needs
-
-part-entry-in-start : tie.Need-part-entry-in-start
-part-entry-in-start c = search needs
-
-part-entry-in-end : tie.Need-part-entry-in-end
-part-entry-in-end c = search needs
-
-entry-in-requires : tie.Need-entry-in-requires
-entry-in-requires c κs = search needs
-
 returns : tie.Need-returns
 returns c =
     let a = c .before .before .before .args in
@@ -39,11 +18,11 @@ pub entry-whole-spec : {M : Type 1} → statement M
 entry-whole-spec =
     tie.close
     (tie.spec
-    mul-at
-    add-at
-    add-entry-in
-    sub-entry-in
-    part-entry-in-start
-    part-entry-in-end
-    entry-in-requires
+    (λ c. search needs)
+    (λ c. search needs)
+    (λ c. search needs)
+    (λ c. search needs)
+    (λ c. search needs)
+    (λ c. search needs)
+    (λ c κs. search needs)
     returns)

@@ -17,18 +17,6 @@ Inv-loop set limits count start₀ last₀ i₀ start last i = (start ≤ 2044 +
 abbrev μ-loop : tie.MeasureT-loop
 μ-loop set limits count start₀ last₀ i₀ start last i = count - i
 
-peek-requires : tie.Need-peek-requires Inv-loop μ-loop
-peek-requires c κs = search needs
-
-cast-start : tie.Need-cast-start Inv-loop μ-loop
-cast-start c = search needs
-
-mul-start : tie.Need-mul-start Inv-loop μ-loop
-mul-start c = search needs
-
-add-start : tie.Need-add-start Inv-loop μ-loop
-add-start c = search needs
-
 loop-holds : tie.Need-loop-holds Inv-loop μ-loop
 unfolding goodContents
 loop-holds c =
@@ -38,12 +26,6 @@ loop-holds c =
           (sym (contents-all (a .limits) (total (a .set .now)) _ _ _)
           ∙ ap (contentsFrom (a .limits) (total (a .set .now)) true _ _) (rest-start (a .set .now))),
     )
-
-entry-whole-requires : tie.Need-entry-whole-requires Inv-loop μ-loop
-entry-whole-requires c κs = search needs
-
-good-entry-requires : tie.Need-good-entry-requires Inv-loop μ-loop
-good-entry-requires c κs = search needs
 
 returns : tie.Need-returns Inv-loop μ-loop
 returns c =
@@ -55,18 +37,6 @@ returns c =
     ∙ contents-more (a .limits) (total (a .set .now)) _ _ _ _ _
     ∙ rw (← c .before .good-entry .ensures, not-true (c .before .good-entry .result) (c .if1 .taken)))
 
-cast-start-2 : tie.Need-cast-start-2 Inv-loop μ-loop
-cast-start-2 c = search needs
-
-add-start-2 : tie.Need-add-start-2 Inv-loop μ-loop
-add-start-2 c = search needs
-
-add-i : tie.Need-add-i Inv-loop μ-loop
-add-i c = search needs
-
-loop-less : tie.Need-loop-less Inv-loop μ-loop
-loop-less c = search needs
-
 loop-again : tie.Need-loop-again Inv-loop μ-loop
 loop-again c =
     let s = c .before .before .before in
@@ -77,12 +47,6 @@ loop-again c =
           ∙ contents-turn (a .limits) (total (a .set .now)) (l .i) (l .last) (l .start) (s .entry-whole .result) _
           (rw (c .before .before .good-entry .ensures) at (not-false (c .before .before .good-entry .result) (c .before .if1 .left))),
     )
-
-word-requires : tie.Need-word-requires Inv-loop μ-loop
-word-requires c κs = search needs
-
-cast-result : tie.Need-cast-result Inv-loop μ-loop
-cast-result c = search needs
 
 returns-2 : tie.Need-returns-2 Inv-loop μ-loop
 returns-2 c =
@@ -96,19 +60,19 @@ good-contents-spec =
     (tie.spec
     Inv-loop
     μ-loop
-    peek-requires
-    cast-start
-    mul-start
-    add-start
+    (λ c κs. search needs)
+    (λ c. search needs)
+    (λ c. search needs)
+    (λ c. search needs)
     loop-holds
-    entry-whole-requires
-    good-entry-requires
+    (λ c κs. search needs)
+    (λ c κs. search needs)
     returns
-    cast-start-2
-    add-start-2
-    add-i
-    loop-less
+    (λ c. search needs)
+    (λ c. search needs)
+    (λ c. search needs)
+    (λ c. search needs)
     loop-again
-    word-requires
-    cast-result
+    (λ c κs. search needs)
+    (λ c. search needs)
     returns-2)

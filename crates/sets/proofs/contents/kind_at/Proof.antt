@@ -8,15 +8,6 @@ use Rattle.octets.specs.Octets.{byte}
 use Rattle.sets.proofs.contents.kind_at.Statement.{statement}
 use Rattle.sets.proofs.contents.kind_at.Tie as tie
 
-mul-peek : tie.Need-mul-peek
-mul-peek c = search needs
-
-add-peek : tie.Need-add-peek
-add-peek c = search needs
-
-peek-requires : tie.Need-peek-requires
-peek-requires c κs = search needs
-
 returns : tie.Need-returns
 returns c =
     let a = c .before .before .args in
@@ -25,4 +16,4 @@ returns c =
     c .peek .ensures ∙ ap (byte (a .set .now)) e ∙ sym (getD-drop at (a .set .now) 0 0)
 
 pub kind-at-spec : {M : Type 1} → statement M
-kind-at-spec = tie.close (tie.spec mul-peek add-peek peek-requires returns)
+kind-at-spec = tie.close (tie.spec (λ c. search needs) (λ c. search needs) (λ c κs. search needs) returns)

@@ -4,12 +4,6 @@ use Rattle.sets.proofs.Entries.{by-rank}
 use Rattle.sets.proofs.contents.precedes.Statement.{statement}
 use Rattle.sets.proofs.contents.precedes.Tie as tie
 
-rank-requires : tie.Need-rank-requires
-rank-requires c κs = search needs
-
-rank-requires-2 : tie.Need-rank-requires-2
-rank-requires-2 c κs = search needs
-
 returns : tie.Need-returns
 returns c =
     let a = c .before .before .args in
@@ -17,4 +11,4 @@ returns c =
     (by-rank (a .e .kind) (a .e .language) (a .e .index) (a .f .kind) (a .f .language) (a .f .index) (search needs) (search needs) (search needs) (search needs))
 
 pub precedes-spec : {M : Type 1} → statement M
-precedes-spec = tie.close (tie.spec rank-requires rank-requires-2 returns)
+precedes-spec = tie.close (tie.spec (λ c κs. search needs) (λ c κs. search needs) returns)

@@ -8,31 +8,10 @@ use Rattle.sets.proofs.Devices.{sole-one, sole-other, sole-missing}
 use Rattle.sets.proofs.device.good_device_entries.Statement.{statement}
 use Rattle.sets.proofs.device.good_device_entries.Tie as tie
 
-count-whole-requires : tie.Need-count-whole-requires
-count-whole-requires c κs = search needs
-
 returns : tie.Need-returns
 returns c =
     let a = c .before .before .before .args in
     sole-other (a .set .now) _ (entriesOf 1 (a .set .now)) (λ p. c .if1 .taken (c .before .count-whole .ensures ∙ p)) ∙ ap (sole _) (of-kind (a .set .now) 1)
-
-entry-of-requires : tie.Need-entry-of-requires
-entry-of-requires c κs = search needs
-
-enum-known-e : tie.Need-enum-known-e
-enum-known-e c = search needs
-
-count-whole-requires-2 : tie.Need-count-whole-requires-2
-count-whole-requires-2 c κs = search needs
-
-body-of-requires : tie.Need-body-of-requires
-body-of-requires c κs = search needs
-
-good-device-requires : tie.Need-good-device-requires
-good-device-requires c κs = search needs
-
-enum-told : tie.Need-enum-told
-enum-told c = search needs
 
 returns-2 : tie.Need-returns-2
 returns-2 c =
@@ -52,13 +31,13 @@ pub good-device-entries-spec : {M : Type 1} → statement M
 good-device-entries-spec =
     tie.close
     (tie.spec
-    count-whole-requires
+    (λ c κs. search needs)
     returns
-    entry-of-requires
-    enum-known-e
-    count-whole-requires-2
-    body-of-requires
-    good-device-requires
-    enum-told
+    (λ c κs. search needs)
+    (λ c. search needs)
+    (λ c κs. search needs)
+    (λ c κs. search needs)
+    (λ c κs. search needs)
+    (λ c. search needs)
     returns-2
     returns-3)

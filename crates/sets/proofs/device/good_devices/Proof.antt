@@ -4,15 +4,9 @@ use Rattle.sets.specs.Opening.{goodDevices}
 use Rattle.sets.proofs.device.good_devices.Statement.{statement}
 use Rattle.sets.proofs.device.good_devices.Tie as tie
 
-good-capabilities-requires : tie.Need-good-capabilities-requires
-good-capabilities-requires c κs = search needs
-
-good-device-entries-requires : tie.Need-good-device-entries-requires
-good-device-entries-requires c κs = search needs
-
 returns : tie.Need-returns
 unfolding goodDevices
 returns c = rw (c .before .good-capabilities .ensures, c .good-device-entries .ensures)
 
 pub good-devices-spec : {M : Type 1} → statement M
-good-devices-spec = tie.close (tie.spec good-capabilities-requires good-device-entries-requires returns)
+good-devices-spec = tie.close (tie.spec (λ c κs. search needs) (λ c κs. search needs) returns)

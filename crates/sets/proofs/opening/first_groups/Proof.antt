@@ -17,9 +17,6 @@ frame c = sym (c .before .good-frame .ensures) ∙ not-false (c .before .good-fr
 contents : (c : tie.Else2) → goodContents (c .before .before .before .before .before .args .limits) (c .before .before .before .before .before .args .set .now) ≡ true
 contents c = sym (c .before .good-contents .ensures) ∙ not-false (c .before .good-contents .result) (c .if2 .left)
 
-good-frame-requires : tie.Need-good-frame-requires
-good-frame-requires c κs = search needs
-
 returns : tie.Need-returns
 unfolding opening
 returns c = (λ z. absurd (omega (arith, z)), λ n serial. rw (sym (c .before .good-frame .ensures) ∙ not-true (c .before .good-frame .result) (c .if1 .taken)))
@@ -54,7 +51,7 @@ pub first-groups-spec : {M : Type 1} → statement M
 first-groups-spec =
     tie.close
     (tie.spec
-    good-frame-requires
+    (λ c κs. search needs)
     returns
     good-contents-requires
     returns-2

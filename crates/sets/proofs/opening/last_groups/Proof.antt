@@ -45,12 +45,6 @@ returns-2 c =
     λ limits b g. fifth limits (c .before .before .before .before .before .before .args .set .now) (c .before .before .before .before .before .before .args .serial .now) b (sym g ∙ not-false _ (c .before .before .if1 .left))
     (sym (c .before .good-strings .ensures) ∙ not-true (c .before .good-strings .result) (c .if2 .taken))
 
-serial-index-requires : tie.Need-serial-index-requires
-serial-index-requires c κs = search needs
-
-good-serial-requires : tie.Need-good-serial-requires
-good-serial-requires c κs = search needs
-
 block : (c : tie.After-good-serial) → goodBlock (piecesIn (c .before .before .before .before .before .before .before .before .args .set .now)) (c .before .before .before .before .before .before .before .before .args .serial .now) ≡ c .good-serial .result
 unfolding goodBlock
 block c = sym (rw (c .before .serial-index .ensures) at (c .good-serial .ensures))
@@ -76,7 +70,7 @@ last-groups-spec =
     returns
     good-strings-requires
     returns-2
-    serial-index-requires
-    good-serial-requires
+    (λ c κs. search needs)
+    (λ c κs. search needs)
     returns-3
     returns-4)

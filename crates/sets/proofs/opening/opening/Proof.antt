@@ -6,17 +6,11 @@ use Rattle.sets.proofs.Passing.{ordered}
 use Rattle.sets.proofs.opening.opening.Statement.{statement}
 use Rattle.sets.proofs.opening.opening.Tie as tie
 
-begin-requires : tie.Need-begin-requires
-begin-requires c κs = search needs
-
 returns : tie.Need-returns
 returns c = c .before .begin .ensures .1 (c .if1 .taken) (c .before .before .before .before .args .serial .now)
 
 read-strings-requires : tie.Need-read-strings-requires
 read-strings-requires c κs = let b = c .before .before .begin .ensures .0 (c .before .if1 .left) in ordered _ _ (b .frame) (b .contents)
-
-good-configurations-requires : tie.Need-good-configurations-requires
-good-configurations-requires c κs = search needs
 
 finish-requires : tie.Need-finish-requires
 finish-requires c κs =
@@ -32,9 +26,9 @@ pub opening-spec : {M : Type 1} → statement M
 opening-spec =
     tie.close
     (tie.spec
-    begin-requires
+    (λ c κs. search needs)
     returns
     read-strings-requires
-    good-configurations-requires
+    (λ c κs. search needs)
     finish-requires
     returns-2)

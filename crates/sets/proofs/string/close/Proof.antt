@@ -7,12 +7,6 @@ use borrow.Author.Needs.{needs}
 use Rattle.sets.proofs.string.close.Statement.{statement}
 use Rattle.sets.proofs.string.close.Tie as tie
 
-join-requires : tie.Need-join-requires
-join-requires c κs = search needs
-
-join-requires-2 : tie.Need-join-requires-2
-join-requires-2 c κs = search needs
-
 seen : (c : tie.Joined1) → c .if1 .names ≡ pick (c .before .args .more) noNames (c .before .args .names .now)
 seen c = ⊎-elim (λ w. rw (w .0 .taken) (w .2)) (λ w. rw (w .0 .left) (w .1)) (c .if1 .came)
 
@@ -20,4 +14,4 @@ returns : tie.Need-returns
 returns c = rw (c .join2 .ensures, c .before .before .join .ensures, seen (c .before .before .before .before))
 
 pub close-spec : {M : Type 1} → statement M
-close-spec = tie.close (tie.spec join-requires join-requires-2 returns)
+close-spec = tie.close (tie.spec (λ c κs. search needs) (λ c κs. search needs) returns)

@@ -8,12 +8,6 @@ use Rattle.sets.proofs.Strings.{words-more, words-end}
 use Rattle.sets.proofs.string.first_language.Statement.{statement}
 use Rattle.sets.proofs.string.first_language.Tie as tie
 
-string-zero-requires : tie.Need-string-zero-requires
-string-zero-requires c κs = search needs
-
-word-requires : tie.Need-word-requires
-word-requires c κs = search needs
-
 returns : tie.Need-returns
 returns c =
     let zero = c .before .before .string-zero in
@@ -25,4 +19,4 @@ returns-2 c =
     sym (ap (λ (ls : List ℕ). getD ls 0 0) (sym (zero .ensures) ∙ words-end (zero .result .now) 2 (c .if1 .left)))
 
 pub first-language-spec : {M : Type 1} → statement M
-first-language-spec = tie.close (tie.spec string-zero-requires word-requires returns returns-2)
+first-language-spec = tie.close (tie.spec (λ c κs. search needs) (λ c κs. search needs) returns returns-2)

@@ -5,17 +5,8 @@ use borrow.Author.Needs.{needs}
 use Rattle.sets.proofs.string.good_string.Statement.{statement}
 use Rattle.sets.proofs.string.good_string.Tie as tie
 
-peek-requires : tie.Need-peek-requires
-peek-requires c κs = search needs
-
-cast-if1 : tie.Need-cast-if1
-cast-if1 c = search needs
-
 returns : tie.Need-returns
 returns c = rw (← c .before .peek .ensures, ne-eqb _ _ (c .if1 .taken))
-
-peek-requires-2 : tie.Need-peek-requires-2
-peek-requires-2 c κs = search needs
 
 returns-2 : tie.Need-returns-2
 returns-2 c = rw (← c .before .peek2 .ensures, ne-eqb _ _ (c .if2 .taken), and-false)
@@ -25,4 +16,4 @@ returns-3 c = rw (← c .before .peek2 .ensures, ← c .before .before .before .
 
 pub good-string-spec : {M : Type 1} → statement M
 good-string-spec =
-    tie.close (tie.spec peek-requires cast-if1 returns peek-requires-2 returns-2 returns-3)
+    tie.close (tie.spec (λ c κs. search needs) (λ c. search needs) returns (λ c κs. search needs) returns-2 returns-3)

@@ -8,9 +8,6 @@ use borrow.Author.Needs.{needs}
 use Rattle.sets.proofs.string.good_string_entry.Statement.{statement}
 use Rattle.sets.proofs.string.good_string_entry.Tie as tie
 
-good-string-requires : tie.Need-good-string-requires
-good-string-requires c κs = search needs
-
 returns : tie.Need-returns
 returns c = rw (← c .before .good-string .ensures, not-true (c .before .good-string .result) (c .if1 .taken))
 
@@ -28,4 +25,4 @@ returns-5 c = rw (← c .before .before .before .before .before .before .before 
 
 pub good-string-entry-spec : {M : Type 1} → statement M
 good-string-entry-spec =
-    tie.close (tie.spec good-string-requires returns returns-2 returns-3 returns-4 returns-5)
+    tie.close (tie.spec (λ c κs. search needs) returns returns-2 returns-3 returns-4 returns-5)

@@ -4,9 +4,6 @@ use Rattle.sets.proofs.GoodStrings.{strings-told}
 use Rattle.sets.proofs.string.good_strings.Statement.{statement}
 use Rattle.sets.proofs.string.good_strings.Tie as tie
 
-device-refers-requires : tie.Need-device-refers-requires
-device-refers-requires c κs = search needs
-
 returns : tie.Need-returns
 returns c =
     let i = c .before .before in
@@ -16,4 +13,4 @@ returns c =
 
 pub good-strings-spec : {M : Type 1} → statement M
 good-strings-spec =
-    tie.close (tie.spec device-refers-requires returns)
+    tie.close (tie.spec (λ c κs. search needs) returns)

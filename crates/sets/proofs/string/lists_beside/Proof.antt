@@ -7,11 +7,5 @@ use Rattle.sets.proofs.string.lists_beside.Tie as tie
 returns : tie.Need-returns
 returns c = sym (rw (c .if1 .taken) at (c .before .before .pre))
 
-lists-requires : tie.Need-lists-requires
-lists-requires c κs = search needs
-
-returns-2 : tie.Need-returns-2
-returns-2 c = search needs
-
 pub lists-beside-spec : {M : Type 1} → statement M
-lists-beside-spec = tie.close (tie.spec returns lists-requires returns-2)
+lists-beside-spec = tie.close (tie.spec returns (λ c κs. search needs) (λ c. search needs))

@@ -35,9 +35,6 @@ returns c =
       zero = e .1 g 0 (omega arith) ∙ zero-named (a .set .now) (words (drop 2 (a .languages .now)));
     }
 
-join-requires : tie.Need-join-requires
-join-requires c κs = search needs
-
 returns-2 : tie.Need-returns-2
 returns-2 c = record {
   entries = sym (c .before .before .before .if1 .left) ∙ c .before .before .before .before .read-entries .ensures .0;
@@ -46,4 +43,4 @@ returns-2 c = record {
 }
 
 pub read-spec : {M : Type 1} → statement M
-read-spec = tie.close (tie.spec read-entries-requires returns join-requires returns-2)
+read-spec = tie.close (tie.spec read-entries-requires returns (λ c κs. search needs) returns-2)

@@ -6,12 +6,6 @@ use Rattle.sets.proofs.Strings.{with-none}
 use Rattle.sets.proofs.string.read_entries.Statement.{statement}
 use Rattle.sets.proofs.string.read_entries.Tie as tie
 
-good-languages-requires : tie.Need-good-languages-requires
-good-languages-requires c κs = search needs
-
-serial-index-requires : tie.Need-serial-index-requires
-serial-index-requires c κs = search needs
-
 read-listed-requires : tie.Need-read-listed-requires
 read-listed-requires c κs = record { order = c .before .before .before .before .before .before .pre; good = sym (c .before .before .before .good-languages .ensures) ∙ c .before .before .if1 .taken }
 
@@ -22,12 +16,6 @@ returns c =
       rw g (rw serial at (c .read-listed .ensures .0)),
       λ p j q. rw g (rw serial at (c .read-listed .ensures .1 p j q)),
     )
-
-join-requires : tie.Need-join-requires
-join-requires c κs = search needs
-
-count-of-requires : tie.Need-count-of-requires
-count-of-requires c κs = search needs
 
 returns-2 : tie.Need-returns-2
 returns-2 c =
@@ -40,10 +28,10 @@ pub read-entries-spec : {M : Type 1} → statement M
 read-entries-spec =
     tie.close
     (tie.spec
-    good-languages-requires
-    serial-index-requires
+    (λ c κs. search needs)
+    (λ c κs. search needs)
     read-listed-requires
     returns
-    join-requires
-    count-of-requires
+    (λ c κs. search needs)
+    (λ c κs. search needs)
     returns-2)

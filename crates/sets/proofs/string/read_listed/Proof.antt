@@ -33,49 +33,16 @@ verdict : (c : tie.After-good-string-entry Inv-loop μ-loop)
     goodStringPiece (words (drop 2 (a .languages .now))) (a .serial) (pieceFor (a .set .now) (c .before .before .before .before .before .before .before .entry-whole .result)) ≡ c .good-string-entry .result
 verdict c = rw (← c .before .body-of .ensures, ← c .before .before .lists-beside .ensures) (sym (c .good-string-entry .ensures))
 
-peek-requires : tie.Need-peek-requires Inv-loop μ-loop
-peek-requires c κs = search needs
-
-word-requires : tie.Need-word-requires Inv-loop μ-loop
-word-requires c κs = search needs
-
 loop-holds : tie.Need-loop-holds Inv-loop μ-loop
 loop-holds c = rw (c .word .ensures) (begins (c .before .before .before .before .before .args .set .now) (c .before .before .before .before .before .args .languages .now) (c .before .before .before .before .before .args .serial) (c .before .before .before .before .before .pre .order) (c .before .before .before .before .before .pre .good))
-
-entry-whole-requires : tie.Need-entry-whole-requires Inv-loop μ-loop
-entry-whole-requires c κs = search needs
-
-add-is-later : tie.Need-add-is-later Inv-loop μ-loop
-add-is-later c = search needs
-
-is-later-requires : tie.Need-is-later-requires Inv-loop μ-loop
-is-later-requires c κs = search needs
-
-add-at : tie.Need-add-at Inv-loop μ-loop
-add-at c = search needs
-
-word-requires-2 : tie.Need-word-requires-2 Inv-loop μ-loop
-word-requires-2 c κs = search needs
-
-loop-less : tie.Need-loop-less Inv-loop μ-loop
-loop-less c = search needs
 
 loop-again : tie.Need-loop-again Inv-loop μ-loop
 loop-again c =
     let s = c .before .before .before .before .before in
     rw (c .before .before .word2 .ensures) (moves _ _ _ (s .before .before .loop .inv) (s .entry-whole .result) _ (turn s) (sym (c .before .before .before .before .is-later .ensures) ∙ c .before .before .before .if1 .taken))
 
-add-i : tie.Need-add-i Inv-loop μ-loop
-add-i c = search needs
-
 lists-beside-requires : tie.Need-lists-beside-requires Inv-loop μ-loop
 lists-beside-requires c κs = listed-here _ _ _ (c .before .before .before .before .before .before .loop .inv)
-
-body-of-requires : tie.Need-body-of-requires Inv-loop μ-loop
-body-of-requires c κs = search needs
-
-good-string-entry-requires : tie.Need-good-string-entry-requires Inv-loop μ-loop
-good-string-entry-requires c κs = search needs
 
 returns : tie.Need-returns Inv-loop μ-loop
 returns c =
@@ -84,15 +51,6 @@ returns c =
       λ p. absurd (false≢true p),
     )
 
-is-listed-requires : tie.Need-is-listed-requires Inv-loop μ-loop
-is-listed-requires c κs = search needs
-
-join-requires : tie.Need-join-requires Inv-loop μ-loop
-join-requires c κs = search needs
-
-loop-less-2 : tie.Need-loop-less-2 Inv-loop μ-loop
-loop-less-2 c = search needs
-
 loop-again-2 : tie.Need-loop-again-2 Inv-loop μ-loop
 loop-again-2 c =
     let s = c .before .before .before .before .before .before .before .before .before .before .before .before .before in
@@ -100,26 +58,14 @@ loop-again-2 c =
     (takes _ _ _ (s .before .before .loop .inv) (s .entry-whole .result) (turn s) (c .before .before .before .before .before .before .before .before .before .if2 .taken) (sym (c .before .before .before .before .before .before .before .before .before .before .before .before .is-later .ensures) ∙ c .before .before .before .before .before .before .before .before .before .before .before .if1 .left)
     (verdict (c .before .before .before .before .before .before) ∙ not-false (c .before .before .before .before .before .before .good-string-entry .result) (c .before .before .before .before .before .if3 .left)) (search needs) (sym (c .before .before .before .is-listed .ensures) ∙ c .before .before .if4 .taken))
 
-loop-less-3 : tie.Need-loop-less-3 Inv-loop μ-loop
-loop-less-3 c = search needs
-
 loop-again-3 : tie.Need-loop-again-3 Inv-loop μ-loop
 loop-again-3 c =
     let s = c .before .before .before .before .before .before .before .before .before .before .before in
     skips _ _ _ (s .before .before .loop .inv) (s .entry-whole .result) (turn s) (c .before .before .before .before .before .before .before .if2 .taken) (sym (c .before .before .before .before .before .before .before .before .before .before .is-later .ensures) ∙ c .before .before .before .before .before .before .before .before .before .if1 .left)
     (verdict (c .before .before .before .before) ∙ not-false (c .before .before .before .before .good-string-entry .result) (c .before .before .before .if3 .left)) (sym (c .before .is-listed .ensures) ∙ c .if4 .left)
 
-loop-less-4 : tie.Need-loop-less-4 Inv-loop μ-loop
-loop-less-4 c = search needs
-
 loop-again-4 : tie.Need-loop-again-4 Inv-loop μ-loop
 loop-again-4 c = let s = c .before .before .before .before in other _ _ _ (s .before .before .loop .inv) (s .entry-whole .result) (turn s) (c .if2 .left)
-
-add-close : tie.Need-add-close Inv-loop μ-loop
-add-close c = search needs
-
-close-requires : tie.Need-close-requires Inv-loop μ-loop
-close-requires c κs = search needs
 
 returns-2 : tie.Need-returns-2 Inv-loop μ-loop
 returns-2 c =
@@ -135,29 +81,29 @@ read-listed-spec =
     (tie.spec
     Inv-loop
     μ-loop
-    peek-requires
-    word-requires
+    (λ c κs. search needs)
+    (λ c κs. search needs)
     loop-holds
-    entry-whole-requires
-    add-is-later
-    is-later-requires
-    add-at
-    word-requires-2
-    loop-less
+    (λ c κs. search needs)
+    (λ c. search needs)
+    (λ c κs. search needs)
+    (λ c. search needs)
+    (λ c κs. search needs)
+    (λ c. search needs)
     loop-again
-    add-i
+    (λ c. search needs)
     lists-beside-requires
-    body-of-requires
-    good-string-entry-requires
+    (λ c κs. search needs)
+    (λ c κs. search needs)
     returns
-    is-listed-requires
-    join-requires
-    loop-less-2
+    (λ c κs. search needs)
+    (λ c κs. search needs)
+    (λ c. search needs)
     loop-again-2
-    loop-less-3
+    (λ c. search needs)
     loop-again-3
-    loop-less-4
+    (λ c. search needs)
     loop-again-4
-    add-close
-    close-requires
+    (λ c. search needs)
+    (λ c κs. search needs)
     returns-2)

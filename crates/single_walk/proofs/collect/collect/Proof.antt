@@ -48,23 +48,11 @@ head-small c p =
     let end = c .before .before .before .advance .result .end in
     head-short (length body) (take end body) (sym (c .good-head .ensures) ∙ p) (part-bytes body (λ k. omega (arith, c .before .before .before .before .shared-slice-known .given k)) 0 end)
 
-advance-requires : tie.Need-advance-requires
-advance-requires c κs = search needs
-
-refuse-requires : tie.Need-refuse-requires
-refuse-requires c κs = search needs
-
 returns : tie.Need-returns
 returns c = collects-refused (c .refuse .ensures) (check-none (limitsAt (c .before .before .before .before .args .high)) (c .before .before .before .before .args .body .now) _ (stepped (c .before .before)) (c .before .if1 .taken))
 
 slice-aggregate-head : tie.Need-slice-aggregate-head
 slice-aggregate-head c = sym (length-take-le _ _ (head-inside (c .before .before .before .before .args .body .now) _ (stepped (c .before .before)) (went (c .before))))
-
-good-head-requires : tie.Need-good-head-requires
-good-head-requires c κs = search needs
-
-peek-requires : tie.Need-peek-requires
-peek-requires c κs = search needs
 
 rest-requires : tie.Need-rest-requires
 rest-requires c κs =
@@ -81,12 +69,6 @@ rest-requires c κs =
       few = rw (c .peek .ensures) (small .2);
       zero = c .before .before .before .before .before .before .before .pre;
     }
-
-peek-requires-2 : tie.Need-peek-requires-2
-peek-requires-2 c κs = search needs
-
-holds-requires : tie.Need-holds-requires
-holds-requires c κs = search needs
 
 survey-of-requires : tie.Need-survey-of-requires
 survey-of-requires c κs = rw (c .before .before .before .before .before .before .peek .ensures) (head-small (c .before .before .before .before .before .before .before .before) (c .before .before .before .before .before .before .before .if2 .taken) .2)
@@ -108,9 +90,6 @@ returns-2 c =
           (c .survey-of .ensures);
     }
 
-refuse-requires-2 : tie.Need-refuse-requires-2
-refuse-requires-2 c κs = search needs
-
 returns-3 : tie.Need-returns-3
 returns-3 c = collects-refused (c .refuse2 .ensures) (sym (checked (c .before .before) (c .before .if2 .left)))
 
@@ -118,16 +97,16 @@ pub collect-spec : {M : Type 1} → statement M
 collect-spec =
     tie.close
     (tie.spec
-    advance-requires
-    refuse-requires
+    (λ c κs. search needs)
+    (λ c κs. search needs)
     returns
     slice-aggregate-head
-    good-head-requires
-    peek-requires
+    (λ c κs. search needs)
+    (λ c κs. search needs)
     rest-requires
-    peek-requires-2
-    holds-requires
+    (λ c κs. search needs)
+    (λ c κs. search needs)
     survey-of-requires
     returns-2
-    refuse-requires-2
+    (λ c κs. search needs)
     returns-3)

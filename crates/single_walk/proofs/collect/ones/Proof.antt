@@ -7,9 +7,6 @@ use borrow.Author.Needs.{needs}
 use Rattle.single_walk.proofs.collect.ones.Statement.{statement}
 use Rattle.single_walk.proofs.collect.ones.Tie as tie
 
-shl-result : tie.Need-shl-result
-shl-result c = search needs
-
 sub-result : tie.Need-sub-result
 sub-result c = rw (shifted-one (c .args .n) (omega arith)) (omega (arith, pow-pos (c .args .n)))
 
@@ -17,4 +14,4 @@ returns : tie.Need-returns
 returns c = λ k. rw (shifted-one (c .args .n) (omega arith)) (lowest-bits (c .args .n) k)
 
 pub ones-spec : {M : Type 1} → statement M
-ones-spec = tie.close (tie.spec shl-result sub-result returns)
+ones-spec = tie.close (tie.spec (λ c. search needs) sub-result returns)

@@ -3,11 +3,8 @@ use borrow.Author.Needs.{needs}
 use Rattle.single_walk.proofs.pass.can_wake.Statement.{statement}
 use Rattle.single_walk.proofs.pass.can_wake.Tie as tie
 
-peek-requires : tie.Need-peek-requires
-peek-requires c κs = search needs
-
 returns : tie.Need-returns
 returns c = rw (c .peek .ensures)
 
 pub can-wake-spec : {M : Type 1} → statement M
-can-wake-spec = tie.close (tie.spec peek-requires returns)
+can-wake-spec = tie.close (tie.spec (λ c κs. search needs) returns)

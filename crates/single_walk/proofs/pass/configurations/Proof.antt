@@ -55,12 +55,6 @@ judged c =
     let g = ap (λ v. v .good) (c .before .before .walk-once .ensures .verdict) ∙ ap (goodConfiguration (a .limits)) (c .before .before .before .before .before .before .before .body-of .ensures) in
     rw (n, g) (taken-apart (a .limits) e (l .index) (bodyOf (a .set .now) e) (has (l .seen) (bConfigurationValue (bodyOf (a .set .now) e))))
 
-peek-requires : tie.Need-peek-requires Inv-loop μ-loop
-peek-requires c κs = search needs
-
-nothing-known-requires : tie.Need-nothing-known-requires Inv-loop μ-loop
-nothing-known-requires c κs = search needs
-
 loop-holds : tie.Need-loop-holds Inv-loop μ-loop
 loop-holds c =
     let a = c .before .before .before .before .args in (
@@ -71,29 +65,8 @@ loop-holds c =
       rw (c .before .nothing-known .ensures, sym (rest-start (a .set .now))) (learnt-start (a .set .now) (a .value .0) (a .alternates .now) (a .asked)),
     )
 
-entry-at-requires : tie.Need-entry-at-requires Inv-loop μ-loop
-entry-at-requires c κs = search needs
-
-add-i : tie.Need-add-i Inv-loop μ-loop
-add-i c = search needs
-
-body-of-requires : tie.Need-body-of-requires Inv-loop μ-loop
-body-of-requires c κs = search needs
-
-peek-requires-2 : tie.Need-peek-requires-2 Inv-loop μ-loop
-peek-requires-2 c κs = search needs
-
-holds-requires : tie.Need-holds-requires Inv-loop μ-loop
-holds-requires c κs = search needs
-
 walk-once-requires : tie.Need-walk-once-requires Inv-loop μ-loop
 walk-once-requires c κs = c .before .before .before .before .before .before .before .before .before .before .before .before .before .before .pre
-
-is-numbered-requires : tie.Need-is-numbered-requires Inv-loop μ-loop
-is-numbered-requires c κs = search needs
-
-refuse-requires : tie.Need-refuse-requires Inv-loop μ-loop
-refuse-requires c κs = search needs
 
 returns : tie.Need-returns Inv-loop μ-loop
 returns c =
@@ -110,12 +83,6 @@ returns c =
           ∙ rw (sym (judged v), not-true (v .is-numbered .result && c .before .before .before .before .before .walk-once .result .verdict .good) (c .before .if2 .taken))));
       known = λ g. absurd (false≢true (sym (ap (λ v. v .good) (c .refuse .ensures)) ∙ g));
     }
-
-can-wake-requires : tie.Need-can-wake-requires Inv-loop μ-loop
-can-wake-requires c κs = search needs
-
-join-requires : tie.Need-join-requires Inv-loop μ-loop
-join-requires c κs = search needs
 
 add-index : tie.Need-add-index Inv-loop μ-loop
 add-index c = let l = c .before .before .before .before .before .before .before .before .before .before .before .before .before .before .before .before .before .before .before .loop in let t = c .before .before .before .before .before .before .before .before .before .before .before .before .before .before .before .before .before .before .loop-test .taken in let p = c .before .before .before .before .before .before .before .before .before .before .before .before .before .before .before .before .before .before .before .before .before .before .peek in omega arith
@@ -164,9 +131,6 @@ loop-again c =
           (rw (kind-next 2 (a .set .now) _ count (l .i) test e (s .entry-at .ensures) kind) at (l .inv .4))),
     )
 
-loop-less-2 : tie.Need-loop-less-2 Inv-loop μ-loop
-loop-less-2 c = search needs
-
 loop-again-2 : tie.Need-loop-again-2 Inv-loop μ-loop
 loop-again-2 c =
     let s = c .before .before in
@@ -201,23 +165,23 @@ configurations-spec =
     (tie.spec
     Inv-loop
     μ-loop
-    peek-requires
-    nothing-known-requires
+    (λ c κs. search needs)
+    (λ c κs. search needs)
     loop-holds
-    entry-at-requires
-    add-i
-    body-of-requires
-    peek-requires-2
-    holds-requires
+    (λ c κs. search needs)
+    (λ c. search needs)
+    (λ c κs. search needs)
+    (λ c κs. search needs)
+    (λ c κs. search needs)
     walk-once-requires
-    is-numbered-requires
-    refuse-requires
+    (λ c κs. search needs)
+    (λ c κs. search needs)
     returns
-    can-wake-requires
-    join-requires
+    (λ c κs. search needs)
+    (λ c κs. search needs)
     add-index
     loop-less
     loop-again
-    loop-less-2
+    (λ c. search needs)
     loop-again-2
     returns-2)

@@ -17,12 +17,6 @@ returns c =
       surveyed = λ _. c .collect .ensures .surveyed;
     }
 
-good-configuration-requires : tie.Need-good-configuration-requires
-good-configuration-requires c κs = search needs
-
-nothing-known-requires : tie.Need-nothing-known-requires
-nothing-known-requires c κs = search needs
-
 returns-2 : tie.Need-returns-2
 returns-2 c = record {
   verdict = c .before .before .good-configuration .ensures;
@@ -35,6 +29,6 @@ walk-once-spec =
     (tie.spec
     collect-requires
     returns
-    good-configuration-requires
-    nothing-known-requires
+    (λ c κs. search needs)
+    (λ c κs. search needs)
     returns-2)

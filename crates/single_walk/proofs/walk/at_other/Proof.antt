@@ -3,11 +3,8 @@ use borrow.Author.Needs.{needs}
 use Rattle.single_walk.proofs.walk.at_other.Statement.{statement}
 use Rattle.single_walk.proofs.walk.at_other.Tie as tie
 
-with-bit-requires : tie.Need-with-bit-requires
-with-bit-requires c κs = search needs
-
 returns : tie.Need-returns
 returns c = rw (c .with-bit .ensures)
 
 pub at-other-spec : {M : Type 1} → statement M
-at-other-spec = tie.close (tie.spec with-bit-requires returns)
+at-other-spec = tie.close (tie.spec (λ c κs. search needs) returns)

@@ -4,20 +4,8 @@ use borrow.Author.Needs.{needs}
 use Rattle.single_walk.proofs.walk.good_kind.Statement.{statement}
 use Rattle.single_walk.proofs.walk.good_kind.Tie as tie
 
-high-ranges-requires : tie.Need-high-ranges-requires
-high-ranges-requires c κs = search needs
-
-good-kind-in-requires : tie.Need-good-kind-in-requires
-good-kind-in-requires c κs = search needs
-
 returns : tie.Need-returns
 returns c = rw (c .before .before .if1 .taken) (c .good-kind-in .ensures highSpeed (c .before .high-ranges .ensures))
-
-full-ranges-requires : tie.Need-full-ranges-requires
-full-ranges-requires c κs = search needs
-
-good-kind-in-requires-2 : tie.Need-good-kind-in-requires-2
-good-kind-in-requires-2 c κs = search needs
 
 returns-2 : tie.Need-returns-2
 returns-2 c = rw (c .before .before .if1 .left) (c .good-kind-in2 .ensures fullSpeed (c .before .full-ranges .ensures))
@@ -26,9 +14,9 @@ pub good-kind-spec : {M : Type 1} → statement M
 good-kind-spec =
     tie.close
     (tie.spec
-    high-ranges-requires
-    good-kind-in-requires
+    (λ c κs. search needs)
+    (λ c κs. search needs)
     returns
-    full-ranges-requires
-    good-kind-in-requires-2
+    (λ c κs. search needs)
+    (λ c κs. search needs)
     returns-2)

@@ -11,9 +11,6 @@ use Rattle.single_walk.specs.Course.{limitsAt}
 use Rattle.single_walk.proofs.walk.list.Statement.{statement}
 use Rattle.single_walk.proofs.walk.list.Tie as tie
 
-may-list-requires : tie.Need-may-list-requires
-may-list-requires c κs = search needs
-
 list-requires : tie.Need-list-requires
 list-requires c κs =
     let a = c .before .before .before .before .before .args in
@@ -33,4 +30,4 @@ returns-2 c = record { may = sym (c .if1 .left) ∙ c .before .may-list .ensures
 pub list-spec : {M : Type 1} → statement M
 list-spec =
     tie.close
-    (tie.spec may-list-requires list-requires with-endpoint-requires returns returns-2)
+    (tie.spec (λ c κs. search needs) list-requires with-endpoint-requires returns returns-2)

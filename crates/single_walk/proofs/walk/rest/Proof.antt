@@ -36,12 +36,6 @@ more c = omega (arith, c .before .before .before .loop-test .taken, c .before .b
 before-end : (body : List ℕ) {at : ℕ} → at < length body - 1 → at < length body
 before-end body l = omega arith
 
-wanted-of-requires : tie.Need-wanted-of-requires Inv-loop μ-loop
-wanted-of-requires c κs = search needs
-
-set-out-requires : tie.Need-set-out-requires Inv-loop μ-loop
-set-out-requires c κs = search needs
-
 sub-last : tie.Need-sub-last Inv-loop μ-loop
 sub-last c = omega (arith, c .before .before .before .pre .some-bytes)
 
@@ -113,12 +107,6 @@ loop-again-2 c =
     let bytes = part-bytes (a .body .now) (λ k. omega (arith, c .before .before .before .before .before .before .before .before .before .before .shared-slice-known2 .given k)) (l .at) (s .result .end - l .at) in
     λ asked e. gathered-turn (no-companions (a .high)) (l .inv asked e) h (c .before .before .before .before .before .before .before .before .if1 .left) (s .result .end) (ends (c .before .before .before .before .before)) (omega (arith, ends (c .before .before .before .before .before), c .before .before .before .before .before .before .if3 .left)) (bytes 2) (bytes 3) (step-sets _ _ _ (on (c .before .before .before .before .before .before)) (s .ensures)) (rw e at (c .before .before .before .turn .ensures)) (not-false _ (c .before .if4 .left))
 
-next-of-requires : tie.Need-next-of-requires Inv-loop μ-loop
-next-of-requires c κs = search needs
-
-told-requires : tie.Need-told-requires Inv-loop μ-loop
-told-requires c κs = search needs
-
 returns : tie.Need-returns Inv-loop μ-loop
 returns c =
     let a = c .before .before .before .before .before .before .before .before .before .args in
@@ -149,8 +137,8 @@ rest-spec =
     (tie.spec
     Inv-loop
     μ-loop
-    wanted-of-requires
-    set-out-requires
+    (λ c κs. search needs)
+    (λ c κs. search needs)
     sub-last
     loop-holds
     shared-slice-read-size
@@ -168,6 +156,6 @@ rest-spec =
     turn-requires
     loop-less-2
     loop-again-2
-    next-of-requires
-    told-requires
+    (λ c κs. search needs)
+    (λ c κs. search needs)
     returns)

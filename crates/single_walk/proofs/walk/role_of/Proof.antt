@@ -14,9 +14,6 @@ cast-wide c = omega (arith, c .pre)
 element-copy-out-wide : tie.Need-element-copy-out-wide
 element-copy-out-wide c = c .pre
 
-wide-requires : tie.Need-wide-requires
-wide-requires c κs = search needs
-
 returns : tie.Need-returns
 returns c =
     let a = c .before .before .before .before .before .args in
@@ -43,7 +40,7 @@ role-of-spec =
     (tie.spec
     cast-wide
     element-copy-out-wide
-    wide-requires
+    (λ c κs. search needs)
     returns
     returns-2
     returns-3

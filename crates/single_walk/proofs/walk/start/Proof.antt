@@ -28,12 +28,6 @@ role-of-requires c κs = low c
 with-setting-requires : tie.Need-with-setting-requires
 with-setting-requires c κs = low (c .before)
 
-peek-requires : tie.Need-peek-requires
-peek-requires c κs = search needs
-
-still-refers-requires : tie.Need-still-refers-requires
-still-refers-requires c κs = search needs
-
 returns : tie.Need-returns
 returns c =
     let b = c .before .before .before .before .before .before .begin .ensures in
@@ -58,7 +52,7 @@ start-spec =
     begin-requires
     role-of-requires
     with-setting-requires
-    peek-requires
-    still-refers-requires
+    (λ c κs. search needs)
+    (λ c κs. search needs)
     returns
     returns-2)

@@ -7,9 +7,6 @@ use Rattle.single_walk.proofs.walk.still_refers.Tie as tie
 returns : tie.Need-returns
 returns c = rw (c .if1 .taken, c .before .pre)
 
-holds-requires : tie.Need-holds-requires
-holds-requires c κs = search needs
-
 returns-2 : tie.Need-returns-2
 returns-2 c = rw (sym (c .before .holds .ensures) ∙ c .if2 .taken)
 
@@ -17,4 +14,4 @@ returns-3 : tie.Need-returns-3
 returns-3 c = rw (sym (c .before .holds .ensures) ∙ c .if2 .left)
 
 pub still-refers-spec : {M : Type 1} → statement M
-still-refers-spec = tie.close (tie.spec returns holds-requires returns-2 returns-3)
+still-refers-spec = tie.close (tie.spec returns (λ c κs. search needs) returns-2 returns-3)

@@ -7,12 +7,6 @@ use borrow.Author.Needs.{needs}
 use Rattle.single_walk.proofs.walk.turn.Statement.{statement}
 use Rattle.single_walk.proofs.walk.turn.Tie as tie
 
-peek-requires : tie.Need-peek-requires
-peek-requires c κs = search needs
-
-list-requires : tie.Need-list-requires
-list-requires c κs = search needs
-
 returns : tie.Need-returns
 returns c =
     let p = sym (c .before .before .peek .ensures) ∙ c .before .if1 .taken in
@@ -23,9 +17,6 @@ returns c =
       passes = λ _ k. never (rw p) k;
     }
 
-start-requires : tie.Need-start-requires
-start-requires c κs = search needs
-
 returns-2 : tie.Need-returns-2
 returns-2 c =
     let p = sym (c .before .before .before .peek .ensures) ∙ c .before .if2 .taken in
@@ -35,9 +26,6 @@ returns-2 c =
       starts = λ _. c .start .ensures .on;
       passes = λ i _. never (rw p) i;
     }
-
-is-refused-requires : tie.Need-is-refused-requires
-is-refused-requires c κs = search needs
 
 returns-3 : tie.Need-returns-3
 returns-3 c =
@@ -55,10 +43,10 @@ pub turn-spec : {M : Type 1} → statement M
 turn-spec =
     tie.close
     (tie.spec
-    peek-requires
-    list-requires
+    (λ c κs. search needs)
+    (λ c κs. search needs)
     returns
-    start-requires
+    (λ c κs. search needs)
     returns-2
-    is-refused-requires
+    (λ c κs. search needs)
     returns-3)

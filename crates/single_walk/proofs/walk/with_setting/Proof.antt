@@ -10,11 +10,8 @@ returns c = rw (eq-eqb (c .before .args .role) 0 (c .if1 .taken))
 joined-requires : tie.Need-joined-requires
 joined-requires c κs = c .before .pre
 
-raised-requires : tie.Need-raised-requires
-raised-requires c κs = search needs
-
 returns-2 : tie.Need-returns-2
 returns-2 c = rw (ne-eqb (c .before .before .before .before .args .role) 0 (c .before .before .before .if1 .left), c .raised .ensures, c .before .before .joined .ensures)
 
 pub with-setting-spec : {M : Type 1} → statement M
-with-setting-spec = tie.close (tie.spec returns joined-requires raised-requires returns-2)
+with-setting-spec = tie.close (tie.spec returns joined-requires (λ c κs. search needs) returns-2)
