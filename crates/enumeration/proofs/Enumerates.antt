@@ -56,7 +56,7 @@ module _ (b : Board) (octets : BytesOf b) (ok : accepted b ≡ true) where
     stays : {e : Event} {bytes : List ℕ} → Reads b d e bytes → Stays b d (line e (reading bytes))
     stays x = (x .answer, x .steps ∙ ap (gives (x .answer)) still, x .sees)
 
-    device-stays : All (Stays b d) (deviceLines (deviceBody (setFor b (d .speed))))
+    pub device-stays : All (Stays b d) (deviceLines (deviceBody (setFor b (d .speed))))
     device-stays =
         let device = deviceBody (setFor b (d .speed)) in
         let long = eighteen b ok (d .speed) in (
@@ -68,7 +68,7 @@ module _ (b : Board) (octets : BytesOf b) (ok : accepted b ≡ true) where
         )
 
     module _ (i : ℕ) (there : i < bNumConfigurations (deviceBody (setFor b (d .speed)))) where
-      configuration-stays : (let body = configurationBody (setFor b (d .speed)) i in All (Stays b d) (configurationLines 2 i (wTotalLength body) body))
+      pub configuration-stays : (let body = configurationBody (setFor b (d .speed)) i in All (Stays b d) (configurationLines 2 i (wTotalLength body) body))
       configuration-stays =
           let body = configurationBody (setFor b (d .speed)) i in
           let total = wholeLength b ok (d .speed) i there in
@@ -82,7 +82,7 @@ module _ (b : Board) (octets : BytesOf b) (ok : accepted b ≡ true) where
       abbrev speed : ℕ
       speed = otherSpeed (d .speed)
 
-      other-stays : All (Stays b d) (otherLines (setFor b speed))
+      pub other-stays : All (Stays b d) (otherLines (setFor b speed))
       other-stays =
           let other = setFor b speed in (
             stays (whole 10 (qualifierOf (deviceBody other)) (readsQualifier b octets ok two r 10 (omega arith)) (omega arith)),
@@ -97,7 +97,7 @@ module _ (b : Board) (octets : BytesOf b) (ok : accepted b ≡ true) where
                 ))),
           )
 
-    zero-stays : All (Stays b d) (zeroLines (setFor b (d .speed)))
+    pub zero-stays : All (Stays b d) (zeroLines (setFor b (d .speed)))
     zero-stays = go (isEmpty (languages (setFor b (d .speed)))) refl
       where
         go : (t : Bool) → isEmpty (languages (setFor b (d .speed))) ≡ t
@@ -105,7 +105,7 @@ module _ (b : Board) (octets : BytesOf b) (ok : accepted b ≡ true) where
         go true e = tt
         go false e = (stays (whole 255 (pieceBody (setFor b (d .speed)) 3 0 0) (readsZero b octets ok r e 255 (omega arith)) (omega (arith, zeroAt b ok (d .speed) e .short))), tt)
 
-    strings-stay : All (Stays b d) (stringLines b (d .speed))
+    pub strings-stay : All (Stays b d) (stringLines b (d .speed))
     strings-stay =
         let set = setFor b (d .speed) in
         all-flat (Stays b d) (λ language. map (stringLine b (d .speed) language) (only isNonzero (references set))) (languages set)
@@ -125,7 +125,7 @@ module _ (b : Board) (octets : BytesOf b) (ok : accepted b ≡ true) where
         (all-append (Stays b d) (zeroLines set) (stringLines b (d .speed)) zero-stays strings-stay))
 
   -- ---- a status end with nothing waiting changes nothing
-  still-end : {d : Device} → Ready b d → d .waiting ≡ nothing → step b d statusEnd ≡ events.done d
+  pub still-end : {d : Device} → Ready b d → d .waiting ≡ nothing → step b d statusEnd ≡ events.done d
   unfolding step steps.statusEnd
   still-end {d} r w = rw (ok, r .fit, eq-eqb (d .waiting) nothing w) refl
 
@@ -158,25 +158,25 @@ module _ (b : Board) (octets : BytesOf b) (ok : accepted b ≡ true) where
     calm : leb 2 speed ≡ false
     calm = calm-speed (isSome (b .high)) speed good
 
-    by-reset : step b d (busReset speed) ≡ events.done reset
+    pub by-reset : step b d (busReset speed) ≡ events.done reset
     unfolding step
     by-reset = rw (ok, from .fit, good, from .calm) refl
 
-    at-reset : Ready b reset
+    pub at-reset : Ready b reset
     at-reset = ready octets ok (busReset speed) from by-reset calm
 
-    by-address : step b reset (setAddress a) ≡ events.done waits
+    pub by-address : step b reset (setAddress a) ≡ events.done waits
     unfolding refusal request requests.setAddress words.first
     by-address = lets b ok at-reset (raw 0x00 0x05 a 0 0) (other-code (isSome (b .high)) (raw 0x00 0x05 a 0 0) refl) (rw (le-leb a 127 high, ne-eqb (a / 256) 3 (λ z. omega arith)) refl)
 
-    at-waits : Ready b waits
+    pub at-waits : Ready b waits
     at-waits = ready octets ok (setAddress a) at-reset by-address calm
 
-    by-status : step b waits statusEnd ≡ events.done addressed
+    pub by-status : step b waits statusEnd ≡ events.done addressed
     unfolding step steps.statusEnd
     by-status = rw (ok, at-waits .fit, ne-eqb a 255 (λ p. omega arith), lt-leb 129 a (omega arith), ne-eqb a 0 (λ p. omega arith)) refl
 
-    at-addressed : Ready b addressed
+    pub at-addressed : Ready b addressed
     at-addressed = ready octets ok statusEnd at-waits by-status calm
 
     listed : List·Memᴰ (configurationOf body) (viewFor b speed .configurations)
@@ -187,7 +187,7 @@ module _ (b : Board) (octets : BytesOf b) (ok : accepted b ≡ true) where
     unfolding configurationOf
     value-range = sound b octets ok speed .values (configurationOf body) listed
 
-    by-configuration : step b addressed (setConfiguration value) ≡ events.done (enumerated speed a value d)
+    pub by-configuration : step b addressed (setConfiguration value) ≡ events.done (enumerated speed a value d)
     unfolding refusal request requests.setConfiguration words.first configurationOf
     by-configuration =
         let (l, h) = value-range in

@@ -1,0 +1,5 @@
+pub mod Runs
+pub mod Packets
+pub mod Addresses
+pub mod Host
+pub mod Promises
