@@ -10,7 +10,7 @@ from module import Unexpected
 # C's types of parameters, as the module has them.
 TYPES = {"uint8_t": "i8", "uint16_t": "i16", "uint32_t": "i32", "size_t": "i64"}
 # The archive's object that a call stands in, by the mark before its prototype; a call without one stands in the first.
-OBJECTS = {"": "heideklonk", "HK_LARGE": "tables", "HK_MAKERS": "makers", "HK_PIPE": "pipe", "HK_TWO_PIPE": "two_pipe"}
+OBJECTS = {"": "heideklonk", "HK_LARGE": "tables", "HK_MAKERS": "makers", "HK_TWO_PIPE": "two_pipe"}
 MARK = rf"(?:({'|'.join(filter(None, OBJECTS))})\s+)?"
 
 BEGINNING = """\

@@ -68,6 +68,15 @@ def retargeted(text):
     return text
 
 
+def apart(text, names):
+    """The same, where these functions are called and not compiled into their callers."""
+    for name in names:
+        text, count = re.subn(rf'^(define internal [^\n]*@"{re.escape(name)}"\([^\n]*\)) (#\d+ )?\{{', r"\1 noinline \2{", text, flags=re.M)
+        if count != 1:
+            raise Unexpected(f"{name} is to be a function of its own, and the module has {count} of them")
+    return text
+
+
 class Memory:
     """Who uses which byte of memory. A block is a variable, or what a parameter or a loaded pointer points to; a place is a block and an offset in it."""
 

@@ -114,8 +114,7 @@ typedef struct hk_part {
  * which a board that does not call it does not link. */
 #define HK_LARGE
 
-/* Mark the calls for the transfers of endpoint zero, with one set and with two: each stands in an object of its own. */
-#define HK_PIPE
+/* Marks the call for the transfers of endpoint zero on a board that lends two sets: it stands in an object of its own. */
 #define HK_TWO_PIPE
 
 /* Power-on: checks the set and the serial block, and makes the image the fresh record (state Default, address 0).
@@ -391,7 +390,7 @@ uint8_t hk_packet(const uint8_t *reply, size_t reply_length, uint16_t asked, uin
  * HK_RECORD_DOES_NOT_FIT for a pipe record that does not fit; they open no set, and their cost does not grow with it. Any
  * other event number is a setup that is not 8 bytes. HK_RECORD_DOES_NOT_FIT also for a pipe_length that is not
  * HK_PIPE_LENGTH, whatever else is passed; nothing is changed. */
-HK_PIPE uint8_t hk_pipe_event(const uint8_t *set, size_t set_length, const uint8_t *serial, size_t serial_length,
+uint8_t hk_pipe_event(const uint8_t *set, size_t set_length, const uint8_t *serial, size_t serial_length,
                               uint8_t *image, size_t image_length, uint8_t *pipe, size_t pipe_length,
                               const uint8_t *reply, size_t reply_length, uint8_t event, uint16_t value,
                               const uint8_t *setup, size_t setup_length, uint8_t out[6], hk_part *part);
