@@ -179,6 +179,21 @@ function callPortEvent(operation, flags) {
     respond(error || (found ? 0 : PART_ASTRAY), number, count.bytes()[0], bytes.bytes(), ...(found ?? [IN_SET, 0, 0]), rowLent.bytes());
 }
 
+// Any event of the pipe, with one set or two: the image is the order, the room, the pipe record and the image. A part of NULL would lie in the set and in the reply.
+function callPipeEvent(operation, flags) {
+    const event = takeNumber(1), value = takeNumber(2), [image, pipe, reply, setup] = [takeBlock(), takeBlock(), takeBlock(), takeBlock()];
+    const lent = new Lent(set.length === 0 ? flags & ~NULL_FOR_EMPTY : flags);
+    const sets = operation === "C" ? [[IN_SET, lent.place(set)], [IN_HIGH, lent.place(high)]] : [[IN_SET, lent.place(set)]];
+    const serialLent = lent.place(serial), imageLent = lent.placeForWriting(image), pipeLent = lent.placeForWriting(pipe), replyLent = lent.place(reply), setupLent = lent.place(setup);
+    const out = lent.placeForWriting(new Uint8Array(6).fill(UNWRITTEN)), part = lent.placePart();
+    const name = operation === "C" ? "hk_two_pipe_event" : "hk_pipe_event";
+    const blocks = [...sets.map(([, block]) => block), serialLent, imageLent, pipeLent, replyLent].flatMap(pair);
+    const { number, error } = lent.call(name, ...blocks, event, value, ...pair(setupLent), out.address, part.address);
+    const found = locate(part, [sets[0], [IN_REPLY, replyLent], ...sets.slice(1), [IN_SERIAL, serialLent]]);
+    const [order, count, first, second, ...room] = out.bytes();
+    respond(error || (found ? 0 : PART_ASTRAY), number, count, [first, second], ...(found ?? [IN_SET, 0, 0]), [order, ...room, ...pipeLent.bytes(), ...imageLent.bytes()]);
+}
+
 function callTwoOpen(flags) {
     const image = takeBlock(), lent = new Lent(flags);
     const blocks = [set, high, serial].map((bytes) => lent.place(bytes)), imageLent = lent.placeForWriting(image);
@@ -269,6 +284,8 @@ for (;;) {
         callEndpoint(operation, flags);
     else if (operation === "q" || operation === "Q")
         callPortEvent(operation, flags);
+    else if (operation === "c" || operation === "C")
+        callPipeEvent(operation, flags);
     else if (operation === "O")
         callTwoOpen(flags);
     else if (operation === "V")
