@@ -1,8 +1,10 @@
 // The C interface: every function of include/heideklonk.h, and nothing else.
 use events::Answer;
 use events::Event;
+use events::refusals::RECORD_DOES_NOT_FIT;
 use records::Change;
 use records::Device;
+use records::IMAGE_LENGTH;
 ghost use mathlib.Core.Path.{_≡_};
 ghost use Rattle.sets.specs.Opening.{lent};
 ghost use Rattle.sets.specs.View.{openingOf};
@@ -26,8 +28,8 @@ mod version;
 pub extern "C" fn hk_open(set: &[u8], serial: &[u8], image: &mut [u8]) -> u8
     ensures { λ r. ⌜ OpensBytes (lent (now (set .entry)) (now (serial .entry))) (now (image .entry)) r (now (image .exit)) ⌝ }
 {
-    if image.len() != 32 {
-        return 8;
+    if image.len() != IMAGE_LENGTH {
+        return RECORD_DOES_NOT_FIT;
     }
     records::renewal::renew(image, false, Change::Fresh { power: 0, speed: 0 });
     steps::opening(set, serial)

@@ -1,4 +1,6 @@
 // The calls for makers, on a bench computer: these may use an array of a set's length in their frame.
+use events::refusals::RECORD_DOES_NOT_FIT;
+use records::IMAGE_LENGTH;
 ghost use Rattle.sets.specs.Opening.{lent};
 ghost use Rattle.descriptors.specs.Limits.{fullSpeed, superSpeed};
 ghost use Rattle.board.specs.Makers.{OpensAs, Writes, Takes, Dumps, Shortens, Tells};
@@ -33,8 +35,8 @@ pub extern "C" fn hk_super_write(
 pub extern "C" fn hk_super_open(set: &[u8], serial: &[u8], image: &mut [u8]) -> u8
     ensures { λ r. ⌜ OpensAs superSpeed (lent (now (set .entry)) (now (serial .entry))) (now (image .entry)) r (now (image .exit)) ⌝ }
 {
-    if image.len() != 32 {
-        return 8;
+    if image.len() != IMAGE_LENGTH {
+        return RECORD_DOES_NOT_FIT;
     }
     records::store(records::fresh(), image);
     sets::opening::opening(set, serial, descriptors::limits::super_speed())

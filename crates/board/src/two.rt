@@ -1,9 +1,11 @@
 // A board that lends two sets, one for each speed, and one serial block. Both sets are opened, one after the other, before the event's frame stands.
 use crate::endpoint;
 use crate::numbers;
+use events::refusals::RECORD_DOES_NOT_FIT;
 use events::reply;
 use records::Change;
 use records::Device;
+use records::IMAGE_LENGTH;
 ghost use mathlib.Core.Path.{_≡_};
 ghost use lib.ListN.{length};
 ghost use Rattle.sets.specs.Opening.{lentTwo};
@@ -17,8 +19,8 @@ ghost use Rattle.board.specs.Lent.{OpensBytes};
 pub extern "C" fn hk_two_open(full: &[u8], high: &[u8], serial: &[u8], image: &mut [u8]) -> u8
     ensures { λ r. ⌜ OpensBytes (lentTwo (now (full .entry)) (now (high .entry)) (now (serial .entry))) (now (image .entry)) r (now (image .exit)) ⌝ }
 {
-    if image.len() != 32 {
-        return 8;
+    if image.len() != IMAGE_LENGTH {
+        return RECORD_DOES_NOT_FIT;
     }
     records::renewal::renew(image, false, Change::Fresh { power: 0, speed: 0 });
     pairs::opening_two(full, high, serial)

@@ -1,14 +1,18 @@
 // What an event makes of the pipe record.
 use crate::Lengths;
+use crate::PIPE_LENGTH;
 use crate::Wire;
 use crate::begun;
 use crate::idle;
 use crate::image;
+use crate::orders;
 use crate::reply_at;
 use crate::started;
 use crate::turns;
 use events::Answer;
 use events::Event;
+use events::refusals::RECORD_DOES_NOT_FIT;
+use events::refusals::SETUP_LENGTH_WRONG;
 use requests::Setup;
 ghost use mathlib.Core.Path.{_≡_};
 ghost use Prim.Native.Nat.{_<_, _≤_, min};
@@ -112,8 +116,8 @@ pub fn begin(answer: Answer, setup: Setup, size: u8, pipe: &mut [u8]) -> u8
     ensures pipe { λ _. ⌜ now (pipe .exit) ≡ pipeBegun (numberOf answer) (now (pipe .entry)) (turnBegun answer setup size) ⌝ }
 {
     let number = events::reply::number(answer);
-    if number == 9 {
-        return 0;
+    if number == SETUP_LENGTH_WRONG {
+        return orders::NOTHING;
     }
     let turn = begun(number, started(reply_at(answer), setup, size));
     let next = turn.transfer;
@@ -155,8 +159,8 @@ fn unheard() -> Moved
     ensures { λ r. ⌜ r ≡ unheardMoved ⌝ }
 {
     Moved {
-        number: 8,
-        order: 0,
+        number: RECORD_DOES_NOT_FIT,
+        order: orders::NOTHING,
         ended: false,
     }
 }
@@ -166,13 +170,13 @@ fn look_at(lengths: Lengths, wire: Wire, pipe: &mut [u8]) -> Moved
     ensures moved { λ r. ⌜ r ≡ looked lengths wire (now (pipe .entry)) ⌝ }
     ensures pipe { λ _. ⌜ now (pipe .exit) ≡ pipeLooked lengths wire (now (pipe .entry)) ⌝ }
 {
-    if pipe.len() != 16 {
+    if pipe.len() != PIPE_LENGTH {
         return unheard();
     }
     if tells(wire) {
         return Moved {
             number: 0,
-            order: 0,
+            order: orders::NOTHING,
             ended: true,
         };
     }

@@ -3,6 +3,7 @@ use crate::Lengths;
 use crate::Wire;
 use crate::hearing;
 use crate::image;
+use crate::orders;
 use crate::sending;
 use events::Answer;
 use events::reply as answers;
@@ -71,7 +72,7 @@ pub fn settle(set: &[u8], pipe: &mut [u8], wire: Wire, setup: Setup, answer: Ans
     }
     let number = answers::number(answer);
     hearing::restart(number, pipe);
-    plain(number, 0)
+    plain(number, orders::NOTHING)
 }
 
 // What an event gets is handed to C: its number is the result, the rest is written. The part lies in the set in use, the serial block or the
