@@ -193,7 +193,7 @@ int main(void) {
 // The blocks of the board that a header makes.
 function compiled(room, source) {
     const path = room.file("board.c", `${source}\n${PRINT}`), program = `${path}.out`;
-    execFileSync("cc", ["-std=c99", "-Wall", "-Wextra", "-Werror", "-pedantic", "-Iinclude", "-O1", "-o", program, path]);
+    execFileSync("cc", ["-std=c99", "-Wall", "-Wextra", "-Werror", "-pedantic", "-Iinclude", "-DHK_ANY_VERSION", "-O1", "-o", program, path]);
     return execFileSync(program).toString().trim();
 }
 
