@@ -529,16 +529,25 @@ static void call_trim(uint8_t flags) {
     respond_with_image();
 }
 
-/* The answer's bytes are the rule, its offset is the place. */
-static void call_explain(uint8_t flags) {
+/* The answer's bytes are the rule, its offset is the place, and of two sets its block is the block that the call named. */
+static void call_explain(uint8_t operation, uint8_t flags) {
+    place_unwritten(&count, 1, flags, 1);
     place_unwritten(&bytes, sizeof(uint16_t), flags, sizeof(uint16_t));
     place_unwritten(&written, sizeof(uint32_t), flags, sizeof(uint32_t));
+    uint8_t *about = count.room + count.start, number;
     uint16_t *rule = (uint16_t *)(void *)(bytes.room + bytes.start);
     uint32_t *place = (uint32_t *)(void *)(written.room + written.start);
-    uint8_t number = hk_explain(lent(&set, flags), set.length, lent(&serial, flags), serial.length, rule, place);
+    if (operation == 'X')
+        number = hk_explain(lent(&set, flags), set.length, lent(&serial, flags), serial.length, rule, place);
+    else if (operation == 'Y')
+        number = hk_super_explain(lent(&set, flags), set.length, lent(&serial, flags), serial.length, rule, place);
+    else
+        number = hk_two_explain(lent(&set, flags), set.length, lent(&high, flags), high.length, lent(&serial, flags),
+                                serial.length, about, rule, place);
     uint8_t told[2] = {(uint8_t)*rule, (uint8_t)(*rule >> 8)};
-    int kept = unchanged(&set) && unchanged(&serial) && guards_unchanged(&bytes) && guards_unchanged(&written);
-    respond(kept ? 0 : BYTES_CHANGED, number, told, 2, number == 6, *place, 0);
+    int kept = unchanged(&set) && unchanged(&high) && unchanged(&serial) && guards_unchanged(&count) &&
+               guards_unchanged(&bytes) && guards_unchanged(&written);
+    respond(kept ? 0 : BYTES_CHANGED, number, told, 2, operation == 'Z' ? *about : number == 6, *place, 0);
     put_number(0);
 }
 
@@ -605,8 +614,8 @@ int main(void) {
         case 't':
             call_trim(flags);
             break;
-        case 'X':
-            call_explain(flags);
+        case 'X': case 'Y': case 'Z':
+            call_explain(operation, flags);
             break;
         case 'w': case 'F': case 'i': case 'x':
             call_maker(operation, flags);

@@ -112,6 +112,16 @@ class Served:
         number, rule, part, _ = self.ask(b"X", b"")
         return number, int.from_bytes(rule, "little"), part[1]
 
+    def super_explain(self):
+        """hk_super_explain, in the same way."""
+        number, rule, part, _ = self.ask(b"Y", b"")
+        return number, int.from_bytes(rule, "little"), part[1]
+
+    def two_explain(self):
+        """hk_two_explain of the set and the high-speed set that are lent: the number, the block, the rule and the place."""
+        number, rule, part, _ = self.ask(b"Z", b"")
+        return number, part[0], int.from_bytes(rule, "little"), part[1]
+
     def packets(self, length, asked, size):
         """The lengths of the packets."""
         for k in range(65536):
