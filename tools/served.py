@@ -6,6 +6,8 @@ from pieces import word
 # The events by their numbers in include/heideklonk.h, and the operation of each in the protocol.
 SETUP, STATUS_END, BUS_RESET, HALT, PACKET_PASSED, POWER, SUSPEND, RESUME, WAKE = range(9)
 OPERATIONS = b"serhpPzya"
+# The blocks of a pair as hk_two_explain numbers them, by the protocol's own numbers.
+BLOCKS_TOLD = {0: 0, 3: 1, 1: 2}
 # A bus reset that names its speed.
 BUS_RESET_TO = b"R"
 
@@ -118,9 +120,9 @@ class Served:
         return number, int.from_bytes(rule, "little"), part[1]
 
     def two_explain(self):
-        """hk_two_explain of the set and the high-speed set that are lent: the number, the block, the rule and the place."""
+        """hk_two_explain: the number, the rule, the block (0 the full-speed set, 1 the high-speed set, 2 the serial block) and the place."""
         number, rule, part, _ = self.ask(b"Z", b"")
-        return number, part[0], int.from_bytes(rule, "little"), part[1]
+        return number, int.from_bytes(rule, "little"), BLOCKS_TOLD[part[0]], part[1]
 
     def packets(self, length, asked, size):
         """The lengths of the packets."""
