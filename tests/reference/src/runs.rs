@@ -94,7 +94,12 @@ pub fn explaining(comparison: &mut Comparison, calls: usize, seed: u64, fault: F
                 (Lent::new(set, serial, fault), Call::Explain, [Kind::Alone; 2])
             }
             1 => {
-                let (set, serial) = any_super_set(&mut random);
+                let (mut set, serial) = any_super_set(&mut random);
+                match random.below(100) {
+                    0 => set.truncate(random.below(8)),
+                    1 => set[2] = random.pick(&[0, 65, 255]),
+                    _ => {}
+                }
                 (Lent::new(set, serial, fault), Call::SuperExplain, [Kind::Super; 2])
             }
             _ => {
