@@ -83,16 +83,17 @@ class Served:
         value, setup = (0, carried) if kind == SETUP else (carried[0] if carried else 0, b"")
         return self.ask(b"V", bytes([kind, value]) + block(image) + block(setup))
 
-    def port_event(self, port, kind, carried, row):
-        """An event at a port of a row of records, of the one set that is lent; the image is the row."""
+    def port_event(self, port, kind, carried, row, two=False):
+        """An event at a port of a row of records, of the one set that is lent or of two; the image is the row."""
         value, setup = (0, carried) if kind == SETUP else (carried[0] if carried else 0, b"")
-        return self.ask(b"q", port.to_bytes(8, "little") + bytes([kind, value]) + block(row) + block(setup))
+        return self.ask(b"Q" if two else b"q", port.to_bytes(8, "little") + bytes([kind, value]) + block(row) + block(setup))
 
-    def pipe_event(self, kind, value, blocks, setup):
-        """An event of the pipe, with image, pipe record and reply as blocks: the number, the bytes, the part, the order, the room, and both records."""
+    def pipe_event(self, kind, value, blocks, setup, two=False):
+        """An event of the pipe, of one set or of two, with image, pipe record and reply as blocks: the number, the bytes, the part, the order, the room,
+        and both records."""
         image, pipe, _ = blocks
         rest = bytes([kind]) + word(value) + b"".join(map(block, [*blocks, setup]))
-        number, given, part, left = self.ask(b"c", rest)
+        number, given, part, left = self.ask(b"C" if two else b"c", rest)
         room, records = int.from_bytes(left[1:3], "little"), left[3:]
         return number, given, part, left[0], room, records[len(pipe) :], records[: len(pipe)]
 
