@@ -31,7 +31,7 @@ const DEFAULT_STRIKES: usize = 200_000;
 const DEFAULT_WIRE_CALLS: usize = 200_000;
 const DEFAULT_RUNS: usize = 20_000;
 const DEFAULT_SUPERS: usize = 100_000;
-const DEFAULT_EXPLAINED: usize = 400_000;
+const DEFAULT_EXPLAINED: usize = 200_000;
 
 /// The numbers that opening gives back, and all of them.
 const OPENING_NUMBERS: [u8; 7] = [0, 1, 2, 3, 4, 5, 6];
