@@ -223,6 +223,12 @@ def remark_reference(data, serial, place):
     return f"string {data[place]} is missing in {language_list(missing_languages(data, data[place]))}"
 
 
+def remark_numbers(data, serial, place):
+    """A string whose index and language do not go together: either may be the wrong one."""
+    entry = entries_of(data)[(place - 4) // 8]
+    return f"this entry has index {entry.index} and language {entry.language:04X}; string 0 has index 0 and language 0000, a string neither"
+
+
 def remark_no_list(data, serial, place):
     """A reference without string 0, or strings without it."""
     if place >= 4 + 8 * len(entries_of(data)):
@@ -293,7 +299,7 @@ def remark_other_byte(lent, fault):
 
 REMARKS = {
     202: remark_order, 404: remark_end, 418: remark_before, 433: remark_address, 434: remark_address, 436: remark_value,
-    508: lambda data, serial, place: f"the language before it is {language_words(word(data, place - 2))}",
+    504: remark_numbers, 508: lambda data, serial, place: f"the language before it is {language_words(word(data, place - 2))}",
     509: lambda data, serial, place: f"string 0 lists {language_list(languages_of(data))}",
     510: remark_no_list, 511: lambda data, serial, place: f"iSerialNumber is {serial_index(data)}", 512: remark_reference,
     601: lambda data, serial, place: "iSerialNumber is 0: this set names no serial number", 603: remark_serial,

@@ -200,8 +200,18 @@ def mend_body(copy, part, at, rule, exact, field):
     return copy.set_aside(part) if part.kind == CONFIGURATION else False
 
 
+def is_list(copy, part):
+    """Whether a string that is not numbered as string 0 may be it: there is no other, and it lists the languages of all others."""
+    others = [other for other in copy.of_kind(STRING) if other is not part]
+    listed = {word(part.body, at) for at in range(2, len(part.body) - 1, 2)}
+    return all((other.index, other.language) != (0, 0) for other in others) and {other.language for other in others if other.language} <= listed
+
+
 def mend_language(copy, part):
-    """504: a string gets the first listed language that lacks it; what cannot is dropped."""
+    """504: string 0 gets its numbers, a string the first listed language that lacks it; what cannot is dropped."""
+    if is_list(copy, part):
+        part.index = part.language = 0
+        return True
     there = {(other.index, other.language) for other in copy.of_kind(STRING)}
     lacking = [language for language in copy.listed() if (part.index, language) not in there]
     if part.index == 0 or not lacking:

@@ -182,6 +182,12 @@ function missingLanguages(set, wanted) {
 
 const remarkReference = (set, serial, place) => `string ${set[place]} is missing in ${languageList(missingLanguages(set, set[place]))}`;
 
+// A string whose index and language do not go together: either may be the wrong one.
+function remarkNumbers(set, serial, place) {
+    const { index, language } = placedEntries(set)[(place - 4) >> 3];
+    return `this entry has index ${index} and language ${hexadecimal(language, 4)}; string 0 has index 0 and language 0000, a string neither`;
+}
+
 // A reference without string 0, or strings without it.
 function remarkNoList(set, serial, place) {
     return place >= 4 + 8 * placedEntries(set).length ? `this names string ${set[place]}, and the set has no string 0` : "the set has strings, and no string 0";
@@ -245,7 +251,7 @@ function remarkOtherByte(lent, { block, place }) {
 
 const REMARKS = {
     202: remarkOrder, 404: remarkEnd, 418: remarkBefore, 433: remarkAddress, 434: remarkAddress, 436: remarkValue,
-    508: (set, serial, place) => `the language before it is ${languageName(word(set, place - 2))}`,
+    504: remarkNumbers, 508: (set, serial, place) => `the language before it is ${languageName(word(set, place - 2))}`,
     509: (set) => `string 0 lists ${languageList(languagesOf(set))}`,
     510: remarkNoList, 511: (set) => `iSerialNumber is ${serialIndex(set)}`, 512: remarkReference,
     601: () => "iSerialNumber is 0: this set names no serial number", 603: remarkSerial,

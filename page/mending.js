@@ -193,8 +193,19 @@ function mendBody(copy, { part, at }, { rule, place }, exact, field) {
     return part.type === TYPE.CONFIGURATION && copy.setAside(part);
 }
 
-// 504: a string gets the first listed language that lacks it; what cannot is dropped.
+// Whether a string that is not numbered as string 0 may be it: there is no other, and it lists the languages of all others.
+function isList(copy, part) {
+    const others = copy.ofType(TYPE.STRING).filter((other) => other !== part), { body } = part;
+    const listed = new Set(Array.from({ length: Math.max(0, body.length - 2) >> 1 }, (_, at) => word(body, 2 + 2 * at)));
+    return others.every(({ index, language }) => index !== 0 || language !== 0) && others.every(({ language }) => language === 0 || listed.has(language));
+}
+
+// 504: string 0 gets its numbers, a string the first listed language that lacks it; what cannot is dropped.
 function mendLanguage(copy, part) {
+    if (isList(copy, part)) {
+        part.index = part.language = 0;
+        return true;
+    }
     const there = copy.ofType(TYPE.STRING), lacks = (listed) => !there.some(({ index, language }) => index === part.index && language === listed);
     const lacking = copy.listed().filter(lacks);
     if (part.index === 0 || lacking.length === 0)

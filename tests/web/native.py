@@ -137,13 +137,17 @@ def stepped(library, name):
 
 
 # ---- refused sets
+# Examples of several faults, of which one is behind bytes that mending put in: two endpoints without companions.
+SEVERAL = ["SS with 0: 53; 18: 20; 24: 4E; 48: 20; 59: 02; 71: 07 05 82 03 08 00 0A 05 0F 05 00 00"]
+
+
 def refused_examples():
     """The guide's examples: sets that are lent alone, pairs, SuperSpeed sets."""
     guide = script("tests", "makers", "examples")
     with open(guide.GUIDE, encoding="utf-8") as file:
         text = file.read()
     sets = guide.read_sets(guide.read_blocks(text))
-    for example, _ in guide.read_examples(text, sets):
+    for example in [*(example for example, _ in guide.read_examples(text, sets)), *SEVERAL]:
         *blocks, serial = guide.changed_pair(sets, example) if guide.is_pair(example) else guide.changed(sets, example)
         kind = TWO if len(blocks) == 2 else SUPER_SET if guide.is_super(sets, example) else ONE
         yield example, Lent(kind, tuple(blocks), serial)
