@@ -4,7 +4,7 @@ from packets import SEND, Heard
 from pieces import a_set
 from served import SETUP, Served
 from text import Mistake, piece
-from words import Answer, packet_size
+from words import IMAGE_LENGTH, Answer, packet_size
 
 # The blocks that a part may lie in, by the protocol's numbers.
 IN_SET, IN_SERIAL, IN_REPLY, IN_HIGH = range(4)
@@ -46,7 +46,8 @@ class Library(Served):
             return (self.two_event if self.is_two() else self.event)(kind, carried, before)
         records = self.row[: self.port] + [before] + self.row[self.port + 1 :] if self.port < len(self.row) else self.row
         number, given, part, row = self.port_event(self.port, kind, carried, b"".join(records), self.is_two())
-        return number, given, part, row[len(before) * self.port : len(before) * (self.port + 1)]
+        self.row = [row[at : at + IMAGE_LENGTH] for at in range(0, len(row), IMAGE_LENGTH)]
+        return number, given, part, self.row[self.port] if self.port < len(self.row) else before
 
     def answer(self, event, before):
         """The answer to an event, or to opening where there is none."""

@@ -11,6 +11,7 @@ use crate::events::{Block, Event, Lent, Outcome};
 use crate::explained::{explain, rules_of};
 use crate::fault::Fault;
 use crate::kind::Kind;
+use crate::octets::number;
 use crate::opening::Board;
 use crate::pair::{Boards, Refused};
 use crate::pair_draft::{any_pair, valid_pair};
@@ -81,6 +82,25 @@ pub fn opening_two(comparison: &mut Comparison, pairs: usize, seed: u64, fault: 
 /// How often each rule was told, by the block that it was told of, for each kind of set.
 pub type ReachedByRules = Vec<(Kind, u16, usize)>;
 
+/// A second fault, so that the order of two shows: an entry's index or language, or a byte of its body, most often near its start.
+fn changed_again(set: &mut [u8], random: &mut Random) {
+    let entries = set.get(2).map_or(0, |&count| usize::from(count));
+    if entries == 0 || set.len() < 4 + 8 * entries {
+        return;
+    }
+    let at = 4 + 8 * random.below(entries);
+    let (offset, length) = (usize::from(number(set, at + 4)), usize::from(number(set, at + 6)).max(1));
+    let place = match random.below(4) {
+        0 => at + random.pick(&[1, 2]),
+        1 => offset + random.below(length),
+        _ => offset + random.below(length.min(10)),
+    };
+    let byte = random.pick(&[0, 1, 2, 7, 64, 255]);
+    if let Some(changed) = set.get_mut(place) {
+        *changed = byte;
+    }
+}
+
 /// Lends sets of each kind to hk_explain, hk_two_explain and hk_super_explain, in turn.
 pub fn explaining(comparison: &mut Comparison, calls: usize, seed: u64, fault: Fault) -> ReachedByRules {
     let mut random = Random::new(seed);
@@ -103,7 +123,11 @@ pub fn explaining(comparison: &mut Comparison, calls: usize, seed: u64, fault: F
                 (Lent::new(set, serial, fault), Call::SuperExplain, [Kind::Super; 2])
             }
             _ => {
-                let (full, high, serial) = any_pair(&mut random);
+                let (mut full, mut high, serial) = any_pair(&mut random);
+                if random.percent(30) {
+                    changed_again(&mut full, &mut random);
+                    changed_again(&mut high, &mut random);
+                }
                 (Lent::two(full, high, serial, fault), Call::TwoExplain, [Kind::PairedFull, Kind::PairedHigh])
             }
         };
