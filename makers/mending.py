@@ -5,12 +5,12 @@ import os, sys
 TOP = os.path.dirname(os.path.dirname(os.path.abspath(__file__)))
 sys.path.insert(1, os.path.join(TOP, "tools"))
 from faults import is_absent, mirrored, should_be
-from fields import BOS, COMPANION, OTHER_SPEED, QUALIFIER, descriptors_in, entries_of, field_at, word
+from fields import BOS, OTHER_SPEED, QUALIFIER, descriptors_in, entries_of, field_at, word
 from lent import SERIAL
 from pairing import mirrors
 from pieces import a_set
 from rules import ALONE, HIGH, PAIRED, SUPER
-from text import CONFIGURATION, DEVICE, ENDPOINT, STRING
+from text import CONFIGURATION, ENDPOINT, STRING
 
 MOST_TOLD = 20
 MOST_MENDED = 4 * MOST_TOLD

@@ -5,7 +5,7 @@ import { faultsOf } from "./mending.js";
 import { laidOut } from "./layout.js";
 import { pairOfEntries } from "./pairs.js";
 import { Mistake, lineAt, piece, readEntries } from "./text.js";
-import { alike, joined, littleEndian, word } from "./bytes.js";
+import { alike, joined, word } from "./bytes.js";
 import { KINDS, SERIAL } from "./board.js";
 
 const NO_BYTES = new Uint8Array(0);
