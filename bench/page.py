@@ -2,6 +2,7 @@
 import html
 
 from fields import entries_of
+from lent import SERIAL
 from text import STRING, cut, descriptor_line, string_text
 from values import language_words
 
@@ -42,9 +43,14 @@ def hexadecimal_rows(data, places):
     return "<pre>" + "\n".join(rows) + "</pre>"
 
 
-def set_page(data, serial, faults):
-    """A set, its serial block, and where they are at fault."""
-    in_set, in_serial = ({fault.place for fault in faults if (fault.number == 6) == six} for six in (False, True))
-    block = f"<p>Serial block</p>{hexadecimal_rows(serial, in_serial)}" if serial else ""
-    shown = " open" if in_set else ""
-    return f"{tree(data, in_set)}<details{shown}><summary>{len(data)} bytes</summary>{hexadecimal_rows(data, in_set)}</details>{block}"
+def set_page(data, places):
+    """A set, and where it is at fault."""
+    return f"{tree(data, places)}<details{' open' * bool(places)}><summary>{len(data)} bytes</summary>{hexadecimal_rows(data, places)}</details>"
+
+
+def sets_page(lent, faults):
+    """All that is lent: each set under its name where there are two, and the serial block."""
+    places = {block: {fault.place for fault in faults if fault.block == block} for block in (0, 1, SERIAL)}
+    named = len(lent.sets) > 1
+    sets = "".join((f"<p>{lent.name_of(block)[4:].capitalize()}</p>" if named else "") + set_page(data, places[block]) for block, data in enumerate(lent.sets))
+    return sets + (f"<p>Serial block</p>{hexadecimal_rows(lent.serial, places[SERIAL])}" if lent.serial else "")

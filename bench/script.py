@@ -1,9 +1,11 @@
 """A script as it is read: its steps, each with its line; and the lines of several drivers that are tried in orders."""
 import os, re
 
-from events import read_event
+from asking import LaidOut
+from events import Words, read_event
+from lent import SUPER_SET, TWO
 from packets import Lend, PacketCall, WORDS, goes_by_packets
-from text import Line, Mistake, read_entries, read_lines, text_of_lines
+from text import Line, Mistake, read_entries, read_lines, read_text, text_of_lines
 from words import EXPECTED_OF_ORDERS, count_words, read_expected
 
 
@@ -18,6 +20,8 @@ class Lending:
     def __init__(self, line, folder):
         self.line, self.block, self.text, self.at, self.data = line, line.word, None, None, b""
         found = re.fullmatch(r"(\d+): *(.*)", line.rest)
+        if line.word == "high" and not found:
+            raise line.mistake("`high 47: 00` changes bytes of a pair's high-speed set: `pair FULL HIGH` lends both")
         if found:
             self.at, self.data = int(found[1]), line.read_bytes(found[2])
         elif line.word == "record":
@@ -44,6 +48,48 @@ class Lending:
         if self.at + len(self.data) > len(before):
             raise Mistake(f"the {self.block} has only {count_words(len(before), 'byte')}")
         return before[: self.at] + self.data + before[self.at + len(self.data) :]
+
+
+class LendingOfKind:
+    """`pair FULL HIGH`, or `super SET`: files, or texts, which bring their serial block."""
+
+    def __init__(self, line, folder):
+        self.line, self.kind = line, {"pair": TWO, "super": SUPER_SET}[line.word]
+        names, count = line.rest.split(), 2 if line.word == "pair" else 1
+        if len(names) != count:
+            raise line.mistake("a pair is two files: `pair FULL HIGH`" if count == 2 else "a SuperSpeed set is one file: `super SET`")
+        self.sets, self.serial = self.read([os.path.join(folder, name) for name in names])
+
+    def read(self, paths):
+        """The sets; the serial block, or None where files have none of their own."""
+        try:
+            if not all(path.endswith(".txt") for path in paths):
+                return tuple(map(read_file, paths)), None
+            lent = LaidOut([self.read_text(path) for path in paths], self.kind).lent
+            return lent.sets, lent.serial
+        except OSError as error:
+            raise self.line.mistake(f"{error.filename}: {error.strerror}") from None
+        except (Mistake, UnicodeDecodeError, OverflowError) as mistake:
+            raise self.line.mistake(mistake) from None
+
+    def read_text(self, path):
+        with open(path, encoding="utf-8-sig") as file:
+            try:
+                return read_text(file)
+            except Mistake as mistake:
+                raise Mistake(f"{path}, {mistake}") from None
+
+
+class Ports:
+    """`ports N`: a row of N records from here on, each with a serial block of its own; `port K`: the lines from here on are that port's."""
+
+    def __init__(self, line):
+        self.line, words = line, Words(line, line.rest)
+        self.number = words.number("a number of ports" if line.word == "ports" else "a port's number", 1)
+        if words.left:
+            raise line.mistake(f"{' '.join(words.left)} is too much")
+        if line.word == "ports" and self.number == 0:
+            raise line.mistake("a row has one port or more")
 
 
 class LentHere(Lending):
@@ -92,7 +138,7 @@ class Orders:
     def add(self, line):
         if line.word == "driver":
             self.drivers.append((line.rest, []))
-        elif line.word in ("set", "serial", "record", "pipe", "orders", *WORDS) or not self.drivers:
+        elif line.word in ("set", "pair", "high", "super", "ports", "port", "serial", "record", "pipe", "orders", *WORDS) or not self.drivers:
             raise line.mistake("among orders, lines are `driver NAME`, events, and `end`")
         else:
             self.drivers[-1][1].append(Call(line))
@@ -114,8 +160,12 @@ def read_script(path):
                 steps.append(orders := Orders(line))
             elif line.text == "set here":
                 steps.append(LentHere(line, lines))
-            elif line.word in ("set", "serial", "record"):
+            elif line.word in ("set", "high", "serial", "record"):
                 steps.append(Lending(line, os.path.dirname(path)))
+            elif line.word in ("pair", "super"):
+                steps.append(LendingOfKind(line, os.path.dirname(path)))
+            elif line.word in ("ports", "port"):
+                steps.append(Ports(line))
             elif line.word == "pipe":
                 by_packets = True
                 steps.append(Lend(line))

@@ -16,8 +16,8 @@
  * What the caller owes, for every call:
  *   - A pointer and its length name memory that stays readable for the whole call, and writable where it is not const.
  *   - What a pointer that is not const points to (image, record, row, pipe, bytes, count, out, part, packet, descriptor; of
- *     a maker's call also buffer, written, total, rule, place and hk_trim's set) overlaps nothing else that is passed. What
- *     is only read may overlap other such memory.
+ *     a maker's call also buffer, written, total, block, rule, place and hk_trim's set) overlaps nothing else that is
+ *     passed. What is only read may overlap other such memory.
  *   - A pointer whose length is 0 may be NULL. A set (or reply) of NULL and 0 leaves a part whose start is NULL and whose
  *     length is 0, and that is a valid part. This is tested and not proved.
  *   - A hk_part holds a valid value at the call: HK_NO_PART, or what an earlier call left there.
@@ -419,8 +419,8 @@ HK_TWO_PIPE uint8_t hk_two_pipe_event(const uint8_t *full, size_t full_length, c
 HK_MAKERS uint8_t hk_write(const uint8_t *pieces, size_t pieces_length, const uint8_t *serial, size_t serial_length,
                  uint8_t *buffer, size_t buffer_length, uint16_t *written);
 
-/* The same for a SuperSpeed set, for another vendor's board: no call of this library but hk_super_open takes it. Its pieces
- * have type 15 too, one BOS. HK_SET_REFUSED is then: hk_super_open would refuse the set. */
+/* The same for a SuperSpeed set, for another vendor's board: no call of this library but hk_super_open and hk_super_explain
+ * takes it. Its pieces have type 15 too, one BOS. HK_SET_REFUSED is then: hk_super_open would refuse the set. */
 HK_MAKERS uint8_t hk_super_write(const uint8_t *pieces, size_t pieces_length, const uint8_t *serial, size_t serial_length,
                  uint8_t *buffer, size_t buffer_length, uint16_t *written);
 
@@ -467,6 +467,22 @@ HK_MAKERS uint8_t hk_trim(uint8_t *set, size_t set_length, const uint8_t *serial
  * read, each configuration once for each question that the call has. */
 HK_MAKERS uint8_t hk_explain(const uint8_t *set, size_t set_length, const uint8_t *serial, size_t serial_length,
                    uint16_t *rule, uint32_t *place);
+
+/* As hk_explain, of a SuperSpeed set: hk_super_open's number for the set and the serial block, with the rules for the BOS and
+ * the companions too. */
+HK_MAKERS uint8_t hk_super_explain(const uint8_t *set, size_t set_length, const uint8_t *serial, size_t serial_length,
+                   uint16_t *rule, uint32_t *place);
+
+/* What a rule is about, of two sets lent together. */
+#define HK_BLOCK_FULL 0   /* the full-speed set */
+#define HK_BLOCK_HIGH 1   /* the high-speed set */
+#define HK_BLOCK_SERIAL 2 /* the serial block */
+
+/* As hk_explain, of a pair: hk_two_open's number for both sets and the serial block; *rule; *block, what the rule is about,
+ * HK_BLOCK_FULL, HK_BLOCK_HIGH or HK_BLOCK_SERIAL; and *place, the byte of that block. HK_PAIR_BROKEN: a rule from 2401 on,
+ * of the full-speed set beside the other, or of the high-speed set beside it. HK_DONE: *block, *rule and *place are 0. */
+HK_MAKERS uint8_t hk_two_explain(const uint8_t *full, size_t full_length, const uint8_t *high, size_t high_length,
+                   const uint8_t *serial, size_t serial_length, uint8_t *block, uint16_t *rule, uint32_t *place);
 
 #ifdef __cplusplus
 }

@@ -2,6 +2,7 @@
 import os, sys
 
 from fields import entries_of
+from lent import SERIAL
 from text import CONFIGURATION, DEVICE, Mistake
 
 TOP = os.path.dirname(os.path.dirname(os.path.abspath(__file__)))
@@ -28,7 +29,7 @@ def place_in_dump(data, fault):
     at = 0
     for entry in entries_of(data):
         if entry.kind in (DEVICE, CONFIGURATION):
-            if fault.number != 6 and entry.offset <= fault.place < entry.offset + entry.length:
+            if fault.block != SERIAL and entry.offset <= fault.place < entry.offset + entry.length:
                 return fault.place - entry.offset + at
             at += entry.length
     return None

@@ -1,13 +1,12 @@
 """A fault in words: the rule, the byte by its field, what was found there, and what should stand there or may. The library says rule and byte."""
 import collections
 
-from fields import KINDS, descriptors_in, entries_of, entry_at, field_at, serial_field, word
-from rules import RULES
+from fields import BOS, COMPANION, KINDS, OTHER_SPEED, QUALIFIER, Field, descriptors_in, entries_of, entry_at, field_at, serial_field, word
+from lent import SERIAL
+from rules import HIGH, SUPER, rule_words
 from text import CONFIGURATION, DEVICE, ENDPOINT, INTERFACE, STRING, hexadecimal
 from values import language_words
 
-# What the library tells: opening's number, the rule, and the byte, of the serial block where the number is 6.
-Fault = collections.namedtuple("Fault", "number rule place")
 Words = collections.namedtuple("Words", "rule block place field found should allowed remark")
 
 
@@ -72,6 +71,11 @@ def right_string_length(data, serial, place):
     return (length, f"its entry's length is {length}") if length < 256 else None
 
 
+def right_store_length(data, serial, place):
+    length = entry_at(data, place).length
+    return length, f"the BOS has {counted(length, 'byte')}"
+
+
 def always(value):
     return lambda data, serial, place: (value, "")
 
@@ -81,15 +85,68 @@ EXACT = {
     204: right_offset, 205: right_last_length, 309: right_configurations, 310: right_configurations, 311: right_configurations, 401: right_index,
     407: right_total, 414: right_interfaces, 415: right_interfaces, 419: right_interfaces, 421: right_endpoints, 501: right_string_length,
     605: lambda data, serial, place: (len(serial), f"the block has {counted(len(serial), 'byte')}"),
-    **{rule: always(0) for rule in (106, 302, 303, 402, 416, 417)}, **{rule: always(18) for rule in (304, 305)},
-    306: always(1), 405: always(2), 502: always(3), 606: always(3),
+    316: right_store_length, **{rule: always(0) for rule in (106, 302, 303, 313, 314, 402, 416, 417, 2402, 2403, 2408)},
+    **{rule: always(18) for rule in (304, 305)}, 306: always(1), 405: always(2), 502: always(3), 606: always(3), 2404: always(10),
 }
+# Where one value alone will do by the limits of a speed.
+EXACT_BY_LIMITS = {HIGH: {307: 64, 428: 512}, SUPER: {307: 9, 428: 1024}}
 
 
-def should_be(data, serial, fault):
+# ---- a pair: what a set has to have, by the other
+Mirrored = collections.namedtuple("Mirrored", "entry original body")
+
+
+def mirrored(lent, block, place):
+    """The type 6 or 7 entry that a byte belongs to, the entry of the other set that it is made of, and the body that it should have; None if it is one too many."""
+    data, others = lent.sets[block], entries_of(lent.sets[1 - block])
+    entries = entries_of(data)
+    entry = entries[(place - 4) // 8] if place < 4 + 8 * len(entries) else entry_at(data, place)
+    if entry.kind == QUALIFIER:
+        device = next(other for other in others if other.kind == DEVICE)
+        return Mirrored(entry, device, bytes([10, QUALIFIER]) + device.body[2:8] + device.body[17:18] + b"\0")
+    before = sum(other.kind == OTHER_SPEED and other.at < entry.at for other in entries)
+    configurations = of_kind(lent.sets[1 - block], CONFIGURATION)[before : before + 1]
+    return Mirrored(entry, configurations[0], configurations[0].body[:1] + bytes([OTHER_SPEED]) + configurations[0].body[2:]) if configurations else None
+
+
+def right_by_other(lent, fault):
+    """The value that the other set makes it have."""
+    found = mirrored(lent, fault.block, fault.place)
+    if not found:
+        return None
+    if fault.rule == 2407:
+        return found.original.index, ""
+    if fault.rule == 2409:
+        return found.original.length, ""
+    field = field_at(lent.sets[fault.block], fault.place)
+    start = field.start - found.entry.offset
+    return int.from_bytes(found.body[start : start + field.size], "little"), ""
+
+
+BY_OTHER = (2405, 2407, 2409, 2410)
+
+
+def should_be(lent, fault):
     """The one value that will do, and why; None where there are several or none."""
+    if fault.rule in BY_OTHER:
+        return right_by_other(lent, fault)
+    data = lent.sets[0 if fault.block == SERIAL else fault.block]
+    limited = EXACT_BY_LIMITS.get(lent.limits_of(fault.block), {}).get(fault.rule) if fault.block != SERIAL else None
+    if limited is not None:
+        return limited, ""
     right = EXACT.get(fault.rule)
-    return right(data, serial, fault.place) if right else None
+    return right(data, lent.serial, fault.place) if right else None
+
+
+# ---- entries that are missing: they are told where they have to stand
+ABSENT = {312: BOS, 2401: QUALIFIER, 2406: OTHER_SPEED}
+
+
+def is_absent(data, fault):
+    """Whether a rule tells of an entry that is not there, rather than of one too many."""
+    entries = entries_of(data)
+    at = (fault.place - 4) // 8
+    return fault.rule in ABSENT and not (at < len(entries) and entries[at].kind == ABSENT[fault.rule])
 
 
 # ---- what else helps
@@ -166,13 +223,17 @@ def remark_reference(data, serial, place):
     return f"string {data[place]} is missing in {language_list(missing_languages(data, data[place]))}"
 
 
+def remark_numbers(data, serial, place):
+    """A string whose index and language do not go together: either may be the wrong one."""
+    entry = entries_of(data)[(place - 4) // 8]
+    return f"this entry has index {entry.index} and language {entry.language:04X}; string 0 has index 0 and language 0000, a string neither"
+
+
 def remark_no_list(data, serial, place):
     """A reference without string 0, or strings without it."""
     if place >= 4 + 8 * len(entries_of(data)):
         return f"this names string {data[place]}, and the set has no string 0"
-    near = next((entry for entry in of_kind(data, STRING) if 0 in (entry.index, entry.language)), None)
-    meant = f": entry {near.number} has index {near.index} and language {near.language:04X}, and string 0 has 0 and 0000" if near else ""
-    return f"the set has strings, and no string 0{meant}"
+    return "the set has strings, and no string 0"
 
 
 def remark_serial(data, serial, place):
@@ -187,32 +248,107 @@ def serial_index(data):
     return of_kind(data, DEVICE)[0].body[16]
 
 
+# ---- remarks on a pair and on a SuperSpeed set
+def remark_store(lent, fault):
+    there = of_kind(lent.sets[0], BOS)
+    return f"entry {there[0].number} is a BOS already" if there else "this set has no BOS"
+
+
+def remark_companion(lent, fault):
+    """What stands behind the endpoint that lacks its companion."""
+    entry = entry_at(lent.sets[0], fault.place)
+    behind = fault.place - entry.offset + lent.sets[0][fault.place]
+    return f"behind it stands {type_words(entry.body[behind + 1])} at byte {entry.offset + behind}" if behind + 1 < len(entry.body) else "its configuration ends behind it"
+
+
+def remark_stray(lent, fault):
+    entry = entry_at(lent.sets[0], fault.place)
+    before = [at for at in descriptors_in(entry.body) if entry.offset + at < fault.place - 1]
+    return f"before it stands {type_words(entry.body[before[-1] + 1])} at byte {entry.offset + before[-1]}" if before else ""
+
+
+def remark_qualifier(lent, fault):
+    there = of_kind(lent.sets[fault.block], QUALIFIER)
+    return f"entry {there[0].number} has type 6 already" if there else f"{lent.name_of(fault.block)} has no type 6 entry"
+
+
+def remark_counts(lent, fault):
+    here, there = of_kind(lent.sets[fault.block], OTHER_SPEED), of_kind(lent.sets[1 - fault.block], CONFIGURATION)
+    return f"{lent.name_of(1 - fault.block)} has {counted(len(there), 'configuration')}, {lent.name_of(fault.block)} {counted(len(here), 'type 7 entry').replace('entrys', 'entries')}"
+
+
+def remark_other_entry(lent, fault):
+    found = mirrored(lent, fault.block, fault.place)
+    has = f"index {found.original.index}" if fault.rule == 2407 else counted(found.original.length, "byte")
+    return f"entry {found.original.number} of {lent.name_of(1 - fault.block)} has {has}"
+
+
+def remark_other_byte(lent, fault):
+    """What the other set has there; bytes that are its own in every type 6 or 7 are in none."""
+    found = mirrored(lent, fault.block, fault.place)
+    at = fault.place - found.entry.offset
+    if found.entry.kind == QUALIFIER:
+        at = {8: 17}.get(at, at if 2 <= at < 8 else None)
+    if at is None or found.entry.kind == OTHER_SPEED and at == 1:
+        return ""
+    other = lent.sets[1 - fault.block]
+    field = field_at(other, found.original.offset + at)
+    has = in_bytes(int.from_bytes(other[field.start : field.start + field.size], "little"), field.size)
+    return f"byte {found.original.offset + at} of {lent.name_of(1 - fault.block)}" + (f", {field.name}," if field.name else "") + f" has {has}"
+
+
 REMARKS = {
     202: remark_order, 404: remark_end, 418: remark_before, 433: remark_address, 434: remark_address, 436: remark_value,
-    508: lambda data, serial, place: f"the language before it is {language_words(word(data, place - 2))}",
+    504: remark_numbers, 508: lambda data, serial, place: f"the language before it is {language_words(word(data, place - 2))}",
     509: lambda data, serial, place: f"string 0 lists {language_list(languages_of(data))}",
     510: remark_no_list, 511: lambda data, serial, place: f"iSerialNumber is {serial_index(data)}", 512: remark_reference,
     601: lambda data, serial, place: "iSerialNumber is 0: this set names no serial number", 603: remark_serial,
 }
+REMARKS_OF_KINDS = {
+    312: remark_store, 438: remark_companion, 439: remark_stray, 2401: remark_qualifier, 2405: remark_other_byte, 2406: remark_counts,
+    2407: remark_other_entry, 2409: remark_other_entry, 2410: remark_other_byte,
+}
+
+
+def remark_on(lent, fault):
+    if fault.rule in REMARKS_OF_KINDS:
+        return REMARKS_OF_KINDS[fault.rule](lent, fault)
+    remark = REMARKS.get(fault.rule)
+    return remark(named_by(lent, fault), lent.serial, fault.place) if remark else ""
+
+
+def named_by(lent, fault):
+    """The set that a fault is about; of the serial block, the one whose iSerialNumber it is judged by."""
+    if fault.block != SERIAL:
+        return lent.sets[fault.block]
+    return next((data for data in lent.sets if fault.rule != 601 and of_kind(data, DEVICE) and serial_index(data)), lent.sets[0])
 
 
 # ---- the words
-def lent_for(data, serial, fault):
-    return (serial, "the serial block") if fault.number == 6 else (data, "the set")
-
-
 def in_bytes(value, size):
     return f"{hexadecimal(value.to_bytes(size, 'little'))} ({value})"
 
 
-def words_of(data, serial, fault):
-    lent, block = lent_for(data, serial, fault)
-    field = serial_field(fault.place) if fault.number == 6 else field_at(data, fault.place)
-    here = lent[field.start : field.start + field.size]
-    exact, remark = should_be(data, serial, fault), REMARKS.get(fault.rule)
+def field_of(lent, fault):
+    """The field at fault; of an entry that is not there, where it has to stand."""
+    if fault.block == SERIAL:
+        return serial_field(fault.place)
+    data = lent.sets[fault.block]
+    return Field("behind the last entry", fault.place, 0) if is_absent(data, fault) and fault.place >= 4 + 8 * len(entries_of(data)) else field_at(data, fault.place)
+
+
+def found_words(lent, fault, field):
+    if field.size == 0:
+        return "no entry"
+    here = lent.bytes_of(fault.block)[field.start : field.start + field.size]
+    return in_bytes(int.from_bytes(here, "little"), len(here)) if here else ""
+
+
+def words_of(lent, fault):
+    field, exact = field_of(lent, fault), should_be(lent, fault)
     should = in_bytes(exact[0], field.size) + (f": {exact[1]}" if exact[1] else "") if exact and exact[0] < 256**field.size else ""
-    found = in_bytes(int.from_bytes(here, "little"), len(here)) if here else ""
-    return Words(RULES[fault.rule][0], block, fault.place, field.name, found, should, RULES[fault.rule][1], remark(data, serial, fault.place) if remark else "")
+    rule, allowed = rule_words(fault.rule, lent.limits_of(0 if fault.block == SERIAL else fault.block))
+    return Words(rule, lent.name_of(fault.block), fault.place, field.name, found_words(lent, fault, field), should, allowed, remark_on(lent, fault))
 
 
 def byte_words(words):
@@ -222,10 +358,23 @@ def byte_words(words):
     return f"{where}: found {words.found}, {wanted}" if words.found else f"{words.block} is empty"
 
 
-def brief(data, serial, fault):
+def brief(lent, fault):
     """A fault on one line."""
-    words = words_of(data, serial, fault)
+    words = words_of(lent, fault)
     return f"rule {fault.rule}: {words.rule}; {byte_words(words)}" + (f"; {words.remark}" if words.remark else "")
+
+
+DESCRIPTORS = {CONFIGURATION: "configuration descriptor", INTERFACE: "interface descriptor", ENDPOINT: "endpoint descriptor",
+               OTHER_SPEED: "other_speed_configuration descriptor", COMPANION: "endpoint companion"}
+
+
+def descriptor_name(kind):
+    return DESCRIPTORS.get(kind, f"descriptor of type {kind:02X}")
+
+
+def type_words(kind):
+    name = descriptor_name(kind)
+    return f"{'an' if name[0] in 'aeio' else 'a'} {name}"
 
 
 def descriptor_words(data, entry, place):
@@ -237,8 +386,7 @@ def descriptor_words(data, entry, place):
         kind = entry.body[at + 1] if at + 1 < len(entry.body) else 0
         if kind == INTERFACE and at + 3 < len(entry.body):
             setting = f", interface {entry.body[at + 2]}, alternate setting {entry.body[at + 3]}"
-        name = {2: "configuration descriptor", 4: "interface descriptor", 5: "endpoint descriptor"}.get(kind, f"descriptor of type {kind:02X}")
-        words = f"descriptor: {name} at byte {entry.offset + at}{setting}"
+        words = f"descriptor: {descriptor_name(kind)} at byte {entry.offset + at}{setting}"
     return words
 
 
@@ -246,18 +394,20 @@ def entry_words(entry):
     return f"type {entry.kind} ({KINDS.get(entry.kind, 'no type')}), index {entry.index}, language {entry.language:04X}"
 
 
-def where(data, place):
+def where(data, fault):
     """The entry that a byte belongs to, in words."""
-    entries = entries_of(data)
+    entries, place = entries_of(data), fault.place
     if place < 4:
         return ["in the frame"]
+    if is_absent(data, fault):
+        return []
     if place < 4 + 8 * len(entries):
         entry = entries[(place - 4) // 8]
         return [f"entry {entry.number} of the contents: {entry_words(entry)}"]
     entry = entry_at(data, place)
     if not entry:
         return ["behind all bodies"]
-    more = [descriptor_words(data, entry, place)] if entry.kind == CONFIGURATION else []
+    more = [descriptor_words(data, entry, place)] if entry.kind in (CONFIGURATION, OTHER_SPEED) else []
     return [f"body of entry {entry.number}: {entry_words(entry)}, at byte {entry.offset}", *more]
 
 
@@ -268,13 +418,13 @@ def dump(data, place):
         yield f"{start:5}  {''.join(cells).rstrip()}"
 
 
-def explain(data, serial, fault):
+def explain(lent, fault):
     """All there is to say of a fault."""
-    words = words_of(data, serial, fault)
+    words = words_of(lent, fault)
     yield f"refused {fault.number}, rule {fault.rule}: {words.rule}"
     yield f"    {byte_words(words)}"
     if words.remark:
         yield f"    {words.remark}"
-    if fault.number != 6:
-        yield from (f"    {line}" for line in where(data, fault.place))
-    yield from (f"        {line}" for line in dump(lent_for(data, serial, fault)[0], fault.place))
+    if fault.block != SERIAL:
+        yield from (f"    {line}" for line in where(lent.sets[fault.block], fault))
+    yield from (f"        {line}" for line in dump(lent.bytes_of(fault.block), fault.place))

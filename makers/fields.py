@@ -7,7 +7,13 @@ FRAME = [("total length", 2), ("number of entries", 1), ("byte 3", 1)]
 ENTRY = [("type", 1), ("index", 1), ("language", 2), ("offset", 2), ("length", 2)]
 HEAD = [("bLength", 1), ("bDescriptorType", 1)]
 KINDS = {1: "device", 2: "configuration", 3: "string", 6: "device_qualifier", 7: "other_speed_configuration", 15: "BOS"}
-BODY = {6: DEVICE, 7: CONFIGURATION}
+QUALIFIER, OTHER_SPEED, BOS, COMPANION = 6, 7, 15, 48
+# The fields of descriptors that no line of a text has.
+OTHER_FIELDS = {
+    QUALIFIER: [("bcdUSB", 2), ("bDeviceClass", 1), ("bDeviceSubClass", 1), ("bDeviceProtocol", 1), ("bMaxPacketSize0", 1), ("bNumConfigurations", 1), ("bReserved", 1)],
+    BOS: [("wTotalLength", 2), ("bNumDeviceCaps", 1)],
+    COMPANION: [("bMaxBurst", 1), ("bmAttributes", 1), ("wBytesPerInterval", 2)],
+}
 
 # A field: its name, and the bytes that it has in its block.
 Field = collections.namedtuple("Field", "name start size")
@@ -47,8 +53,8 @@ def field_in(fields, start, place):
 
 def fields_of(kind):
     """The fields of a descriptor of a type, with their sizes."""
-    word = WORDS.get(kind)
-    return HEAD + [(name, size) for name, size, _ in FIELDS[word][1]] if word else HEAD
+    word = WORDS.get(CONFIGURATION if kind == OTHER_SPEED else kind)
+    return HEAD + ([(name, size) for name, size, _ in FIELDS[word][1]] if word else OTHER_FIELDS.get(kind, []))
 
 
 def descriptor_field(body, start, place):
@@ -59,10 +65,10 @@ def descriptor_field(body, start, place):
 
 
 def body_field(entry, place):
-    if BODY.get(entry.kind, entry.kind) == CONFIGURATION:
+    if entry.kind in (CONFIGURATION, OTHER_SPEED, BOS):
         return descriptor_field(entry.body, entry.offset, place)
-    if entry.kind == DEVICE:
-        return field_in(fields_of(DEVICE), entry.offset, place) or Field("", place, 1)
+    if entry.kind in (DEVICE, QUALIFIER):
+        return field_in(fields_of(entry.kind), entry.offset, place) or Field("", place, 1)
     if entry.kind == STRING and entry.index == 0 and place >= entry.offset + 2:
         at = (place - entry.offset - 2) // 2
         return Field(f"wLANGID[{at}]", entry.offset + 2 + 2 * at, 2)

@@ -1,19 +1,24 @@
 """Goes on past a fault, on a copy: mends it as it was told and asks again, so that all faults are told at once. What cannot be mended in place is set
-aside. A fault of the frame or of the contents is told alone: behind it nothing stands where it says."""
+aside. Behind a fault of the frame or of the contents nothing is told of that set: nothing stands where it says."""
 import os, sys
 
 TOP = os.path.dirname(os.path.dirname(os.path.abspath(__file__)))
 sys.path.insert(1, os.path.join(TOP, "tools"))
-from faults import Fault, should_be, word
-from fields import descriptors_in, entries_of, field_at
+from faults import is_absent, mirrored, should_be
+from fields import BOS, OTHER_SPEED, QUALIFIER, descriptors_in, entries_of, field_at, word
+from lent import SERIAL
+from pairing import mirrors
 from pieces import a_set
-from text import CONFIGURATION, DEVICE, ENDPOINT, STRING
+from rules import ALONE, HIGH, PAIRED, SUPER
+from text import CONFIGURATION, ENDPOINT, STRING
 
 MOST_TOLD = 20
+MOST_MENDED = 4 * MOST_TOLD
 CLASS_SPECIFIC, ENGLISH = 0x24, 0x0409
 IN, NUMBERS = 0x80, range(1, 16)
 # A configuration that breaks no rule, for one that is set aside; its value is filled in.
 PLAIN = bytes.fromhex("09 02 12 00 01 00 00 80 32  09 04 00 00 00 FF 00 00 00")
+PLAIN_BOS, PLAIN_COMPANION = bytes.fromhex("05 0F 05 00 00"), bytes.fromhex("06 30 00 00 00 00")
 
 
 class Part:
@@ -21,21 +26,35 @@ class Part:
 
     def __init__(self, kind, index, language, body, origin=None):
         self.kind, self.index, self.language, self.body, self.origin = kind, index, language, bytearray(body), origin
+        self.places = [origin.offset + at for at in range(len(body))] if origin else []
 
     def key(self):
         return self.kind, self.language, self.index
 
     def original(self, in_contents, at):
-        return (self.origin.at if in_contents else self.origin.offset) + at if self.origin else None
+        """The byte of the set that was given; None for one that was added."""
+        if in_contents:
+            return self.origin.at + at if self.origin else None
+        return self.places[at] if at < len(self.places) else None
+
+    def insert(self, at, data):
+        """More bytes in a configuration, whose wTotalLength follows."""
+        self.body[at:at] = data
+        self.places[at:at] = [None] * len(data)
+        self.body[2:4] = len(self.body).to_bytes(2, "little")
+        return True
 
 
 class Copy:
-    """A set whose contents are right, taken apart."""
+    """A set whose contents are right, taken apart; as it was given until something is mended."""
 
-    def __init__(self, data):
+    def __init__(self, data, limits):
+        self.data, self.limits, self.is_mended = data, limits, False
         self.parts = [Part(entry.kind, entry.index, entry.language, entry.body, entry) for entry in entries_of(data)]
 
     def laid_out(self):
+        if not self.is_mended:
+            return self.data
         self.parts.sort(key=Part.key)
         return a_set(*[(part.kind, part.index, part.language, bytes(part.body)) for part in self.parts])
 
@@ -52,6 +71,13 @@ class Copy:
 
     def of_kind(self, kind):
         return [part for part in self.parts if part.kind == kind]
+
+    def entries(self):
+        return [(part.kind, part.index, part.language, bytes(part.body)) for part in self.parts]
+
+    def add(self, kind, index, body):
+        self.parts.append(Part(kind, index, 0, body))
+        return True
 
     def free_value(self):
         taken = {part.body[5] for part in self.of_kind(CONFIGURATION) if len(part.body) > 5}
@@ -87,10 +113,21 @@ def free_address(part, at):
     return next((number + (part.body[at] & IN) for number in NUMBERS if number + (part.body[at] & IN) not in taken), None)
 
 
-def fitting_type(part, at):
+# By the limits of a speed: bMaxPacketSize0; sizes of bulk endpoints; the most of an interrupt and of an isochronous one; an interrupt endpoint's longest interval.
+CONTROL_SIZE = {ALONE: 64, PAIRED: 64, HIGH: 64, SUPER: 9}
+BULK_SIZES = {ALONE: (64, 8, 16, 32), PAIRED: (64, 8, 16, 32), HIGH: (512,), SUPER: (1024,)}
+MOST_AT_ONCE = {ALONE: (64, 1023), PAIRED: (64, 1023), HIGH: (1024, 1024), SUPER: (1024, 1024)}
+LONGEST_INTERVAL = {ALONE: 255, PAIRED: 255, HIGH: 16, SUPER: 16}
+
+
+def fitting_type(part, at, limits):
     """A transfer type that the endpoint's size and interval fit."""
     size, interval = word(part.body, at + 1), part.body[at + 3]
-    return 2 if size in (8, 16, 32, 64) else 3 if size <= 64 and interval else 1
+    return 2 if size in BULK_SIZES[limits] else 3 if size <= MOST_AT_ONCE[limits][0] and 1 <= interval <= LONGEST_INTERVAL[limits] else 1
+
+
+def fitting_size(rule, limits):
+    return {428: BULK_SIZES[limits][0], 429: MOST_AT_ONCE[limits][0], 430: MOST_AT_ONCE[limits][1]}[rule]
 
 
 def following_alternate(part, at):
@@ -107,15 +144,15 @@ def following_setting(part, at):
 
 
 BYTES = {
-    307: lambda part, at: 64, 308: lambda part, at: 0, 410: lambda part, at: 250, 411: lambda part, at: CLASS_SPECIFIC,
+    308: lambda part, at: 0, 410: lambda part, at: 250, 411: lambda part, at: CLASS_SPECIFIC,
     408: lambda part, at: (part.body[at] | 0x80) & 0xE0, 409: lambda part, at: part.body[at] & 0xE0, 418: following_setting,
-    423: lambda part, at: part.body[at] & 0x8F, 424: free_address, 425: lambda part, at: part.body[at] & 0x3F, 426: fitting_type,
+    423: lambda part, at: part.body[at] & 0x8F, 424: free_address, 425: lambda part, at: part.body[at] & 0x3F,
     427: lambda part, at: part.body[at] & 3, 431: lambda part, at: 10, 432: lambda part, at: 1, 433: free_address, 434: free_address,
-    512: lambda part, at: 0,
+    439: lambda part, at: CLASS_SPECIFIC, 512: lambda part, at: 0,
 }
-SIZES = {428: 64, 429: 64, 430: 1023}
+SIZES = (428, 429, 430)
 VALUES = (435, 436)
-EXACT_IN_PLACE = {305, 306, 309, 310, 311, 407, 414, 415, 416, 417, 419, 421, 501, 502}
+EXACT_IN_PLACE = {305, 306, 309, 310, 311, 316, 407, 414, 415, 416, 417, 419, 421, 501, 502, 2405, 2410}
 
 
 def put(part, at, value, size=1):
@@ -125,19 +162,37 @@ def put(part, at, value, size=1):
     return True
 
 
-def mend_body(copy, part, at, fault, exact, size):
+def mend_companion(part, at, rule):
+    """437: a companion gets the bytes that it lacks; 438: one is put behind the endpoint."""
+    length = part.body[at]
+    if rule == 438:
+        return part.insert(at + length, PLAIN_COMPANION)
+    part.body[at] = len(PLAIN_COMPANION)
+    return part.insert(at + length, PLAIN_COMPANION[length:])
+
+
+def mend_by_limits(copy, part, at, rule):
+    """What a speed's limits say: bMaxPacketSize0, a transfer type, a size."""
+    if rule == 307:
+        return put(part, at, CONTROL_SIZE[copy.limits])
+    return put(part, at, fitting_type(part, at, copy.limits)) if rule == 426 else put(part, at, fitting_size(rule, copy.limits), 2)
+
+
+def mend_body(copy, part, at, rule, exact, field):
     """A fault at a byte of a body; False where it cannot be mended."""
-    if fault.rule in EXACT_IN_PLACE and exact:
-        return put(part, at, exact[0], size)
-    if fault.rule in BYTES:
-        return put(part, at, BYTES[fault.rule](part, at))
-    if fault.rule in SIZES:
-        return put(part, at, SIZES[fault.rule], 2)
-    if fault.rule in VALUES:
+    if rule in EXACT_IN_PLACE and exact:
+        return put(part, at - field[0], exact[0], field[1])
+    if rule in BYTES:
+        return put(part, at, BYTES[rule](part, at))
+    if rule in (307, 426, *SIZES):
+        return mend_by_limits(copy, part, at, rule)
+    if rule in VALUES:
         return put(part, at, copy.free_value())
-    if fault.rule in (505, 506, 507, 508):
+    if rule in (437, 438):
+        return mend_companion(part, at, rule)
+    if rule in (505, 506, 507, 508):
         return copy.list_languages(part)
-    if fault.rule == 510:
+    if rule == 510:
         return put(part, at, 0)
     if part.kind == STRING:
         part.body = bytearray([2, STRING])
@@ -145,8 +200,18 @@ def mend_body(copy, part, at, fault, exact, size):
     return copy.set_aside(part) if part.kind == CONFIGURATION else False
 
 
+def is_list(copy, part):
+    """Whether a string that is not numbered as string 0 may be it: there is no other, and it lists the languages of all others."""
+    others = [other for other in copy.of_kind(STRING) if other is not part]
+    listed = {word(part.body, at) for at in range(2, len(part.body) - 1, 2)}
+    return all((other.index, other.language) != (0, 0) for other in others) and {other.language for other in others if other.language} <= listed
+
+
 def mend_language(copy, part):
-    """504: a string gets the first listed language that lacks it; what cannot is dropped."""
+    """504: string 0 gets its numbers, a string the first listed language that lacks it; what cannot is dropped."""
+    if is_list(copy, part):
+        part.index = part.language = 0
+        return True
     there = {(other.index, other.language) for other in copy.of_kind(STRING)}
     lacking = [language for language in copy.listed() if (part.index, language) not in there]
     if part.index == 0 or not lacking:
@@ -155,57 +220,101 @@ def mend_language(copy, part):
     return True
 
 
-def mend_entry(copy, part, fault, exact):
-    """A fault at an entry of the contents."""
-    if fault.rule in (302, 401):
+INDICES, LANGUAGES = (302, 313, 401, 2402, 2407), (303, 314, 402, 2403, 2408)
+
+
+def mend_entry(copy, part, rule, exact, right):
+    """A fault at an entry of the contents; `right` is the body that the other set of a pair makes it have."""
+    if rule in INDICES:
         part.index = exact[0]
-    elif fault.rule in (303, 402):
+    elif rule in LANGUAGES:
         part.language = exact[0]
-    elif fault.rule == 504:
+    elif rule == 504:
         return mend_language(copy, part)
-    elif fault.rule in (509, 511):
+    elif rule in (312, 509, 511, 2401, 2406):
         return copy.drop(part)
-    elif fault.rule == 510:
+    elif rule == 510:
         return copy.list_languages(None)
+    elif rule == 315:
+        part.body = bytearray(PLAIN_BOS)
+    elif rule in (2404, 2409):
+        part.body = bytearray(right)
     else:
         return False
     return True
 
 
-def mended(copy, data, serial, fault):
-    """Whether the copy, laid out as `data`, could be mended of this fault."""
+def add_absent(copies, fault):
+    """An entry that is not there: a BOS, or what the other set makes of itself."""
+    if fault.rule == 312:
+        return copies[0].add(BOS, 0, PLAIN_BOS)
+    wanted = list(mirrors(copies[1 - fault.block].entries()))
+    if fault.rule == 2401:
+        return copies[fault.block].add(QUALIFIER, 0, wanted[0][3])
+    there = len(copies[fault.block].of_kind(OTHER_SPEED))
+    return copies[fault.block].add(OTHER_SPEED, *wanted[1 + there][1::2])
+
+
+def mended(copies, now, fault):
+    """Whether the copies, laid out as `now`, could be mended of this fault."""
+    copy = copies[fault.block]
+    copy.is_mended = True
+    if is_absent(now.sets[fault.block], fault):
+        return add_absent(copies, fault)
     part, in_contents, at = copy.find(fault.place)
-    exact = should_be(data, serial, fault)
+    exact = should_be(now, fault)
     if in_contents:
-        return mend_entry(copy, part, fault, exact)
-    return mend_body(copy, part, at, fault, exact, field_at(data, fault.place).size)
+        right = mirrored(now, fault.block, fault.place).body if fault.rule in (2404, 2409) else None
+        return mend_entry(copy, part, fault.rule, exact, right)
+    field = field_at(now.sets[fault.block], fault.place)
+    return mend_body(copy, part, at, fault.rule, exact, (fault.place - field.start, field.size))
 
 
-def names_serial(copy):
-    return copy.of_kind(DEVICE)[0].body[16]
+# ---- going on
+def place_of_absent(data, fault):
+    """Where an entry that is not there has to stand in the set that was given."""
+    return 4 + 8 * sum(fault.rule != 2401 or entry.kind < QUALIFIER for entry in entries_of(data))
 
 
-def faults_of(data, serial, ask):
+def original_of(lent, copies, now, fault):
+    """The fault at its byte of the set that was given; None if what it is at was added."""
+    if is_absent(now.sets[fault.block], fault):
+        return fault._replace(place=place_of_absent(lent.sets[fault.block], fault))
+    part, in_contents, at = copies[fault.block].find(fault.place)
+    place = part.original(in_contents, at)
+    return fault._replace(place=place) if place is not None else None
+
+
+def is_of_mending(lent, fault):
+    """Whether two sets that were given agree where their copies no longer do, since one of them was mended."""
+    if fault.number != 24 or is_absent(lent.sets[fault.block], fault):
+        return False
+    exact, field = should_be(lent, fault), field_at(lent.sets[fault.block], fault.place)
+    return exact is not None and exact[0] == int.from_bytes(lent.sets[fault.block][field.start : field.start + field.size], "little")
+
+
+def last_of(lent, copies, now, fault):
+    """The fault that ends it, unless mending made it."""
+    if fault.block == SERIAL:
+        return [fault] if lent.serial_index() in (None, now.serial_index()) else []
+    return [] if copies[fault.block].is_mended else [fault]
+
+
+def faults_of(lent, ask):
     """The faults in the order in which they are met by whoever mends each as it is told, each at its byte of the set that was given."""
-    first = ask(data, serial)
-    if first is None or first[0] not in (3, 4, 5):
-        return [Fault(*first)] if first else []
-    copy, told = Copy(data), []
-    serial_number = names_serial(copy) if first[0] > 3 else None
-    while len(told) < MOST_TOLD:
-        now = copy.laid_out()
-        fault = ask(now, serial)
-        if fault is None or fault[0] in (1, 2) or (fault[0] == 6 and serial_number not in (None, names_serial(copy))):
+    copies, told = [Copy(data, lent.limits_of(block)) for block, data in enumerate(lent.sets)], []
+    for _ in range(MOST_MENDED):
+        now = lent._replace(sets=tuple(copy.laid_out() for copy in copies))
+        fault = ask(now)
+        if fault is None or len(told) == MOST_TOLD:
             break
-        fault = Fault(*fault)
-        if fault.number == 6:
-            return told + [fault]
-        part, in_contents, at = copy.find(fault.place)
-        place = part.original(in_contents, at)
-        if place is not None and place not in {other.place for other in told}:
-            told.append(fault._replace(place=place))
-        elif (fault.rule, place) in {(other.rule, other.place) for other in told}:
+        if fault.number in (1, 2, 6):
+            return told + last_of(lent, copies, now, fault)
+        original = original_of(lent, copies, now, fault)
+        if original in told:
             break
-        if not mended(copy, now, serial, fault):
+        if original and not is_of_mending(lent, original) and (original.block, original.place) not in {(other.block, other.place) for other in told}:
+            told.append(original)
+        if not mended(copies, now, fault):
             break
     return told

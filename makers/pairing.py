@@ -31,24 +31,3 @@ def laid_out(entries):
     if len(entries) > MOST_ENTRIES or length > LONGEST_SET:
         raise Mistake(f"{len(entries)} entries and {length} bytes: a set has at most {MOST_ENTRIES} and {LONGEST_SET}, types 6 and 7 included")
     return a_set(*entries)
-
-
-def first_difference(one, other):
-    return next((at for at, pair in enumerate(zip(one, other)) if pair[0] != pair[1]), min(len(one), len(other)))
-
-
-def causes(name, entries, others):
-    """What of a set's types 6 and 7 does not go with the other set."""
-    wanted = list(mirrors(others))
-    for kind, words in ((QUALIFIER, "type 6"), (OTHER_SPEED, "type 7")):
-        there, right = of_kind(entries, kind), of_kind(wanted, kind)
-        if len(there) != len(right):
-            yield f"{name}: {len(there)} entries of {words}, and {len(right)} belong there"
-        for (_, index, language, body), (_, right_index, _, right_body) in zip(there, right):
-            if (index, language) != (right_index, 0):
-                yield f"{name}: an entry of {words} has index {index} and language {language}, and should have {right_index} and 0"
-            if body != right_body:
-                at = first_difference(body, right_body)
-                has = f"{body[at]:02X}" if at < len(body) else "its end"
-                should = f"{right_body[at]:02X}" if at < len(right_body) else "its end"
-                yield f"{name}: {words}, index {index}, has {has} at byte {at} of its body, and the other set makes it {should}"

@@ -24,6 +24,11 @@ RULES = {
     309: ("bNumConfigurations is at least 1", "01 to 08"),
     310: ("bNumConfigurations is at most 8", "01 to 08"),
     311: ("bNumConfigurations is the number of type 2 entries", "the number of type 2 entries"),
+    312: ("a SuperSpeed set has one type 15 entry, the BOS", "one entry of type 0F, behind all others"),
+    313: ("the BOS has index 0", "00"),
+    314: ("the BOS has language 0", "00 00"),
+    315: ("the BOS has at least 5 bytes", "05 00 or more"),
+    316: ("bytes 2 and 3 of the BOS are its length", "the length of the whole BOS, low byte first"),
     401: ("configurations have the indices 0, 1, 2 ..", "the next index"),
     402: ("a configuration's language is 0", "00 00"),
     403: ("every bLength is at least 2", "the descriptor's own length"),
@@ -61,6 +66,9 @@ RULES = {
     434: ("an address occurs in one interface only", "an address that no other interface has"),
     435: ("bConfigurationValue is not 0", "01 to FF"),
     436: ("no two configurations have one bConfigurationValue", "a value that no configuration before it has"),
+    437: ("a companion has at least 6 bytes", "06 or more"),
+    438: ("directly after every endpoint stands a companion", "a companion (06 30 ..) behind this endpoint"),
+    439: ("a companion stands nowhere but directly after an endpoint", "another type than 30, or an endpoint before it"),
     501: ("a string's bLength is its entry's length", "the entry's length"),
     502: ("a string's bDescriptorType is 3", "03"),
     503: ("a string's length is even", "an even length up to FE, here and in the entry"),
@@ -79,4 +87,59 @@ RULES = {
     604: ("the serial block has at most 254 bytes", "nothing: the block has to end before this byte"),
     605: ("the serial block's first byte is its length", "the block's length"),
     606: ("the serial block's second byte is 3", "03"),
+    2401: ("each set of a pair has one type 6 entry", "one entry of type 06, behind those of types 1 to 3"),
+    2402: ("the device_qualifier has index 0", "00"),
+    2403: ("the device_qualifier has language 0", "00 00"),
+    2404: ("the device_qualifier has 10 bytes", "0A 00"),
+    2405: ("the device_qualifier is the one of the other set's device descriptor", "what the other set's device has"),
+    2406: ("there are as many type 7 entries as the other set has configurations", "an entry of type 07 for each configuration of the other set"),
+    2407: ("a type 7 entry has the index of the other set's configuration in the same place", "the index of that configuration"),
+    2408: ("a type 7 entry has language 0", "00 00"),
+    2409: ("a type 7 body is as long as the other set's configuration", "the length of that configuration, low byte first"),
+    2410: ("a type 7 body is the other set's configuration, but for its type byte, which is 7", "what the other set's configuration has"),
 }
+
+# The kinds of set, by the limits that each goes by: lent alone, the two of a pair, SuperSpeed.
+ALONE, PAIRED, HIGH, SUPER = "alone", "paired", "high", "super"
+
+# What rules ask of sets of other kinds, where that is something else; the others ask the same.
+PAIR_TYPES = {201: ("an entry's type is 1, 2, 3, 6 or 7",
+                    "01 (device), 02 (configuration), 03 (string), 06 (device_qualifier) or 07 (other_speed_configuration)")}
+OTHER_LIMITS = {
+    ALONE: {},
+    PAIRED: PAIR_TYPES,
+    HIGH: {
+        **PAIR_TYPES,
+        307: ("bMaxPacketSize0 is 64 at high speed", "40"),
+        428: ("a bulk endpoint's size is 512 at high speed", "00 02"),
+        429: ("an interrupt endpoint's size is at most 1,024 at high speed, and at most 2 packets more in a microframe",
+              "00 00 to 00 04; bits 12 and 11 up to 2, bits 15 to 13 zero"),
+        430: ("an isochronous endpoint's size is at most 1,024 at high speed, and at most 2 packets more in a microframe",
+              "00 00 to 00 04; bits 12 and 11 up to 2, bits 15 to 13 zero"),
+        431: ("an interrupt endpoint's bInterval is 1 to 16 at high speed", "01 to 10: 2 to the power bInterval − 1, in 125 µs"),
+    },
+    SUPER: {
+        201: ("an entry's type is 1, 2, 3 or 15", "01 (device), 02 (configuration), 03 (string) or 0F (BOS)"),
+        307: ("bMaxPacketSize0 of a SuperSpeed set is 9", "09"),
+        428: ("a SuperSpeed bulk endpoint's size is 1,024", "00 04"),
+        429: ("a SuperSpeed interrupt endpoint's size is 1 to 1,024", "01 00 to 00 04"),
+        430: ("a SuperSpeed isochronous endpoint's size is at most 1,024", "00 00 to 00 04"),
+        431: ("a SuperSpeed interrupt endpoint's bInterval is 1 to 16", "01 to 10"),
+    },
+}
+
+
+def rule_words(rule, limits=ALONE):
+    """What a rule asks of a set that goes by these limits, and what may stand at its byte."""
+    return OTHER_LIMITS[limits].get(rule, RULES[rule])
+
+
+# The rules that only some kinds of set are asked: the BOS and companions, and what two sets have in common.
+OF_SUPER = [*range(312, 317), *range(437, 440)]
+OF_PAIR = [rule for rule in RULES if rule > 2400]
+
+
+def asked_of(limits):
+    """The rules that a set by these limits may break."""
+    own = {ALONE: [], SUPER: OF_SUPER}.get(limits, OF_PAIR)
+    return [rule for rule in RULES if rule in own or rule not in OF_SUPER + OF_PAIR]

@@ -4,12 +4,19 @@ import { packetSize } from "./set.js";
 import { speedOf } from "./record.js";
 import { word } from "./bytes.js";
 
-// The kinds of set: the calls of the library that each needs, the names of its sets, and whether the library answers events from it.
+// The kinds of set: the calls of the library that open and explain it and those that it needs, the names of its sets and the limits that each goes by, and
+// whether the library answers events from it.
 export const KINDS = {
-    one: { name: "One set, full speed", open: "hk_open", needs: [], sets: ["set"], answers: true },
-    two: { name: "Two sets, full and high speed", open: "hk_two_open", needs: ["hk_two_open", "hk_two_event"], sets: ["full-speed set", "high-speed set"], answers: true },
-    super: { name: "SuperSpeed set", open: "hk_super_open", needs: ["hk_super_open"], sets: ["SuperSpeed set"], answers: false },
+    one: { name: "One set, full speed", open: "hk_open", explain: "hk_explain", needs: [], sets: ["set"], limits: ["alone"], answers: true },
+    two: {
+        name: "Two sets, full and high speed", open: "hk_two_open", explain: "hk_two_explain", needs: ["hk_two_open", "hk_two_event"],
+        sets: ["full-speed set", "high-speed set"], limits: ["paired", "high"], answers: true,
+    },
+    super: { name: "SuperSpeed set", open: "hk_super_open", explain: "hk_super_explain", needs: ["hk_super_open"], sets: ["SuperSpeed set"], limits: ["super"], answers: false },
 };
+
+// The serial block's number among the blocks that a fault may be in; the sets' are 0 and 1.
+export const SERIAL = 2;
 
 export const kindsOf = (library) => Object.keys(KINDS).filter((kind) => KINDS[kind].needs.every((name) => library.has(name)));
 

@@ -71,7 +71,7 @@ export class Comparison {
             return element("p", { class: "outcome accepted" }, "Byte for byte the same.");
         const differing = rows.filter((row) => !row.alike).length, place = firstDifference(bytes, partner.bytes);
         const words = differing > 0 ? `${countWords(differing, "descriptor")} of ${rows.length} not alike.` : ALL_ALIKE;
-        const first = place < bytes.length ? button(`byte ${place}`, () => this.show("set", place), { class: "link" }) : `byte ${place}, where ${this.names[0]} ends`;
+        const first = place < bytes.length ? button(`byte ${place}`, () => this.show(0, place), { class: "link" }) : `byte ${place}, where ${this.names[0]} ends`;
         return [
             element("p", { class: "outcome refused" }, words, " "),
             element("p", {}, "The first difference is at ", first, "."),
@@ -84,7 +84,7 @@ export class Comparison {
     rowsOf(row) {
         if (row.alike)
             return [alikeRow(row)];
-        const title = row.place === undefined ? row.title : button(row.title, () => this.show("set", row.place), { class: "link" });
+        const title = row.place === undefined ? row.title : button(row.title, () => this.show(0, row.place), { class: "link" });
         const heading = (...cells) => element("tr", { class: "differs" }, element("th", { scope: "row" }, title), cells);
         if (row.only !== undefined)
             return [heading(...[0, 1].map((side) => element("td", {}, row.only === side ? "only here" : "not there")))];

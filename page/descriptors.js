@@ -8,7 +8,7 @@ export const TYPE = {
 export const TRANSFER_TYPES = ["control", "isochronous", "bulk", "interrupt"];
 
 // Descriptors beyond those of the text form: the fields behind bLength and bDescriptorType, with their sizes.
-const OTHER_FIELDS = {
+export const OTHER_FIELDS = {
     [TYPE.DEVICE_QUALIFIER]: [
         ["bcdUSB", 2], ["bDeviceClass", 1], ["bDeviceSubClass", 1], ["bDeviceProtocol", 1], ["bMaxPacketSize0", 1], ["bNumConfigurations", 1], ["bReserved", 1],
     ],

@@ -7,7 +7,7 @@ sys.dont_write_bytecode = True
 
 import paths  # noqa: F401 (the bench's own folders)
 import events, fields, packets, text, values, words
-from rules import RULES
+from rules import OTHER_LIMITS, RULES, asked_of
 
 # The texts to start from, by kind: those of makers/ and bench/; a pair has two.
 TEXTS = [
@@ -88,6 +88,8 @@ def facts(module):
         "events": events.EVENTS,
         "packets": packet_words(),
         "rules": rules(),
+        "otherLimits": OTHER_LIMITS,
+        "asked": {limits: asked_of(limits) for limits in OTHER_LIMITS},
         "texts": texts(),
         "textHelp": text_help(),
         "examples": examples(),

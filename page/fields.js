@@ -1,9 +1,10 @@
 // What a byte of a set is: its entry, its descriptor, and its field by chapter 9's name, as makers/fields.py has it.
 import { FACTS } from "./facts.js";
-import { TYPE } from "./descriptors.js";
+import { OTHER_FIELDS, TYPE } from "./descriptors.js";
 import { bodyOf, entriesOf } from "./set.js";
 
 const HEAD = [["bLength", 1], ["bDescriptorType", 1]];
+const WITH_FIELDS = [TYPE.DEVICE_QUALIFIER, TYPE.BOS, TYPE.COMPANION];
 
 // The entries that stand whole in the set, numbered from 1, each with its body as far as the set has it.
 export const placedEntries = (set) => entriesOf(set).map((entry, at) => ({ ...entry, number: at + 1, body: bodyOf(set, entry) }));
@@ -29,8 +30,8 @@ function fieldIn(fields, start, place) {
 
 // The fields of a descriptor of a type, with their sizes.
 function fieldsOf(type) {
-    const listed = Object.values(FACTS.fields).find(([kind]) => kind === type);
-    return listed ? [...HEAD, ...listed[1]] : HEAD;
+    const listed = Object.values(FACTS.fields).find(([kind]) => kind === (type === TYPE.OTHER_SPEED ? TYPE.CONFIGURATION : type));
+    return [...HEAD, ...(listed ? listed[1] : WITH_FIELDS.includes(type) ? OTHER_FIELDS[type] : [])];
 }
 
 // The field of a configuration's body, which begins at `start`.
@@ -42,10 +43,10 @@ function descriptorField(body, start, place) {
 const UNNAMED = (place) => ({ name: "", start: place, size: 1 });
 
 function bodyField({ type, index, offset, body }, place) {
-    if (type === TYPE.CONFIGURATION || type === TYPE.OTHER_SPEED)
+    if ([TYPE.CONFIGURATION, TYPE.OTHER_SPEED, TYPE.BOS].includes(type))
         return descriptorField(body, offset, place);
-    if (type === TYPE.DEVICE)
-        return fieldIn(fieldsOf(TYPE.DEVICE), offset, place) ?? UNNAMED(place);
+    if (type === TYPE.DEVICE || type === TYPE.DEVICE_QUALIFIER)
+        return fieldIn(fieldsOf(type), offset, place) ?? UNNAMED(place);
     if (type === TYPE.STRING && index === 0 && place >= offset + 2) {
         const at = (place - offset - 2) >> 1;
         return { name: `wLANGID[${at}]`, start: offset + 2 + 2 * at, size: 2 };

@@ -2,7 +2,7 @@
 import { byId, button, element, fill } from "./element.js";
 import { Hexadecimal } from "./hexadecimal.js";
 import { Tree } from "./tree.js";
-import { KINDS } from "./board.js";
+import { KINDS, SERIAL } from "./board.js";
 import { listing, nodesAt, serialNode, treeOf } from "./set.js";
 import { countWords, hexadecimal, readHexadecimal } from "./bytes.js";
 
@@ -29,10 +29,10 @@ export class Inspection {
     // Shows what is lent: each set, and the serial block.
     show(board, judged) {
         const names = KINDS[board.kind].sets;
-        const broken = (isSerial) => judged.faults.filter(({ number }) => (number === 6) === isSerial).map(({ place }) => place);
+        const broken = (wanted) => judged.faults.filter(({ block }) => block === wanted).map(({ place }) => place);
         const serialNodes = board.serial.length > 0 ? [serialNode(board.serial)] : [];
-        this.blocks = board.sets.map((bytes, at) => ({ name: names[at], bytes, ...treeOf(bytes, board.kind), broken: broken(false) }));
-        this.blocks.push({ name: "serial block", bytes: board.serial, nodes: serialNodes, broken: broken(true) });
+        this.blocks = board.sets.map((bytes, at) => ({ name: names[at], bytes, ...treeOf(bytes, board.kind), broken: broken(at) }));
+        this.blocks.push({ name: "serial block", bytes: board.serial, nodes: serialNodes, broken: broken(SERIAL) });
         fill(byId("blocks"), this.blocks.map(({ name, bytes }, at) => element("option", { value: at }, `${name}, ${countWords(bytes.length, "byte")}`)));
         fill(byId("listing"), board.sets.map((set, at) => `${names.length > 1 ? `${names[at]}\n` : ""}${listing(set, board.number).join("\n")}\n`));
         this.showBlock(board.serial.length > 0 && judged.number === 6 ? this.blocks.length - 1 : judged.set);
@@ -51,9 +51,9 @@ export class Inspection {
         this.showFields([]);
     }
 
-    // Leads to a byte of a block, by the block's name.
+    // Leads to a byte of a block: of a set, by its number, or of the serial block.
     lead(block, place) {
-        this.showBlock(block === "serial" ? this.blocks.length - 1 : 0);
+        this.showBlock(block === SERIAL ? this.blocks.length - 1 : block);
         this.choosePlace(place);
         byId("bytes").focus();
     }

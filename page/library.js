@@ -7,6 +7,7 @@ export const EVENT = { SETUP: 0, STATUS_END: 1, BUS_RESET: 2, HALT: 3, PACKET_PA
 // The events of the pipe that are not a script's own words.
 export const PIPE = { SETUP: 0, RESET: 3 };
 const IMAGE_LENGTH = 32;
+const SERIAL_BROKEN = 6, IN_SERIAL = 2;
 export const LONGEST_SET = 16384;
 
 // Blocks for one call, one behind the other past __heap_base.
@@ -147,11 +148,12 @@ export class Library {
         return { number, written: lent.read(setLent, lent.number(total)), buffer: lent.read(setLent) };
     }
 
-    // The opening number, the broken rule's own number (0 for none) and the byte where it is broken.
-    explain(set, serial) {
-        const lent = new Lent(this), blocks = [set, serial].map((bytes) => lent.place(bytes));
-        const rule = lent.place(new Uint8Array(2)), place = lent.place(new Uint8Array(4));
-        const number = this.exports.hk_explain(...blocks.flatMap(pair), rule.address, place.address);
-        return { number, rule: lent.number(rule), place: lent.number(place) };
+    // The opening number, the broken rule's own number (0 for none), the byte where it is broken, and the block that it is a byte of: `name` is hk_explain,
+    // hk_two_explain or hk_super_explain, and `sets` are the one or two that it takes.
+    explain(name, sets, serial) {
+        const lent = new Lent(this), blocks = [...sets, serial].map((bytes) => lent.place(bytes)), [block, rule, place] = [1, 2, 4].map((size) => lent.place(new Uint8Array(size)));
+        const results = [...(sets.length === 2 ? [block] : []), rule, place].map(({ address }) => address);
+        const number = this.exports[name](...blocks.flatMap(pair), ...results);
+        return { number, rule: lent.number(rule), place: lent.number(place), block: sets.length === 2 ? lent.number(block) : number === SERIAL_BROKEN ? IN_SERIAL : 0 };
     }
 }

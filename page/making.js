@@ -3,10 +3,10 @@
 import { TYPE, cut } from "./descriptors.js";
 import { faultsOf } from "./mending.js";
 import { laidOut } from "./layout.js";
-import { blamedSet, pairCauses, pairOfEntries } from "./pairs.js";
+import { pairOfEntries } from "./pairs.js";
 import { Mistake, lineAt, piece, readEntries } from "./text.js";
-import { alike, joined, littleEndian, word } from "./bytes.js";
-import { KINDS } from "./board.js";
+import { alike, joined, word } from "./bytes.js";
+import { KINDS, SERIAL } from "./board.js";
 
 const NO_BYTES = new Uint8Array(0);
 const TEXT_NAMES = ["full-speed text", "high-speed text"];
@@ -23,28 +23,33 @@ function readPieces(stream) {
 const pieceAt = ({ placed }, place) =>
     placed.find(({ start, offset, part: { body } }) => (place >= start && place < start + 8) || (place >= offset && place < offset + body.length));
 
-// The line of a text that a fault is in: of the serial number, or of the descriptor; of a number that stands nowhere, the device's.
-function lineOf(laid, fault, serialLine) {
-    if (fault.number === 6)
-        return serialLine ?? laid.placed.find(({ part }) => part.type === TYPE.DEVICE)?.part.line;
-    const found = pieceAt(laid, fault.place);
-    return found?.part.line && (fault.place >= found.offset ? lineAt(found.part, fault.place - found.offset) : found.part.line);
+// The line of a text that a fault is in, and the text's number: of the serial number, or of the descriptor; of a number that stands nowhere, the device's.
+function lineOf(laid, fault, serialLines) {
+    if (fault.block === SERIAL) {
+        const text = Math.max(0, serialLines.findIndex(Boolean));
+        return { text, line: serialLines[text] ?? laid[0].placed.find(({ part }) => part.type === TYPE.DEVICE)?.part.line };
+    }
+    const found = pieceAt(laid[fault.block], fault.place);
+    return { text: fault.block, line: found?.part.line && (fault.place >= found.offset ? lineAt(found.part, fault.place - found.offset) : found.part.line) };
 }
 
 // The piece that a fault is in, and where in its body; below 0 it is in its entry.
-function pieceOf(laid, { number, place }) {
-    const found = number === 6 ? null : pieceAt(laid, place);
+function pieceOf(laid, { block, place }) {
+    const found = block === SERIAL ? null : pieceAt(laid[block], place);
     return found ? { piece: found.part, inBody: place - found.offset } : {};
 }
 
-// Why pieces are refused: what the opener says of the set that they would make, and each fault with its line or its piece.
+// Why sets of a kind that were laid out are refused: what the opener says of them, and each fault with its line or its piece.
+function reasonOf(library, laid, lent, serialLines) {
+    const { number } = library.open(KINDS[lent.kind].open, lent.sets, lent.serial), told = library.has(KINDS[lent.kind].explain);
+    const faults = told ? faultsOf(library, lent).map((fault) => ({ ...fault, ...lineOf(laid, fault, serialLines), ...pieceOf(laid, fault) })) : [];
+    return { number, lent, faults };
+}
+
+// The same of pieces, of which one set would be made.
 function reason(library, pieces, { serial, serialLine }, kind) {
     const laid = laidOut(pieces);
-    if (laid === null)
-        return { words: "so many pieces, or bytes, are more than a set can count" };
-    const { number } = library.open(KINDS[kind].open, [laid.set], serial), told = kind === "one" && library.has("hk_explain");
-    const faults = told ? faultsOf(library, laid.set, serial).map((fault) => ({ ...fault, line: lineOf(laid, fault, serialLine), ...pieceOf(laid, fault) })) : [];
-    return { number, set: laid.set, faults };
+    return laid === null ? { words: "so many pieces, or bytes, are more than a set can count" } : reasonOf(library, [laid], { kind, sets: [laid.set], serial }, [serialLine]);
 }
 
 // From pieces: { number, sets, serial }, and for a refusal its reason.
@@ -94,9 +99,9 @@ function oneSerial(full, high) {
 export function pairOfTexts(library, fullText, highText) {
     return unlessMistaken(() => {
         const [full, high] = [fullText, highText].map(readOne), serial = oneSerial(full.serial, high.serial);
-        const sets = pairOfEntries(full.entries, high.entries), { number } = library.open("hk_two_open", sets, serial);
-        const at = number === 0 || number > 6 ? null : blamedSet(library, { sets, serial, number });
-        return { number, kind: "two", sets, serial, reason: number === 0 ? null : { number, faults: [], at, causes: number === 24 ? pairCauses(sets) : null } };
+        const laid = pairOfEntries(full.entries, high.entries), lent = { kind: "two", sets: laid.map(({ set }) => set), serial };
+        const { number } = library.open("hk_two_open", lent.sets, serial);
+        return { number, ...lent, reason: number === 0 ? null : reasonOf(library, laid, lent, [full.serialLine, high.serialLine]) };
     });
 }
 

@@ -1,11 +1,11 @@
-// What the library says of what is lent, and what that is: accepted, or refused with its number, and where hk_explain tells it, with rule and byte.
+// What the library says of what is lent, and what that is: accepted, or refused with its number, and with rule, set and byte.
 import { button, element, fill } from "./element.js";
 import { GROUPS, rulesOfGroup } from "./rules.js";
-import { KINDS } from "./board.js";
+import { KINDS, SERIAL } from "./board.js";
+import { limitsOf } from "./faults.js";
 import { faultsOf } from "./mending.js";
 import { faultRows } from "./faultrows.js";
 import { likenessOf, singleLikeness } from "./likeness.js";
-import { blamedSet, pairCauses } from "./pairs.js";
 import { numberWords } from "./host.js";
 import { shapeOf, treeOf } from "./set.js";
 import { guess } from "./files.js";
@@ -13,13 +13,13 @@ import { countWords } from "./bytes.js";
 
 const STUMBLED = "The library accepts this set; this page, which reads it for show alone, stumbles:";
 const NOTICED = "What this page noticed while reading it for show (the library decides):";
-// What there is to say of a board's sets: the number, and for a refusal the faults, the first of them the library's.
+// What there is to say of a board's sets: the number, the set at fault, and for a refusal the faults, the first of them the library's.
 export function judge(library, board) {
-    const { number, kind } = board, judged = { number, kind, set: kind === "two" ? blamedSet(library, board) : 0, faults: [] };
-    if (number === 0 || kind !== "one" || !library.has("hk_explain"))
+    const { number, kind } = board, judged = { number, kind, set: 0, faults: [] };
+    if (number === 0 || !library.has(KINDS[kind].explain))
         return judged;
-    const faults = faultsOf(library, board.sets[0], board.serial);
-    return { ...judged, faults, explained: faults[0]?.number ?? 0 };
+    const faults = faultsOf(library, board), [first] = faults;
+    return { ...judged, faults, set: first && first.block !== SERIAL ? first.block : 0, explained: first?.number ?? 0 };
 }
 
 const GUESSES = {
@@ -63,8 +63,8 @@ function acceptedWords(board) {
     });
 }
 
-function groupRules(number) {
-    const rules = rulesOfGroup(number);
+function groupRules(number, limits) {
+    const rules = rulesOfGroup(number, limits);
     return rules.length > 0 && element("details", { class: "rules" },
         element("summary", {}, `The ${rules.length} rules of number ${number}: ${GROUPS[number]}`),
         element("dl", {}, rules.flatMap((rule) => [element("dt", {}, [rule.number && `${rule.number} `, rule.rule]), element("dd", {}, rule.words)])));
@@ -74,10 +74,10 @@ function groupRules(number) {
 function remarks(board, judged, show) {
     const found = judged.faults.length > 0 ? [] : board.sets.flatMap((set) => treeOf(set, board.kind).remarks);
     if (judged.explained !== undefined && judged.explained !== judged.number)
-        found.push({ words: `hk_explain gives ${judged.explained}; hk_open's ${judged.number} stands` });
+        found.push({ words: `${KINDS[board.kind].explain} gives ${judged.explained}; ${KINDS[board.kind].open}'s ${judged.number} stands` });
     if (found.length === 0)
         return null;
-    const line = ({ place, words }) => (place === undefined || board.sets.length > 1 ? words : button(words, () => show("set", place), { class: "link" }));
+    const line = ({ place, words }) => (place === undefined || board.sets.length > 1 ? words : button(words, () => show(0, place), { class: "link" }));
     const heading = judged.number === 0 ? STUMBLED : NOTICED;
     return element("div", { class: "remarks" }, element("p", {}, heading), element("ul", {}, found.slice(0, 5).map((one) => element("li", {}, line(one)))));
 }
@@ -91,9 +91,8 @@ export function showVerdict(place, board, judged, { show, useAs }) {
         element("h2", {}, accepted ? ["Accepted: ", subject] : [`Refused with ${judged.number}${which}: `, subject]),
         accepted ? acceptedWords(board) : element("p", { class: "number" }, `Number ${judged.number}: ${numberWords(judged.number)}.`),
         hint(board, judged, useAs),
-        faultRows(judged.faults, { set: board.sets[0], serial: board.serial, show }),
-        judged.number === 24 && element("ul", { class: "causes" }, pairCauses(board.sets).map((words) => element("li", {}, words))),
-        accepted ? null : groupRules(judged.number),
+        faultRows(judged.faults, { lent: board, show }),
+        accepted ? null : groupRules(judged.number, limitsOf(board, judged.set)),
         remarks(board, judged, show));
 }
 

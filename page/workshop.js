@@ -5,6 +5,7 @@ import { Texts } from "./texts.js";
 import { faultRows } from "./faultrows.js";
 import { numberWords } from "./host.js";
 import { ruleOf } from "./rules.js";
+import { limitsOf } from "./faults.js";
 import { likenessOf } from "./likeness.js";
 import { setOfDump, setOfPieces, dumpOfSet } from "./making.js";
 import { withoutMirrors } from "./pairs.js";
@@ -79,7 +80,7 @@ export class Workshop {
         return [
             reason?.number ? refused(`Refused with ${number}: ${name}.`) : refusal(number, name),
             reason && this.reasonRows(made),
-            reason?.set && this.lookButton(made, [reason.set], `${name}, refused`),
+            reason?.lent && this.lookButton(made, reason.lent.sets, `${name}, refused`),
         ];
     }
 
@@ -87,14 +88,12 @@ export class Workshop {
     reasonRows({ reason, serial, number, kind }) {
         if (reason.words)
             return element("p", {}, reason.words);
-        const like = kind === "one" ? likenessOf(this.library, reason.set, serial) : null;
-        const line = (fault) => (fault.line ? this.texts.lead(fault.line) : pieceWords(fault));
+        const like = kind === "one" ? likenessOf(this.library, ...reason.lent.sets, serial) : null;
+        const line = (fault) => (fault.line ? this.texts.lead(fault.line, fault.text) : pieceWords(fault));
         return [
             element("p", {}, `${number === reason.number ? "Number" : "The opener would refuse the set with"} ${reason.number}: ${numberWords(reason.number)}.`),
-            typeof reason.at === "number" && element("p", {}, `It is about the ${KINDS.two.sets[reason.at]}, of the ${reason.at === 0 ? "first" : "second"} text.`),
-            reason.causes && element("ul", { class: "causes" }, reason.causes.map((words) => element("li", {}, words))),
             like && element("p", { class: "hinted" }, element("strong", {}, `${like.words.replace(/^./, (letter) => letter.toUpperCase())}.`)),
-            faultRows(reason.faults, { set: reason.set, serial, line }),
+            faultRows(reason.faults, { lent: reason.lent, line }),
         ];
     }
 
@@ -165,8 +164,9 @@ function briefly({ mistake, number, sets, reason }) {
     if (number === 0)
         return `Accepted, ${sets.map(({ length }) => countWords(length, "byte")).join(" and ")}`;
     const [fault, ...others] = reason?.faults ?? [];
-    const where = fault?.line ? `line ${fault.line.number}, ` : "", more = others.length > 0 ? `, and ${countWords(others.length, "fault")} more` : "";
-    return fault ? `Refused: ${where}rule ${fault.rule}, ${ruleOf(fault.rule).rule}${more}` : `Refused with ${number}`;
+    const text = sets.length > 1 ? `${["full", "high"][fault?.text]}-speed text, ` : "", where = fault?.line ? `${text}line ${fault.line.number}, ` : "";
+    const more = others.length > 0 ? `, and ${countWords(others.length, "fault")} more` : "";
+    return fault ? `Refused: ${where}rule ${fault.rule}, ${ruleOf(fault.rule, limitsOf(reason.lent, fault.block)).rule}${more}` : `Refused with ${number}`;
 }
 
 const pieceWords = ({ piece, inDump }) => (piece && inDump === undefined ? `the piece of type ${piece.type}, index ${piece.index}` : "");

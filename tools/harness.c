@@ -215,6 +215,7 @@ static hk_part *unwritten_part(uint8_t flags) {
 #define IN_SERIAL 1
 #define IN_REPLY 2
 #define IN_HIGH 3
+#define NOWHERE 255
 
 /* The answer to a call. */
 static void respond(uint8_t error, uint8_t number, const uint8_t *answer, uint8_t answer_count, uint8_t block_number,
@@ -529,16 +530,31 @@ static void call_trim(uint8_t flags) {
     respond_with_image();
 }
 
-/* The answer's bytes are the rule, its offset is the place. */
-static void call_explain(uint8_t flags) {
+/* hk_two_explain's block, as a response has it. */
+static uint8_t told_block(uint8_t block) {
+    return block == HK_BLOCK_FULL ? IN_SET : block == HK_BLOCK_HIGH ? IN_HIGH : block == HK_BLOCK_SERIAL ? IN_SERIAL : NOWHERE;
+}
+
+/* The answer's bytes are the rule, its block and its offset are the place. */
+static void call_explain(uint8_t operation, uint8_t flags) {
     place_unwritten(&bytes, sizeof(uint16_t), flags, sizeof(uint16_t));
     place_unwritten(&written, sizeof(uint32_t), flags, sizeof(uint32_t));
+    place_unwritten(&count, 1, flags, 1);
     uint16_t *rule = (uint16_t *)(void *)(bytes.room + bytes.start);
     uint32_t *place = (uint32_t *)(void *)(written.room + written.start);
-    uint8_t number = hk_explain(lent(&set, flags), set.length, lent(&serial, flags), serial.length, rule, place);
+    uint8_t *block = count.room + count.start, number, told_in;
+    const uint8_t *set_lent = lent(&set, flags), *serial_lent = lent(&serial, flags);
+    if (operation == 'Z')
+        number = hk_two_explain(set_lent, set.length, lent(&high, flags), high.length, serial_lent, serial.length, block, rule, place);
+    else if (operation == 'Y')
+        number = hk_super_explain(set_lent, set.length, serial_lent, serial.length, rule, place);
+    else
+        number = hk_explain(set_lent, set.length, serial_lent, serial.length, rule, place);
+    told_in = operation == 'Z' ? told_block(*block) : number == HK_SERIAL_BROKEN ? IN_SERIAL : IN_SET;
     uint8_t told[2] = {(uint8_t)*rule, (uint8_t)(*rule >> 8)};
-    int kept = unchanged(&set) && unchanged(&serial) && guards_unchanged(&bytes) && guards_unchanged(&written);
-    respond(kept ? 0 : BYTES_CHANGED, number, told, 2, number == 6, *place, 0);
+    int kept = unchanged(&set) && unchanged(&high) && unchanged(&serial) && guards_unchanged(&bytes) &&
+               guards_unchanged(&written) && guards_unchanged(&count);
+    respond(!kept ? BYTES_CHANGED : told_in == NOWHERE ? PART_ASTRAY : 0, number, told, 2, told_in, *place, 0);
     put_number(0);
 }
 
@@ -605,8 +621,8 @@ int main(void) {
         case 't':
             call_trim(flags);
             break;
-        case 'X':
-            call_explain(flags);
+        case 'X': case 'Y': case 'Z':
+            call_explain(operation, flags);
             break;
         case 'w': case 'F': case 'i': case 'x':
             call_maker(operation, flags);

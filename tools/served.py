@@ -6,6 +6,8 @@ from pieces import word
 # The events by their numbers in include/heideklonk.h, and the operation of each in the protocol.
 SETUP, STATUS_END, BUS_RESET, HALT, PACKET_PASSED, POWER, SUSPEND, RESUME, WAKE = range(9)
 OPERATIONS = b"serhpPzya"
+# The blocks of a pair as hk_two_explain numbers them, by the protocol's own numbers.
+BLOCKS_TOLD = {0: 0, 3: 1, 1: 2}
 # A bus reset that names its speed.
 BUS_RESET_TO = b"R"
 
@@ -81,16 +83,17 @@ class Served:
         value, setup = (0, carried) if kind == SETUP else (carried[0] if carried else 0, b"")
         return self.ask(b"V", bytes([kind, value]) + block(image) + block(setup))
 
-    def port_event(self, port, kind, carried, row):
-        """An event at a port of a row of records, of the one set that is lent; the image is the row."""
+    def port_event(self, port, kind, carried, row, two=False):
+        """An event at a port of a row of records, of the one set that is lent or of two; the image is the row."""
         value, setup = (0, carried) if kind == SETUP else (carried[0] if carried else 0, b"")
-        return self.ask(b"q", port.to_bytes(8, "little") + bytes([kind, value]) + block(row) + block(setup))
+        return self.ask(b"Q" if two else b"q", port.to_bytes(8, "little") + bytes([kind, value]) + block(row) + block(setup))
 
-    def pipe_event(self, kind, value, blocks, setup):
-        """An event of the pipe, with image, pipe record and reply as blocks: the number, the bytes, the part, the order, the room, and both records."""
+    def pipe_event(self, kind, value, blocks, setup, two=False):
+        """An event of the pipe, of one set or of two, with image, pipe record and reply as blocks: the number, the bytes, the part, the order, the room,
+        and both records."""
         image, pipe, _ = blocks
         rest = bytes([kind]) + word(value) + b"".join(map(block, [*blocks, setup]))
-        number, given, part, left = self.ask(b"c", rest)
+        number, given, part, left = self.ask(b"C" if two else b"c", rest)
         room, records = int.from_bytes(left[1:3], "little"), left[3:]
         return number, given, part, left[0], room, records[len(pipe) :], records[: len(pipe)]
 
@@ -111,6 +114,16 @@ class Served:
         """hk_explain: the number, the rule and the place."""
         number, rule, part, _ = self.ask(b"X", b"")
         return number, int.from_bytes(rule, "little"), part[1]
+
+    def super_explain(self):
+        """hk_super_explain, in the same way."""
+        number, rule, part, _ = self.ask(b"Y", b"")
+        return number, int.from_bytes(rule, "little"), part[1]
+
+    def two_explain(self):
+        """hk_two_explain: the number, the rule, the block (0 the full-speed set, 1 the high-speed set, 2 the serial block) and the place."""
+        number, rule, part, _ = self.ask(b"Z", b"")
+        return number, int.from_bytes(rule, "little"), BLOCKS_TOLD[part[0]], part[1]
 
     def packets(self, length, asked, size):
         """The lengths of the packets."""

@@ -1,5 +1,5 @@
-"""An outside explainer: which rule a set breaks first, and at which byte, from docs/MAKERS.md alone. The order of the rules and the byte of each are read
-from the page as it stands; what a rule asks is its row, in Python. It shares nothing with the library nor with broken.py."""
+"""An outside explainer: which rule a set, a SuperSpeed set or a pair breaks first, and at which byte, from docs/MAKERS.md alone. The order of the rules and the
+byte of each are read from the page as it stands; what a rule asks is its row, in Python. It shares nothing with the library nor with broken.py."""
 import re
 
 
@@ -8,9 +8,9 @@ def word(data, at):
 
 
 # ---- what the page says
-def read_order(page):
-    """The block of the order: rules, and (thing, [what is asked of each])."""
-    lines = re.search(r"^```order rules\n([^`]*)^```$", page, re.MULTILINE)[1].splitlines()
+def read_order(page, title):
+    """A block of the order: rules, and (thing, [what is asked of each])."""
+    lines = re.search(rf"^```order {title}\n([^`]*)^```$", page, re.MULTILINE)[1].splitlines()
     levels = [[]]
     for line in lines:
         depth = (len(line) - len(line.lstrip())) // 4
@@ -26,11 +26,19 @@ def read_order(page):
 def read_places(page):
     """Each rule's bytes, as the rows of its tables have them: what they are counted from, and how many bytes on."""
     places = {}
-    for numbers, cell in re.findall(r"^\| (\d{3}(?:, \d{3})*) \| ([^|]*) \|", page, re.MULTILINE):
+    for numbers, cell in re.findall(r"^\| (\d{3,4}(?:, \d{3})*) \| ([^|]*) \|", page, re.MULTILINE):
         for number in map(int, numbers.split(", ")):
             found = [(base, int(on)) for base, on in re.findall(r"`([a-z ]+) \+ (\d+)`", cell)]
             places[number] = places.get(number, []) + [place for place in found if place not in places.get(number, [])]
     return places
+
+
+def differing(one, other):
+    """The first byte in which two bodies differ."""
+    at = 0
+    while at < min(len(one), len(other)) and one[at] == other[at]:
+        at += 1
+    return at
 
 
 class Told(Exception):
@@ -40,7 +48,8 @@ class Told(Exception):
 class Reading:
     """A set as it is gone through: the things that the rules are about, and where they stand."""
 
-    def __init__(self, data, serial):
+    def __init__(self, data, serial, kind):
+        self.kind_of_set = kind
         self.data, self.serial, self.at = data, serial, {"set": 0, "serial": 0}
         self.entries, self.strings, self.values, self.reference, self.languages = [], [], [], None, []
 
@@ -95,6 +104,47 @@ class Reading:
             yield
             self.has.append(self.descriptor[2])
             self.seen[self.descriptor[2]] = self.setting[0]
+
+    def a_SuperSpeed_set(self):
+        if self.kind_of_set == SUPER:
+            self.stores, self.behind = self.of_kind(15), False
+            yield
+
+    def each_descriptor(self):
+        """Of the body, from its first; the endpoint before it, or none."""
+        self.next, self.lacks, self.behind = 0, None, False
+        while self.next < len(self.body):
+            self.descriptor = self.body[self.next :]
+            self.at["descriptor"] = self.offset + self.next
+            yield
+            self.lacks = self.at["descriptor"] if self.descriptor[1] == 5 else None
+            self.at["endpoint"] = self.lacks
+            self.next += self.descriptor[0]
+        self.behind = True
+
+    def each_type_7_entry(self):
+        self.left, self.in_entry = self.other.of_kind(2), True
+        for entry in self.of_kind(7):
+            self.enter(entry)
+            self.held_to = self.left.pop(0) if self.left else None
+            self.over = self.held_to is None
+            self.wanted = self.other.body_of(self.held_to, 7) if self.held_to else b""
+            self.at["difference"] = self.offset + differing(self.body, self.wanted)
+            yield
+        self.in_entry = False
+
+    def body_of(self, entry, type_byte):
+        """An entry's body with another type byte."""
+        body = self.data[entry[4] : entry[4] + entry[5]]
+        return body[:1] + bytes([type_byte]) + body[2:]
+
+    def stands_beside(self, other):
+        """24 is asked of this set from now on."""
+        self.other, device = other, other.body_of(other.of_kind(1)[0], 1)
+        self.wanted = bytes([10, 6, *device[2:8], device[17], 0])
+        self.at["end of contents"] = 4 + 8 * len(self.entries)
+        self.at["end of strings"] = 4 + 8 * sum(entry[1] <= 3 for entry in self.entries)
+        self.in_entry = False
 
     def each_string(self):
         self.enter(self.of_kind(1)[0])
@@ -151,6 +201,24 @@ class Reading:
         return word(self.descriptor, 4)
 
 
+# The kinds of set, and what each may have: types of entry, bMaxPacketSize0, sizes by transfer type, an interrupt endpoint's longest bInterval.
+ALONE, FULL, HIGH, SUPER = "alone", "full", "high", "super"
+TYPES = {ALONE: (1, 2, 3), FULL: (1, 2, 3, 6, 7), HIGH: (1, 2, 3, 6, 7), SUPER: (1, 2, 3, 15)}
+CONTROL_SIZES = {ALONE: (8, 16, 32, 64), FULL: (8, 16, 32, 64), HIGH: (64,), SUPER: (9,)}
+BULK_SIZES = {ALONE: (8, 16, 32, 64), FULL: (8, 16, 32, 64), HIGH: (512,), SUPER: (1024,)}
+INTERRUPT_INTERVALS = {ALONE: range(1, 256), FULL: range(1, 256), HIGH: range(1, 17), SUPER: range(1, 17)}
+
+
+def in_microframe(size):
+    return size % 2048 <= 1024 and size // 2048 <= 2
+
+
+SIZES = {
+    ALONE: {3: lambda size: size <= 64, 1: lambda size: size <= 1023}, HIGH: {3: in_microframe, 1: in_microframe},
+    SUPER: {3: lambda size: 1 <= size <= 1024, 1: lambda size: size <= 1024},
+}
+SIZES[FULL] = SIZES[ALONE]
+
 # Whether each rule holds, in the words of its row. Where one has several places, the number of the place that is meant, behind whether it holds.
 ISOCHRONOUS, BULK, INTERRUPT = 1, 2, 3
 HOLDS = {
@@ -161,7 +229,7 @@ HOLDS = {
     105: lambda r: r.data[2] <= 64,
     106: lambda r: r.data[3] == 0,
     107: lambda r: 4 + 8 * r.data[2] <= len(r.data),
-    201: lambda r: 1 <= r.kind <= 3,
+    201: lambda r: r.kind in TYPES[r.kind_of_set],
     202: lambda r: r.before is None or r.before < (r.kind, r.language, r.index),
     203: lambda r: r.length >= 2,
     204: lambda r: r.offset == r.ended,
@@ -172,11 +240,16 @@ HOLDS = {
     304: lambda r: r.length == 18,
     305: lambda r: r.body[0] == 18,
     306: lambda r: r.body[1] == 1,
-    307: lambda r: r.body[7] in (8, 16, 32, 64),
+    307: lambda r: r.body[7] in CONTROL_SIZES[r.kind_of_set],
     308: lambda r: r.body[4] or not r.body[5],
     309: lambda r: r.body[17] >= 1,
     310: lambda r: r.body[17] <= 8,
     311: lambda r: r.body[17] == len(r.of_kind(2)),
+    312: lambda r: (len(r.stores) == 1, int(len(r.stores) > 1)),
+    313: lambda r: r.index == 0,
+    314: lambda r: r.language == 0,
+    315: lambda r: r.length >= 5,
+    316: lambda r: word(r.body, 2) == r.length,
     401: lambda r: r.index == r.before_it,
     402: lambda r: r.language == 0,
     403: lambda r: r.descriptor[0] >= 2,
@@ -204,15 +277,18 @@ HOLDS = {
     425: lambda r: r.descriptor[3] < 64,
     426: lambda r: r.transfer(),
     427: lambda r: r.transfer() == ISOCHRONOUS or r.descriptor[3] < 4,
-    428: lambda r: r.transfer() != BULK or r.size() in (8, 16, 32, 64),
-    429: lambda r: r.transfer() != INTERRUPT or r.size() <= 64,
-    430: lambda r: r.transfer() != ISOCHRONOUS or r.size() <= 1023,
-    431: lambda r: r.transfer() != INTERRUPT or r.descriptor[6],
+    428: lambda r: r.transfer() != BULK or r.size() in BULK_SIZES[r.kind_of_set],
+    429: lambda r: r.transfer() != INTERRUPT or SIZES[r.kind_of_set][3](r.size()),
+    430: lambda r: r.transfer() != ISOCHRONOUS or SIZES[r.kind_of_set][1](r.size()),
+    431: lambda r: r.transfer() != INTERRUPT or r.descriptor[6] in INTERRUPT_INTERVALS[r.kind_of_set],
     432: lambda r: r.transfer() != ISOCHRONOUS or 1 <= r.descriptor[6] <= 16,
     433: lambda r: r.descriptor[2] not in r.has,
     434: lambda r: r.seen.get(r.descriptor[2], r.setting[0]) == r.setting[0],
     435: lambda r: r.body[5],
     436: lambda r: r.body[5] not in r.values,
+    437: lambda r: r.descriptor[1] != 48 or r.descriptor[0] >= 6,
+    438: lambda r: r.lacks is None or (not r.behind and r.descriptor[1] == 48),
+    439: lambda r: r.descriptor[1] != 48 or r.lacks is not None,
     501: lambda r: r.body[0] == r.length,
     502: lambda r: r.body[1] == 3,
     503: lambda r: r.length % 2 == 0,
@@ -231,22 +307,47 @@ HOLDS = {
     604: lambda r: not r.serial_number or len(r.serial) <= 254,
     605: lambda r: not r.serial_number or r.serial[0] == len(r.serial),
     606: lambda r: not r.serial_number or r.serial[1] == 3,
+    2401: lambda r: (len(r.of_kind(6)) == 1, int(len(r.of_kind(6)) > 1)),
+    2402: lambda r: r.index == 0,
+    2403: lambda r: r.language == 0,
+    2404: lambda r: r.length == 10,
+    2405: lambda r: r.body == r.wanted,
+    2406: lambda r: (not r.over if r.in_entry else not r.left, 0 if r.in_entry else 1),
+    2407: lambda r: r.index == r.held_to[2],
+    2408: lambda r: r.language == 0,
+    2409: lambda r: len(r.body) == len(r.wanted),
+    2410: lambda r: r.body == r.wanted,
 }
 
 
 class Explainer:
     def __init__(self, page):
-        self.order, self.places = read_order(page), read_places(page)
+        self.order, self.beside, self.places = read_order(page, "rules"), read_order(page, "pair"), read_places(page)
 
-    def ask(self, reading, rule):
+    # What has to be found before a rule is asked, and what its rule leads to: the one entry that the next rules are about.
+    def find(self, reading, rule):
         if rule == 301:
             reading.at["first string"] = next((entry[0] for entry in reading.of_kind(3)), 0)
+        if rule == 312:
+            reading.at["end of contents"] = 4 + 8 * len(reading.entries)
+        for number, kind in ((312, 15), (2401, 6)):
+            if rule == number and len(reading.of_kind(kind)) > 1:
+                reading.at["entry"] = reading.of_kind(kind)[1][0]
+
+    def lead(self, reading, rule):
+        kind = {301: 1, 312: 15, 2401: 6}.get(rule)
+        if kind:
+            reading.enter(reading.of_kind(kind)[0])
+        if rule == 2401:
+            reading.at["difference"] = reading.offset + differing(reading.body, reading.wanted)
+
+    def ask(self, reading, rule):
+        self.find(reading, rule)
         holds, which = answer if isinstance(answer := HOLDS[rule](reading), tuple) else (answer, 0)
         if not holds:
             base, on = self.places[rule][which]
             raise Told(rule, reading.at[base] + on)
-        if rule == 301:
-            reading.enter(reading.of_kind(1)[0])
+        self.lead(reading, rule)
 
     def go(self, reading, order):
         for item in order:
@@ -256,11 +357,17 @@ class Explainer:
                 for _ in getattr(reading, item[0].replace(" ", "_"))():
                     self.go(reading, item[1])
 
-    def explain(self, data, serial):
-        """Opening's number, the rule and the byte; all 0 if no rule is broken."""
+    def explain(self, kinds, sets, serial):
+        """Opening's number, the rule, the block (a set's number, or 2 for the serial block) and the byte; all 0 if no rule is broken."""
+        readings, block = [Reading(data, serial, kind) for kind, data in zip(kinds, sets)], 0
         try:
-            self.go(Reading(data, serial), self.order)
+            for block, reading in enumerate(readings):
+                self.go(reading, self.order)
+            for block, reading in enumerate(readings if len(readings) == 2 else []):
+                reading.stands_beside(readings[1 - block])
+                self.go(reading, self.beside)
         except Told as told:
             rule, place = told.args
-            return rule // 100, rule, min(place, max(len(serial if rule > 600 else data) - 1, 0))
-        return 0, 0, 0
+            block = 2 if rule // 100 == 6 else block
+            return rule // 100, rule, block, min(place, max(len(serial if block == 2 else sets[block]) - 1, 0))
+        return 0, 0, 0, 0

@@ -1,6 +1,6 @@
 """native.py HOST HARNESS: what the native programs say of the sets that the page is shown, as JSON: the lister, the bench host, makers/read, the makers'
 program's trim, export and, of recorded devices, import; what makers/explain says of refused sets; and the sets that are written of the texts."""
-import json, os, random, re, subprocess, sys, tempfile
+import json, os, random, subprocess, sys, tempfile
 
 sys.path.insert(1, os.path.dirname(os.path.dirname(os.path.abspath(__file__))))
 sys.dont_write_bytecode = True
@@ -11,10 +11,11 @@ from text import Mistake, piece, read_entries, read_text as whole_text, text_of
 
 sys.path[1:1] = [os.path.join(TOP, "page"), os.path.join(TOP, "bench")]
 from facts import TEXTS as TEMPLATES
-from asking import LaidOut
+from asking import LaidOut, asker, read_told
 from dumped import dumped_set, place_in_dump
 from faults import brief
 from kinds import looks_like
+from lent import ONE, SUPER_SET, TWO, Lent, one
 from mending import faults_of
 from pairing import laid_out, mirrors
 from served import Served
@@ -64,8 +65,8 @@ class Room:
 
 def explained(room, given):
     """Number, rule and byte of a refused set."""
-    found = re.fullmatch(r"REFUSED (\d+) RULE (\d+) BYTE (\d+)\n", room.program("maker explain", given)[0])
-    return list(map(int, found.groups())) if found else None
+    fault = read_told(room.program("maker explain", given)[0])
+    return [fault.number, fault.rule, fault.place] if fault else None
 
 
 def told(room, host, name, data, serial):
@@ -119,7 +120,7 @@ def stepped(library, name):
     """The bench's script of packets, step by step: its line, what the host got, and what the pipe gave."""
     transfers, lent = None, {"set": b"", "serial": b"", "record": bytes(32)}
     for step in read_script(os.path.join(TOP, name)):
-        library.lend(lent["set"], lent["serial"])
+        library.lend_all(one(lent["set"], lent["serial"]))
         if isinstance(step, Lending):
             entries, lent["serial"] = step.text
             lent["set"] = library.make_set(entries, lent["serial"])
@@ -136,54 +137,78 @@ def stepped(library, name):
 
 
 # ---- refused sets
+# Examples of several faults, of which one is behind bytes that mending put in: two endpoints without companions.
+SEVERAL = ["SS with 0: 53; 18: 20; 24: 4E; 48: 20; 59: 02; 71: 07 05 82 03 08 00 0A 05 0F 05 00 00"]
+
+
 def refused_examples():
-    """The guide's examples of sets that are lent alone."""
+    """The guide's examples: sets that are lent alone, pairs, SuperSpeed sets."""
     guide = script("tests", "makers", "examples")
     with open(guide.GUIDE, encoding="utf-8") as file:
         text = file.read()
     sets = guide.read_sets(guide.read_blocks(text))
-    return [(example, *guide.changed(sets, example)) for example, _ in guide.read_examples(text, sets) if "+" not in example]
+    for example in [*(example for example, _ in guide.read_examples(text, sets)), *SEVERAL]:
+        *blocks, serial = guide.changed_pair(sets, example) if guide.is_pair(example) else guide.changed(sets, example)
+        kind = TWO if len(blocks) == 2 else SUPER_SET if guide.is_super(sets, example) else ONE
+        yield example, Lent(kind, tuple(blocks), serial)
 
 
-def changed_titrators(data, serial, count):
-    """The titrator with one to four bytes changed."""
+def changed(lent, count, name):
+    """What is lent, with one to four bytes of a set changed."""
     drawn = random.Random(2)
     for at in range(count):
-        changed = bytearray(data)
+        block = drawn.randrange(len(lent.sets))
+        data = bytearray(lent.sets[block])
         for _ in range(drawn.randint(1, 4)):
-            changed[drawn.choice([drawn.randrange(len(data)), drawn.randrange(60, 243)])] = drawn.choice([0, 1, 2, 3, 7, 64, 128, 255, drawn.randrange(256)])
-        yield f"titrator {at}, changed", bytes(changed), serial
+            data[drawn.choice([drawn.randrange(len(data)), drawn.randrange(len(data) // 8, len(data) // 2)])] = drawn.choice([0, 1, 2, 3, 7, 48, 64, 128, 255, drawn.randrange(256)])
+        yield f"{name} {at}, changed", lent._replace(sets=tuple(bytes(data) if other == block else one for other, one in enumerate(lent.sets)))
 
 
-def refused(room, library, sets):
-    """Every fault of each, and what it looks like."""
-    def ask(data, serial):
-        return explained(room, {"set.bin": data, "unit.bin": serial})
+def changed_templates(templates):
+    """The titrator, alone and as a pair, and the SuperSpeed bench set, with bytes changed."""
+    for one_of in templates:
+        if (one_of["kind"], one_of["name"]) in ((ONE, "Titrator"), (TWO, "Titrator"), (SUPER_SET, "Bench set S")):
+            lent = Lent(one_of["kind"], tuple(map(bytes.fromhex, one_of["sets"])), bytes.fromhex(one_of["serial"]))
+            yield from changed(lent, 60, f"{one_of['name']}, {one_of['kind']},")
 
-    for name, data, serial in sets:
-        briefs = [brief(data, serial, fault) for fault in faults_of(data, serial, ask)]
+
+def refused(library, named):
+    """Every fault of each, and what a set that is lent alone looks like."""
+    for name, lent in named:
+        briefs = [brief(lent, fault) for fault in faults_of(lent, asker(library))]
         if briefs:
-            yield {"name": name, "set": data.hex(), "serial": serial.hex(), "briefs": briefs, "looks": looks_like(data, serial, library)}
+            looks = looks_like(*lent.sets, lent.serial, library) if lent.kind == ONE else ""
+            yield {"name": name, "kind": lent.kind, "sets": [data.hex() for data in lent.sets], "set": lent.sets[0].hex(), "serial": lent.serial.hex(), "briefs": briefs, "looks": looks}
 
 
-def blamed(room, texts):
-    """Of texts that can be read: the rule and the line of each fault."""
-    def ask(data, serial):
-        return explained(room, {"set.bin": data, "unit.bin": serial})
-
-    for source in (one["source"] for one in texts if "mistake" not in one):
-        text = LaidOut(whole_text(source.splitlines()))
-        faults = faults_of(text.data, text.serial, ask)
-        yield {"source": source, "faults": [[fault.rule, getattr(text.line_of(fault), "number", 0)] for fault in faults]}
+def lines_of(made, library):
+    """The rule, the text and the line of each fault."""
+    found = []
+    for fault in faults_of(made.lent, asker(library)):
+        at, line = made.line_of(fault)
+        found.append([fault.rule, at, line.number if line else 0])
+    return found
 
 
-def imported(room, name, dump):
+def blamed(library, texts):
+    """Of texts that can be read, and of pairs of them: where each fault is."""
+    read = [one_of["source"] for one_of in texts if "mistake" not in one_of]
+    for source in read:
+        yield {"sources": [source], "faults": lines_of(LaidOut([whole_text(source.splitlines())]), library)}
+    for pair in zip(read[::6], read[3::6]):
+        try:
+            yield {"sources": pair, "faults": lines_of(LaidOut([whole_text(source.splitlines()) for source in pair], TWO), library)}
+        except (Mistake, OverflowError):
+            continue
+
+
+def imported(room, library, name, dump):
     """The set of a dump; of one that breaks rules, each rule and its byte of the dump."""
     told, made = room.program("maker import", {"descriptors": dump}, "set.bin")
     faults = []
     if told.startswith("refused 21"):
         data, serial = dumped_set(dump)
-        faults = [[fault.rule, place_in_dump(data, fault)] for fault in faults_of(data, serial, lambda *lent: explained(room, dict(zip(("set.bin", "unit.bin"), lent))))]
+        faults = [[fault.rule, place_in_dump(data, fault)] for fault in faults_of(one(data, serial), asker(library))]
     return {"name": name, "dump": dump.hex(), "set": made, "faults": faults}
 
 
@@ -209,33 +234,33 @@ def templates(room):
 
 def other_kinds(templates):
     """Sets that are no single full-speed set."""
-    for one in templates:
-        if one["kind"] != "one":
-            yield from ((f"{one['name']}, {one['kind']} {at}", bytes.fromhex(data), bytes.fromhex(one["serial"])) for at, data in enumerate(one["sets"]))
+    for one_of in templates:
+        if one_of["kind"] != "one":
+            yield from ((f"{one_of['name']}, {one_of['kind']} {at}", one(bytes.fromhex(data), bytes.fromhex(one_of["serial"]))) for at, data in enumerate(one_of["sets"]))
     entries, serial = read_text("makers/titrator-high.txt")
-    yield "the titrator's high-speed text alone", laid_out(entries), serial
+    yield "the titrator's high-speed text alone", one(laid_out(entries), serial)
 
 
 def main():
     host, harness = map(os.path.abspath, sys.argv[1:])
     with tempfile.TemporaryDirectory() as folder, Library([EMULATE, harness]) as library, Served([EMULATE, harness]) as served:
         room = Room(folder)
-        offered, titrator, mistaken = list(templates(room)), read_text("makers/titrator.txt"), list(misread(800))
+        offered, mistaken = list(templates(room)), list(misread(800))
         texts = [written(room, path) for path in TEXTS]
         sets = [(path, read(path), read(unit) if unit else b"") for path, unit in SETS]
         sets += [(text["name"], bytes.fromhex(text["set"]), bytes.fromhex(text["serial"])) for text in texts if text["set"]]
         json.dump({
             "texts": texts,
             "templates": offered,
-            "kinds": list(refused(room, served, other_kinds(offered))),
-            "explained": list(refused(room, served, [*refused_examples(), *changed_titrators(laid_out(titrator[0]), titrator[1], 60)])),
+            "kinds": list(refused(served, other_kinds(offered))),
+            "explained": list(refused(served, [*refused_examples(), *changed_templates(offered)])),
             "misread": mistaken,
             "packets": list(stepped(library, "bench/scripts/packets.txt")),
-            "blamed": list(blamed(room, mistaken)),
-            "sets": [told(room, host, *one) for one in sets],
-            "recorded": [told(room, host, *one) for one in enumerations()],
+            "blamed": list(blamed(served, mistaken)),
+            "sets": [told(room, host, *one_of) for one_of in sets],
+            "recorded": [told(room, host, *one_of) for one_of in enumerations()],
             "long": [{"name": name, "set": data.hex(), "serial": serial.hex(), "listing": room.program("lister", {"set.bin": data, "unit.bin": serial})[0]} for name, data, serial in long_sets()],
-            "dumps": [imported(room, name, dump) for name, dump in recordings()],
+            "dumps": [imported(room, served, name, dump) for name, dump in recordings()],
         }, sys.stdout)
 
 

@@ -84,21 +84,32 @@ async function checkLines(browser) {
     console.log("texts with faults: each by rule, byte and line");
 }
 
+// Lends a pair or a SuperSpeed set and a serial block, each in hexadecimal.
+const lendAll = (browser, kind, blocks) => browser.call((wanted, all) => {
+    const files = all.map((hex, at) => ({ name: `block ${at}`, bytes: Uint8Array.from(hex.match(/../g) ?? [], (pair) => parseInt(pair, 16)) }));
+    heideklonk.page.use({ kind: wanted, set: files[0], ...(files.length === 3 && { high: files[1] }), serial: files.at(-1) });
+}, kind, blocks);
+
 // ---- every fault, in the native program's words
 async function checkFaults(browser, room, native) {
     let faults = 0;
-    const chosen = native.explained.filter((_, at) => at % Math.ceil(native.explained.length / 12) === 0);
+    const ofKind = (wanted, count) => native.explained.filter(({ kind }) => kind === wanted).filter((_, at, all) => at % Math.ceil(all.length / count) === 0);
+    const chosen = [...ofKind("one", 12), ...ofKind("two", 6), ...ofKind("super", 6)];
     await openPanel(browser, "set");
-    for (const { name, set, serial, briefs } of chosen) {
-        await dropSet(browser, room, { name: "broken.bin", set, serial });
+    for (const { name, kind, sets, set, serial, briefs } of chosen) {
+        if (kind === "one")
+            await dropSet(browser, room, { name: "broken.bin", set, serial });
+        else
+            await lendAll(browser, kind, [...sets, serial]);
         const rules = await browser.evaluate("[...document.querySelectorAll('#verdict .rule')].map((one) => one.textContent)");
         hold(`the faults of ${name}`, rules.map((rule) => /\d+/.exec(rule)[0]).join(" "), briefs.map((brief) => /\d+/.exec(brief)[0]).join(" "));
         faults += briefs.length;
     }
+    await browser.call((value) => heideklonk.page.use({ kind: value }), "one");
     await pressExample(browser, "Titrator");
     await browser.evaluate("heideklonk.page.changeByte(0, 80, 0xA4)");
     holdWords("what should stand there", await textOf(browser, "#verdict"), "wTotalLength: found A4 00 (164), should be A5 00 (165): the body has 165 bytes");
-    console.log(`${faults} faults of ${chosen.length} refused sets told as makers/explain tells them`);
+    console.log(`${faults} faults of ${chosen.length} refused sets and pairs told as makers/explain tells them`);
 }
 
 // ---- what was typed survives a reload, and can be undone
@@ -264,18 +275,22 @@ async function checkPairs(browser, room, native) {
     await chooseKind(browser, "two");
     holdWords("a pair's texts are there to start from", await told(), "Accepted: these two texts");
     await type("high-text", ["wMaxPacketSize 512", "wMaxPacketSize 511"]);
-    holdWords("which text of a pair is refused", await told(), "It is about the high-speed set, of the second text");
+    holdWords("a pair's fault, by the byte of its set", await told(), "of the high-speed set, wMaxPacketSize: found FF 01 (511), should be 00 02 (512)");
+    holdWords("which text of a pair is refused, and its line", await textOf(browser, "#written-brief"), "Refused: high-speed text, line 17, rule 428");
+    await browser.evaluate("document.querySelector('#written .to-line').click()");
+    holdWords("it leads to its line", await browser.evaluate("(({ value, selectionStart, selectionEnd }) => value.slice(selectionStart, selectionEnd))(document.getElementById('high-text'))"), "wMaxPacketSize 511");
     await type("high-text", ["wMaxPacketSize 511", "wMaxPacketSize many"]);
     holdWords("a mistake in the second text", await told(), "high-speed text, line 17: many is no number");
     await openPanel(browser, "set");
     const changed = Buffer.from(high, "hex");
     changed[changed.indexOf(Buffer.from([10, 6])) + 8] = 2;
-    await browser.call((...blocks) => {
-        const [set, wrong, unit] = blocks.map((hex, at) => ({ name: `block ${at}`, bytes: Uint8Array.from(hex.match(/../g), (pair) => parseInt(pair, 16)) }));
-        heideklonk.page.use({ kind: "two", set, high: wrong, serial: unit });
-    }, full, changed.toString("hex"), serial);
+    await lendAll(browser, "two", [full, changed.toString("hex"), serial]);
     hold("a pair that does not go together", await verdict(browser), "Refused with 24");
-    holdWords("and why", await textOf(browser, "#verdict .causes"), "high-speed set: type 6, index 0, has 02 at byte 8 of its body, and the other set makes it 01");
+    const place = changed.indexOf(Buffer.from([10, 6])) + 8;
+    holdWords("which rule", await textOf(browser, "#verdict .rule"), "Rule 2405: the device_qualifier is the one of the other set's device descriptor");
+    holdWords("which byte of which set", await textOf(browser, "#verdict .found"), `Byte ${place} of the high-speed set, bNumConfigurations: found 02 (2), should be 01 (1)`);
+    holdWords("and what the other set has", await textOf(browser, "#verdict .remark"), "of the full-speed set, bNumConfigurations, has 01 (1).");
+    hold("the byte is marked, in its set", await browser.evaluate("[document.getElementById('blocks').value, document.querySelector('.byte.broken')?.id].join(' ')"), `1 byte-${place}`);
     await openPanel(browser, "make");
     await browser.press("#to-text");
     holdWords("the texts of a pair that is lent, types 6 and 7 made anew", await told(), "Accepted: these two texts");
@@ -287,7 +302,7 @@ async function checkPairs(browser, room, native) {
 
 // ---- a phone's width, with all that can be said
 async function checkNarrow(browser, room, native) {
-    const wide = native.explained.reduce((most, one) => (one.briefs.length > most.briefs.length ? one : most)), fits = async (what) => hold(`${what} fits a phone`, await overflow(browser, PHONE), "");
+    const wide = native.explained.filter(({ kind }) => kind === "one").reduce((most, one) => (one.briefs.length > most.briefs.length ? one : most)), fits = async (what) => hold(`${what} fits a phone`, await overflow(browser, PHONE), "");
     await browser.size(PHONE, 780);
     await dropSet(browser, room, { ...wide, name: "a-set-with-a-long-name-that-has-no-space-to-be-broken-at.bin" });
     for (const panel of ["set", "compare", "make"]) {

@@ -50,8 +50,10 @@ for (const { name, source, set } of native.texts) {
     const made = setOfText(library, source);
     hold(`the set of ${name}`, made.number === 0 ? textOfBytes(made.sets[0]) : null, set);
 }
-for (const { source, faults } of native.blamed)
-    hold("the lines of a text with faults", JSON.stringify(setOfText(library, source).reason?.faults?.map(({ rule, line }) => [rule, line?.number ?? 0]) ?? []), JSON.stringify(faults));
+for (const { sources, faults } of native.blamed) {
+    const made = sources.length === 2 ? pairOfTexts(library, ...sources) : setOfText(library, ...sources);
+    hold("the lines of texts with faults", JSON.stringify(made.reason?.faults?.map(({ rule, text, line }) => [rule, text, line?.number ?? 0]) ?? []), JSON.stringify(faults));
+}
 console.log(`${native.misread.length + native.texts.length} texts read as makers/write reads them`);
 
 for (const { kind, name, text, high } of FACTS.texts) {
@@ -68,13 +70,14 @@ for (const { name, text } of FACTS.texts.filter(({ kind }) => kind === "one"))
 
 // ---- refused sets
 let faults = 0;
-for (const { name, set, serial, briefs, looks } of [...native.explained, ...native.kinds]) {
-    const [bytes, block] = [bytesOf(set), bytesOf(serial)], found = faultsOf(library, bytes, block).map((fault) => brief(bytes, block, fault));
+for (const { name, kind, sets: lentSets, serial, briefs, looks } of [...native.explained, ...native.kinds]) {
+    const lent = { kind, sets: lentSets.map(bytesOf), serial: bytesOf(serial) }, found = faultsOf(library, lent).map((fault) => brief(lent, fault));
     hold(`the faults of ${name}`, found.join("\n"), briefs.join("\n"));
-    hold(`what ${name} looks like`, likenessOf(library, bytes, block)?.words ?? "", looks);
+    if (kind === "one")
+        hold(`what ${name} looks like`, likenessOf(library, lent.sets[0], lent.serial)?.words ?? "", looks);
     faults += found.length;
 }
-console.log(`${faults} faults of ${native.explained.length + native.kinds.length} refused sets told as makers/explain tells them, and what each looks like`);
+console.log(`${faults} faults of ${native.explained.length + native.kinds.length} refused sets and pairs told as makers/explain tells them, and what each looks like`);
 
 // ---- sets
 const sets = [...native.sets, ...native.recorded];

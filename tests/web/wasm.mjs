@@ -250,14 +250,18 @@ function callTrim(flags) {
     respond(error, number, 0, [0, 0], IN_SET, 0, words.getUint16(total.address, true), buffer.bytes());
 }
 
-// The answer's bytes are the rule, its offset is the place.
-function callExplain(flags) {
-    const lent = new Lent(flags), blocks = [set, serial].map((bytes) => lent.place(bytes));
-    const rule = lent.placeForWriting(new Uint8Array(2).fill(UNWRITTEN), 2);
-    const place = lent.placeForWriting(new Uint8Array(4).fill(UNWRITTEN), 4);
-    const { number, error } = lent.call("hk_explain", ...blocks.flatMap(pair), rule.address, place.address);
-    const told = words.getUint16(rule.address, true);
-    respond(error, number, 2, [told & 255, told >> 8], number === 6 ? 1 : 0, words.getUint32(place.address, true), 0, new Uint8Array(0));
+const SERIAL_BROKEN = 6;
+const EXPLAINERS = { X: "hk_explain", Y: "hk_super_explain", Z: "hk_two_explain" };
+const TOLD_BLOCKS = [IN_SET, IN_HIGH, IN_SERIAL];
+
+// The answer's bytes are the rule, its block and its offset are the place.
+function callExplain(operation, flags) {
+    const lent = new Lent(flags), isTwo = operation === "Z", blocks = (isTwo ? [set, high, serial] : [set, serial]).map((bytes) => lent.place(bytes));
+    const [block, rule, place] = [1, 2, 4].map((size) => lent.placeForWriting(new Uint8Array(size).fill(UNWRITTEN), size));
+    const results = [...(isTwo ? [block] : []), rule, place].map(({ address }) => address);
+    const { number, error } = lent.call(EXPLAINERS[operation], ...blocks.flatMap(pair), ...results);
+    const told = words.getUint16(rule.address, true), found = isTwo ? TOLD_BLOCKS[words.getUint8(block.address)] : number === SERIAL_BROKEN ? IN_SERIAL : IN_SET;
+    respond(error || (found === undefined ? PART_ASTRAY : 0), number, 2, [told & 255, told >> 8], found ?? IN_SET, words.getUint32(place.address, true), 0, new Uint8Array(0));
 }
 
 function callMaker(operation, flags) {
@@ -294,8 +298,8 @@ for (;;) {
         callPacket(flags);
     else if (operation === "t")
         callTrim(flags);
-    else if (operation === "X")
-        callExplain(flags);
+    else if (operation in EXPLAINERS)
+        callExplain(operation, flags);
     else if (operation in MAKERS)
         callMaker(operation, flags);
     else if (operation in EVENTS)

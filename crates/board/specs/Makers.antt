@@ -9,6 +9,7 @@ use Rattle.octets.specs.Octets.{Bytes}
 use Rattle.octets.specs.Sentences.{pick}
 use Rattle.descriptors.specs.declared.limits.Limits.{Limits}
 use Rattle.sets.specs.Opening.{Board, lent, opening}
+use Rattle.sets.specs.Pair.{openingTwo}
 use Rattle.records.specs.Device.{fresh}
 use Rattle.records.specs.Image.{imageOf}
 use Rattle.events.specs.Step.{Opened}
@@ -16,6 +17,7 @@ use Rattle.set_writer.specs.Writer.{setOf, writing, Filled}
 use Rattle.dumps.specs.Dump.{imported, importing, exported, exporting}
 use Rattle.trimming.specs.Trim.{trimmed, Trims}
 use Rattle.rules.specs.Explained.{explained}
+use Rattle.pair_rules.specs.Explained.{explainedTwo}
 
 -- hk_super_open: its number, and the image left. Opening on an image, for a kind of set, as `opened` says it of full speed: "an image not 32 bytes gives 8
 -- before group 1; else it becomes the fresh record, accepted or not"
@@ -52,8 +54,15 @@ pub record Shortens (limits : Limits) (set serial : List ℕ) (answer : ℕ) (le
   pub counts : total ≡ pick (eqb answer 0) (length (trimmed set)) 0
   pub octets : Bytes set
 
--- hk_explain: opening's number, the first rule that is broken, 0 where none is, and the byte where it is broken
+-- hk_explain and hk_super_explain: opening's number, the first rule that is broken, 0 where none is, and the byte where it is broken
 pub record Tells (limits : Limits) (set serial : List ℕ) (answer rule place : ℕ) : Type 0 where
   pub number : answer ≡ opening limits (lent set serial)
   pub broken : rule ≡ explained limits (lent set serial) .rule
   pub lies : place ≡ explained limits (lent set serial) .place
+
+-- hk_two_explain: the number of opening both, the first rule that is broken, 0 where none is, the block that it is about, and the byte there
+pub record TellsTwo (full high serial : List ℕ) (answer block rule place : ℕ) : Type 0 where
+  pub number : answer ≡ openingTwo full high serial
+  pub about : block ≡ explainedTwo full high serial .block
+  pub broken : rule ≡ explainedTwo full high serial .rule
+  pub lies : place ≡ explainedTwo full high serial .place

@@ -3,7 +3,7 @@ use events::refusals::RECORD_DOES_NOT_FIT;
 use records::IMAGE_LENGTH;
 ghost use Rattle.sets.specs.Opening.{lent};
 ghost use Rattle.descriptors.specs.Limits.{fullSpeed, superSpeed};
-ghost use Rattle.board.specs.Makers.{OpensAs, Writes, Takes, Dumps, Shortens, Tells};
+ghost use Rattle.board.specs.Makers.{OpensAs, Writes, Takes, Dumps, Shortens, Tells, TellsTwo};
 
 // Pieces end to end, in any order, become a set at the buffer's start.
 #[no_mangle]
@@ -78,6 +78,36 @@ pub extern "C" fn hk_explain(set: &[u8], serial: &[u8], rule: &mut u16, place: &
     ensures { λ r. ⌜ Tells fullSpeed (now (set .entry)) (now (serial .entry)) r (now (rule .exit)) (now (place .exit)) ⌝ }
 {
     let told = rules::explain(set, serial, descriptors::limits::full_speed());
+    *rule = told.rule;
+    *place = told.place;
+    told.number
+}
+
+// The same for a SuperSpeed set.
+#[no_mangle]
+pub extern "C" fn hk_super_explain(set: &[u8], serial: &[u8], rule: &mut u16, place: &mut u32) -> u8
+    ensures { λ r. ⌜ Tells superSpeed (now (set .entry)) (now (serial .entry)) r (now (rule .exit)) (now (place .exit)) ⌝ }
+{
+    let told = rules::explain(set, serial, descriptors::limits::super_speed());
+    *rule = told.rule;
+    *place = told.place;
+    told.number
+}
+
+// The same for two sets lent together: opening's number for both, and the block that the rule is about too.
+#[no_mangle]
+pub extern "C" fn hk_two_explain(
+    full: &[u8],
+    high: &[u8],
+    serial: &[u8],
+    block: &mut u8,
+    rule: &mut u16,
+    place: &mut u32,
+) -> u8
+    ensures { λ r. ⌜ TellsTwo (now (full .entry)) (now (high .entry)) (now (serial .entry)) r (now (block .exit)) (now (rule .exit)) (now (place .exit)) ⌝ }
+{
+    let told = pair_rules::explain_two(full, high, serial);
+    *block = told.block;
     *rule = told.rule;
     *place = told.place;
     told.number

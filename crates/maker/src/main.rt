@@ -3,7 +3,8 @@
 //     import          descriptors, as Linux shows it for a device, becomes set.bin
 //     export          set.bin and unit.bin become descriptors
 //     trim            set.bin and unit.bin become trimmed.bin
-//     explain         which rule of opening set.bin with unit.bin breaks first, and at which byte
+//     explain [super] which rule of opening set.bin with unit.bin breaks first, and at which byte
+//     explain pair    the same of full.bin and high.bin with unit.bin, and of which of the three
 mod explain;
 mod export;
 mod import;
@@ -22,7 +23,7 @@ fn work_on_set(set: &mut [u8], serial: &[u8]) {
     if files::is_argument(1, b"explain") {
         return explain::explain(set, serial);
     }
-    files::say(b"maker write [super] | import | export | trim | explain\n");
+    files::say(b"maker write [super] | import | export | trim | explain [super | pair]\n");
 }
 
 fn main() {
@@ -31,6 +32,9 @@ fn main() {
     }
     if files::is_argument(1, b"import") {
         return import::run();
+    }
+    if files::is_argument(1, b"explain") && files::is_argument(2, b"pair") {
+        return explain::run_pair();
     }
     // One byte more than any set, and more than any serial block may have: a longer file breaks a rule too.
     let mut set = [0u8; 16385];

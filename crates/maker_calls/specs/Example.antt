@@ -116,7 +116,7 @@ pub shortT : {place : List ℕ} {n written : ℕ} → Takes (take 117 dumpT) (re
 shortT i = broughtShort exportsT i (omega (arith, sizeT))
 
 -- ---- U3: S with its interface's bLength 0 is refused with 4, and the rule that is told is of group 4, broken, and the first that is
-pub explainsBroken : {n rule place : ℕ} → Tells fullSpeed (stands .set) (stands .serial) n rule place → (n ≡ 4) × (rule / 100 ≡ 4) × FirstBroken stands n rule place
+pub explainsBroken : {n rule place : ℕ} → Tells fullSpeed (stands .set) (stands .serial) n rule place → (n ≡ 4) × (rule / 100 ≡ 4) × FirstBroken fullSpeed stands n rule place
 unfolding computed
 explainsBroken t =
     let e = explains t in

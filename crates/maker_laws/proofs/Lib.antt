@@ -17,3 +17,4 @@ pub mod RuleBodies
 pub mod RuleTexts
 pub mod RuleGroups
 pub mod RuleBelongs
+pub mod RulePair

@@ -1,4 +1,4 @@
--- The rule that is named belongs to the group that opening names, for all inputs, of a kind without companions and BOS entries; an accepted set gives rule 0, and a refused one some rule. No axiom.
+-- The rule that is named belongs to the group that opening names, for all inputs and kinds of set; an accepted set gives rule 0, and a refused one some rule. No axiom.
 use Prim.Native.Nat.{ℕ, _/_, _≤_}
 use native.Mathlib.Omega.{arith}
 use mathlib.Core.Path.{_≡_, refl, sym, _∙_}
@@ -10,8 +10,7 @@ use borrow.Author.Tests.{leb-true, le-leb}
 use Rattle.octets.specs.Sentences.{pick, every, first}
 use Rattle.octets.proofs.Sentences.{both}
 use Rattle.descriptors.specs.declared.limits.Limits.{Limits}
-use Rattle.descriptors.specs.Limits.{named}
-use Rattle.sets.specs.Contents.{entries, entriesOf, total, bodiesAt}
+use Rattle.sets.specs.Contents.{entries, total, bodiesAt}
 use Rattle.sets.specs.Device.{deviceBody, iSerialNumber}
 use Rattle.sets.specs.Opening.{Board, opening}
 use Rattle.sets.proofs.Groups.{each-rule}
@@ -34,26 +33,26 @@ step false false n x y p q = refl
 step true false n x y p q = absurd (false≢true (sym p))
 step false true n x y p q = absurd (false≢true p)
 
-named-group : (limits : Limits) → limits .companions ≡ false → named (limits .entries) 15 ≡ false → (b : Board) → groupOf (first isBroken (findings limits b)) ≡ opening limits b
+pub named-group : (limits : Limits) (b : Board) → groupOf (first isBroken (findings limits b)) ≡ opening limits b
 unfolding findings opening
-named-group limits single storeless b =
+named-group limits b =
     let set = b .set in
     group-first 1 (frameFindings set) _ (frames set)
     ∙ step _ _ 1 _ _ (frame-same set) (λ f.
     group-first 2 (contentsFindings limits set) _ (contents limits (total set) 4 true noEntry (bodiesAt set) (entries set))
     ∙ step _ _ 2 _ _ (contents-same limits set) (λ c.
-    group-first 3 (deviceFindings limits set) _ (devices limits set (entriesOf 1 set))
-    ∙ step _ _ 3 _ _ (devices-same limits storeless set) (λ d.
+    group-first 3 (deviceFindings limits set) _ (devices limits set)
+    ∙ step _ _ 3 _ _ (devices-same limits set) (λ d.
     group-first 4 (configurationsFindings limits set) _ (configurations limits set 4 0 [] (entries set))
-    ∙ step _ _ 4 _ _ (configurations-same limits set single) (λ g.
+    ∙ step _ _ 4 _ _ (configurations-same limits set) (λ g.
     group-first 5 (stringsFindings set) _ (group-5 set)
     ∙ step _ _ 5 _ _ (strings-same limits set (each-rule limits set g .good)) (λ s.
     group-last 6 (serialFindings (iSerialNumber (deviceBody set)) (b .serial)) (serials (eqb (iSerialNumber (deviceBody set)) 0) (b .serial))
     ∙ step _ _ 6 0 0 (block-same set (b .serial)) (λ t. refl))))))
 
-pub belongs : (limits : Limits) → limits .companions ≡ false → named (limits .entries) 15 ≡ false → (b : Board) → explained limits b .rule / 100 ≡ opening limits b
+pub belongs : (limits : Limits) (b : Board) → explained limits b .rule / 100 ≡ opening limits b
 unfolding explained
-belongs limits single storeless b = named-group limits single storeless b
+belongs limits b = named-group limits b
 
 -- a rule that is named has a group
 none-named : (xs : List Finding) → every (λ x. leb 1 (x .rule / 100)) xs ≡ true → groupOf (first isBroken xs) ≡ 0 → faultOf (first isBroken xs) .rule ≡ 0
@@ -68,7 +67,7 @@ none-named (x ∷ xs) p q =
     go true h q ih = ih q
     go false h q ih = absurd (omega arith)
 
-pub accepted-none : (limits : Limits) → limits .companions ≡ false → named (limits .entries) 15 ≡ false → (b : Board) → opening limits b ≡ 0 → explained limits b .rule ≡ 0
+pub accepted-none : (limits : Limits) (b : Board) → opening limits b ≡ 0 → explained limits b .rule ≡ 0
 unfolding explained
-accepted-none limits single storeless b p =
-    none-named (findings limits b) (all-rules (λ x. leb 1 (x .rule / 100)) (λ x h. le-leb 1 (x .rule / 100) h) limits b) (named-group limits single storeless b ∙ p)
+accepted-none limits b p =
+    none-named (findings limits b) (all-rules (λ x. leb 1 (x .rule / 100)) (λ x h. le-leb 1 (x .rule / 100) h) limits b) (named-group limits b ∙ p)

@@ -1,27 +1,28 @@
 -- Groups 1, 2, 3 and 6: all their rules hold exactly where opening's definition of the group does. No axiom.
 use Prim.Native.Nat.{ℕ, _+_}
 use mathlib.Core.Path.{_≡_, refl, sym, ap, _∙_}
-use mathlib.Core.List.{List, [], _∷_, map}
+use mathlib.Core.List.{List, [], _∷_, _++_, map}
 use mathlib.Core.Bool.{Bool, true, false, _&&_, and-true, and-assoc}
 use lib.ListN.{length}
-use lib.Dec.{eqb}
-use Rattle.octets.specs.Sentences.{pick, every}
-use Rattle.octets.proofs.Sentences.{row}
+use lib.Dec.{eqb, leb}
+use Rattle.octets.specs.Octets.{word}
+use Rattle.octets.specs.Sentences.{pick, _⇒_, every}
+use Rattle.octets.proofs.Sentences.{row, every-append}
 use Rattle.descriptors.specs.declared.limits.Limits.{Limits}
 use Rattle.descriptors.specs.Limits.{named}
 use Rattle.sets.specs.declared.Entry.{Entry}
 use Rattle.sets.specs.Contents.{total, bodiesAt, bodyOf, entries, entriesOf, longEnough, shortEnough, totalIsLength, countsEntry, atMost64Entries, byteThreeZero, contentsInside, goodFrame}
 use Rattle.sets.specs.Contents.{kindAllowed, bodyLongEnough, beginsAt, endsAtTotal, goodContents}
-use Rattle.sets.specs.Pieces.{pieceFor, piecesIn, hasIndex, hasNoLanguage, sole}
+use Rattle.sets.specs.Pieces.{pieceFor, piecesIn, piecesOf, hasIndex, hasNoLanguage, sole}
 use Rattle.sets.proofs.Pieces.{of-kind, length-of}
 use Rattle.sets.specs.Checks.{isNext}
-use Rattle.sets.specs.Device.{deviceBody, iSerialNumber, has18Bytes, says18Bytes, isDevice, controlSize, subclassWithClass, countsConfiguration, atMost8Configurations, countIsEntries, goodDevice}
+use Rattle.sets.specs.Device.{deviceBody, iSerialNumber, has18Bytes, says18Bytes, isDevice, controlSize, subclassWithClass, countsConfiguration, atMost8Configurations, countIsEntries, goodDevice, goodStore}
 use Rattle.sets.specs.Strings.{saysItsLength, typedString, evenLength, upTo254}
 use Rattle.sets.specs.Opening.{goodDevices, blockEmpty, atLeast4, goodSerial, goodBlock}
 use Rattle.sets.proofs.Entries.{contentsFrom, contents-all}
 use Rattle.rules.specs.Findings.{Finding}
 use Rattle.rules.specs.Frame.{frameFindings, contentsAsked, contentsFindings, noEntry}
-use Rattle.rules.specs.Device.{deviceEntryFindings, deviceFindings, serialAsked, serialFindings}
+use Rattle.rules.specs.Device.{deviceEntryFindings, storeEntryFindings, deviceFindings, serialAsked, serialFindings}
 
 abbrev pub allHold : List Finding → Bool
 allHold xs = every (λ x. x .holds) xs
@@ -77,10 +78,40 @@ device-same limits set (e ∷ []) =
     (has18Bytes d ∷ says18Bytes d ∷ isDevice d ∷ controlSize limits d ∷ subclassWithClass d ∷ countsConfiguration d ∷ atMost8Configurations d ∷ countIsEntries (length (entriesOf 2 set)) d ∷ [])))
 device-same limits set (e ∷ f ∷ es) = refl
 
--- of a kind without BOS entries
-pub devices-same : (limits : Limits) → named (limits .entries) 15 ≡ false → (set : List ℕ) → allHold (deviceFindings limits set) ≡ goodDevices limits (piecesIn set)
+store-same : (set : List ℕ) (es : List Entry) → allHold (storeEntryFindings set es) ≡ sole goodStore (map (pieceFor set) es)
+unfolding every
+store-same set [] = refl
+store-same set (e ∷ []) =
+    let b = bodyOf set e in
+    let p = pieceFor set e in
+    sym
+    (and-assoc (hasIndex 0 p) (hasNoLanguage p) _
+    ∙ ap (λ t. hasIndex 0 p && (hasNoLanguage p && t)) (row-every true (leb 5 (length b) ∷ eqb (word b 2) (length b) ∷ [])))
+store-same set (e ∷ f ∷ es) = refl
+
+-- nothing is asked of a kind without them
+pub if-asked : (asked : Bool) (xs : List Finding) → allHold (pick asked xs []) ≡ (asked ⇒ allHold xs)
+unfolding every
+if-asked true xs = refl
+if-asked false xs = refl
+
+swap : (a b : Bool) → (a && b) ≡ (b && a)
+swap true true = refl
+swap true false = refl
+swap false true = refl
+swap false false = refl
+
+pub devices-same : (limits : Limits) (set : List ℕ) → allHold (deviceFindings limits set) ≡ goodDevices limits (piecesIn set)
 unfolding goodDevices
-devices-same limits storeless set = rw (storeless, ← length-of set 2, ← of-kind set 1) (device-same limits set (entriesOf 1 set))
+devices-same limits set =
+    let stores = storeEntryFindings set (entriesOf 15 set) in
+    let asked = named (limits .entries) 15 in
+    every-append (λ x. x .holds) (deviceEntryFindings limits set (entriesOf 1 set)) (pick asked stores [])
+    ∙ swap (allHold (deviceEntryFindings limits set (entriesOf 1 set))) (allHold (pick asked stores []))
+    ∙ ap (λ t. t && allHold (deviceEntryFindings limits set (entriesOf 1 set)))
+    (if-asked asked stores ∙ ap (λ t. asked ⇒ t) (store-same set (entriesOf 15 set) ∙ ap (sole goodStore) (of-kind set 15)))
+    ∙ ap (λ t. (asked ⇒ sole goodStore (piecesOf 15 (piecesIn set))) && t)
+    (device-same limits set (entriesOf 1 set) ∙ rw (length-of set 2, of-kind set 1))
 
 -- ---- group 6
 even-first : (e f t a b : Bool) → (e && (f && (t && (a && (b && true))))) ≡ (f && t && e && a && b)

@@ -25,7 +25,7 @@ use Rattle.sets.proofs.Strings.{ascending}
 use Rattle.sets.proofs.References.{references-set}
 use Rattle.rules.specs.Findings.{Finding, asked, byteAt}
 use Rattle.rules.specs.Configuration.{isWhole}
-use Rattle.rules.specs.Strings.{languagesFrom, languageFindings, stringEntryFindings, stringsFrom, referenceFindings, interfacesFrom, bodyReferences, referencesFrom, deviceReferences, stringsFindings}
+use Rattle.rules.specs.Strings.{languagesFrom, languageFindings, stringEntryFindings, stringsFrom, listedFrom, referenceFindings, interfacesFrom, bodyReferences, referencesFrom, deviceReferences, stringsFindings}
 use Rattle.maker_laws.proofs.RuleFrames.{allHold}
 use Rattle.maker_laws.proofs.RuleBodies.{Proper, ends, breaks, cutOff, goes, proper}
 
@@ -58,15 +58,15 @@ language-same start ls =
 -- ---- the strings
 -- what is asked of one string
 abbrev asksOf : List ℕ → ℕ → Piece → Bool
-asksOf ls serial p = goodString (p .body) && (languageZero p && ((isStringZero p ⇒ goodLanguages ls) && (listed ls p && notSerial serial p)))
+asksOf ls serial p = goodString (p .body) && (languageZero p && ((isStringZero p ⇒ goodLanguages ls) && notSerial serial p))
 
 if-zero : (z : Bool) (start : ℕ) (ls : List ℕ) → allHold (pick z (languageFindings start ls) []) ≡ (z ⇒ goodLanguages ls)
 unfolding every
 if-zero true start ls = language-same start ls
 if-zero false start ls = refl
 
-entry-row : (a b c d lz x li ns : Bool) → (a && (b && ((c && d) && (lz && (x && (li && (ns && true))))))) ≡ ((a && b && c && d) && (lz && (x && (li && ns))))
-entry-row a b c d lz x li ns = simp (and-true, and-assoc)
+entry-row : (a b c d lz x ns : Bool) → (a && (b && ((c && d) && (lz && (x && (ns && true)))))) ≡ ((a && b && c && d) && (lz && (x && ns)))
+entry-row a b c d lz x ns = simp (and-true, and-assoc)
 
 entry-same : (ls : List ℕ) (serial at : ℕ) (e : Entry) (body : List ℕ)
     → allHold (stringEntryFindings ls serial at e body) ≡ asksOf ls serial (pieceWith e body)
@@ -78,9 +78,9 @@ entry-same ls serial at e body =
     let c = evenLength body in
     let d = upTo254 body in
     ap (λ x. a && (b && ((c && d) && (languageZero p && x))))
-    (every-append (λ x. x .holds) (pick (isStringZero p) (languageFindings (e .offset) ls) []) (asked 509 (byteAt 0 at 2) (listed ls p) ∷ asked 511 (byteAt 0 at 1) (notSerial serial p) ∷ [])
-    ∙ ap (λ x. x && (listed ls p && (notSerial serial p && true))) (if-zero (isStringZero p) (e .offset) ls))
-    ∙ entry-row a b c d (languageZero p) (isStringZero p ⇒ goodLanguages ls) (listed ls p) (notSerial serial p)
+    (every-append (λ x. x .holds) (pick (isStringZero p) (languageFindings (e .offset) ls) []) (asked 511 (byteAt 0 at 1) (notSerial serial p) ∷ [])
+    ∙ ap (λ x. x && (notSerial serial p && true)) (if-zero (isStringZero p) (e .offset) ls))
+    ∙ entry-row a b c d (languageZero p) (isStringZero p ⇒ goodLanguages ls) (notSerial serial p)
 
 module _ (set ls : List ℕ) (serial : ℕ) where
   strings-each : (at : ℕ) (es : List Entry) → allHold (stringsFrom set ls serial at es) ≡ every (asksOf ls serial) (piecesOf 3 (map (pieceFor set) es))
@@ -101,6 +101,25 @@ module _ (set ls : List ℕ) (serial : ℕ) where
       go true p = every-append (λ x. x .holds) found later ∙ ap (λ b. allHold found && b) p ∙ ap (λ b. b && every (asksOf ls serial) rest) (entry-same ls serial at e (bodyOf set e))
       go false p = p
 
+module _ (set ls : List ℕ) where
+  listed-each : (at : ℕ) (es : List Entry) → allHold (listedFrom set ls at es) ≡ every (listed ls) (piecesOf 3 (map (pieceFor set) es))
+  unfolding every listedFrom only
+  listed-each at [] = refl
+  listed-each at (e ∷ es) = go (isKind 3 e) (listed-each (at + 8) es)
+    where
+      found : List Finding
+      found = asked 509 (byteAt 0 at 2) (listed ls (pieceFor set e)) ∷ []
+
+      later : List Finding
+      later = listedFrom set ls (at + 8) es
+
+      rest : List Piece
+      rest = piecesOf 3 (map (pieceFor set) es)
+
+      go : (b : Bool) → allHold later ≡ every (listed ls) rest → allHold (pick b found [] ++ later) ≡ every (listed ls) (pick b (pieceFor set e ∷ rest) rest)
+      go true p = ap (λ b. listed ls (pieceFor set e) && b) p
+      go false p = p
+
 -- some, and what is asked of each of them
 every-any : {A : Type 0} (f : A → Bool) (g : Bool) (xs : List A) → every (λ x. f x ⇒ g) xs ≡ (any f xs ⇒ g)
 unfolding every any
@@ -112,12 +131,11 @@ every-any f g (x ∷ xs) = ap (λ b. (f x ⇒ g) && b) (every-any f g xs) ∙ go
     go true b false = refl
     go false b g = refl
 
-five : {A : Type 0} (a b c d f : A → Bool) (xs : List A)
-    → every (λ x. a x && (b x && (c x && (d x && f x)))) xs ≡ (every a xs && (every b xs && (every c xs && (every d xs && every f xs))))
-five a b c d f xs =
-    every-both a (λ x. b x && (c x && (d x && f x))) xs
-    ∙ ap (λ t. every a xs && t)
-    (every-both b (λ x. c x && (d x && f x)) xs ∙ ap (λ t. every b xs && t) (every-both c (λ x. d x && f x) xs ∙ ap (λ t. every c xs && t) (every-both d f xs)))
+each-of-four : {A : Type 0} (a b c d : A → Bool) (xs : List A)
+    → every (λ x. a x && (b x && (c x && d x))) xs ≡ (every a xs && (every b xs && (every c xs && every d xs)))
+each-of-four a b c d xs =
+    every-both a (λ x. b x && (c x && d x)) xs
+    ∙ ap (λ t. every a xs && t) (every-both b (λ x. c x && d x) xs ∙ ap (λ t. every b xs && t) (every-both c d xs))
 
 -- ---- the references
 module _ (set : List ℕ) where
@@ -220,10 +238,18 @@ there-row true n true = or-true (not n)
 there-row true n false = refl
 
 group-row : (z gs lz x li ns n gr : Bool)
-    → (z && ((gs && (lz && (x && (li && ns)))) && (n && gr))) ≡ (gs && lz && x && li && (z && n) && ns && gr)
-group-row true gs lz x li ns true gr = simp (and-true, and-assoc)
-group-row true gs lz x li ns false gr = simp and-false
-group-row false gs lz x li ns n gr = simp and-false
+    → ((gs && (lz && (x && ns))) && (z && (li && (n && gr)))) ≡ (gs && lz && x && li && (z && n) && ns && gr)
+group-row z true true true li true n gr = middle z li n gr
+  where
+    middle : (z li n gr : Bool) → (z && (li && (n && gr))) ≡ (((li && (z && n)) && true) && gr)
+    middle true true n gr = ap (λ t. t && gr) (sym (and-true n))
+    middle true false n gr = refl
+    middle false true n gr = refl
+    middle false false n gr = refl
+group-row z true true true li false n gr = rw (and-false (li && (z && n)))
+group-row z true true false li ns n gr = refl
+group-row z true false x li ns n gr = refl
+group-row z false lz x li ns n gr = refl
 
 pub strings-same : (limits : Limits) (set : List ℕ) → every (goodConfiguration limits) (bodies 2 set) ≡ true → allHold (stringsFindings set) ≡ goodStrings (piecesIn set)
 unfolding every goodStrings languages references
@@ -239,13 +265,15 @@ strings-same limits set g =
     let ns = every (notSerial serial) strings in
     let gr = every (goodReference ls strings serial) refs in
     let some = not (isEmpty strings) in
-    ap (λ t. zeroIf some there && t)
-    (every-append (λ x. x .holds) (stringsFrom set ls serial 4 (entries set)) (deviceReferences set ++ referencesFrom set (entries set))
-    ∙ ap (λ t. t && allHold (deviceReferences set ++ referencesFrom set (entries set)))
+    let later = deviceReferences set ++ referencesFrom set (entries set) in
+    every-append (λ x. x .holds) (stringsFrom set ls serial 4 (entries set)) (asked 510 _ (zeroIf some there) ∷ (listedFrom set ls 4 (entries set) ++ later))
+    ∙ ap (λ t. t && (zeroIf some there && allHold (listedFrom set ls 4 (entries set) ++ later)))
     (strings-each set ls serial 4 (entries set)
-    ∙ five (λ p. goodString (p .body)) languageZero (λ p. isStringZero p ⇒ goodLanguages ls) (listed ls) (notSerial serial) strings
-    ∙ ap (λ t. gs && (lz && (t && (li && ns)))) (every-any isStringZero (goodLanguages ls) strings ∙ ap (λ t. t ⇒ goodLanguages ls) (sym (first-any isStringZero strings))))
-    ∙ ap (λ t. (gs && (lz && ((there ⇒ goodLanguages ls) && (li && ns)))) && t)
-    (all-references set limits g ∙ every-both (λ r. zeroIf (isNonzero r) there) (goodReference ls strings serial) refs ∙ ap (λ t. t && gr) (every-any isNonzero there refs)))
+    ∙ each-of-four (λ p. goodString (p .body)) languageZero (λ p. isStringZero p ⇒ goodLanguages ls) (notSerial serial) strings
+    ∙ ap (λ t. gs && (lz && (t && ns))) (every-any isStringZero (goodLanguages ls) strings ∙ ap (λ t. t ⇒ goodLanguages ls) (sym (first-any isStringZero strings))))
+    ∙ ap (λ t. (gs && (lz && ((there ⇒ goodLanguages ls) && ns))) && (zeroIf some there && t))
+    (every-append (λ x. x .holds) (listedFrom set ls 4 (entries set)) later
+    ∙ ap (λ t. t && allHold later) (listed-each set ls 4 (entries set))
+    ∙ ap (λ t. li && t) (all-references set limits g ∙ every-both (λ r. zeroIf (isNonzero r) there) (goodReference ls strings serial) refs ∙ ap (λ t. t && gr) (every-any isNonzero there refs)))
     ∙ group-row (zeroIf some there) gs lz (there ⇒ goodLanguages ls) li ns (zeroIf (any isNonzero refs) there) gr
     ∙ ap (λ t. gs && lz && (there ⇒ goodLanguages ls) && li && t && ns && gr) (there-row some (any isNonzero refs) there)

@@ -1,13 +1,21 @@
 -- What is promised of the rule that is named: it is broken, and each rule before it in the one order holds.
 use mathlib.Core.Path.{_≡_}
 use mathlib.Core.List.{List, _∷_, _++_}
-use mathlib.Core.Bool.{true, false}
+use mathlib.Core.Bool.{Bool, true, false}
 use Rattle.octets.specs.Sentences.{every}
 use Rattle.rules.specs.Findings.{Finding}
+use Rattle.pair_rules.specs.Explained.{Placed}
 
-pub record NamesFirst (xs : List Finding) (x : Finding) : Type 0 where
-  pub earlier : List Finding
-  pub later : List Finding
+-- a rule of one set holds, or of a pair
+abbrev pub holdsHere : Finding → Bool
+holdsHere x = x .holds
+
+abbrev pub holdsThere : Placed → Bool
+holdsThere x = x .finding .holds
+
+pub record NamesFirst {A : Type 0} (holds : A → Bool) (xs : List A) (x : A) : Type 0 where
+  pub earlier : List A
+  pub later : List A
   pub splits : xs ≡ earlier ++ (x ∷ later)
-  pub hold : every (λ y. y .holds) earlier ≡ true
-  pub broken : x .holds ≡ false
+  pub hold : every holds earlier ≡ true
+  pub broken : holds x ≡ false

@@ -6,3 +6,4 @@ pub mod ReturnedExample
 pub mod Trimmed
 pub mod TrimmedExample
 pub mod Explained
+pub mod ExplainedExample

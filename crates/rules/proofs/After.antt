@@ -52,6 +52,10 @@ pub ends : {h : Fault} (f : Fault) (x : Finding) → h ≡ orBroken f x → h �
 unfolding after
 ends f x p = p
 
+pub nothing-more : (f : Fault) → f ≡ after f []
+unfolding after
+nothing-more f = refl
+
 pub joins : {g h : Fault} (f : Fault) (xs ys : List Finding) → g ≡ after f xs → h ≡ after g ys → h ≡ after f (xs ++ ys)
 joins f xs ys p q = q ∙ ap (λ f. after f ys) p ∙ sym (after-append f xs ys)
 

@@ -18,9 +18,10 @@ use Rattle.descriptors.specs.declared.limits.Limits.{Limits}
 use Rattle.descriptors.specs.Configuration.{bConfigurationValue}
 use Rattle.sets.specs.declared.Entry.{Entry}
 use Rattle.sets.specs.declared.EntryFound.the-variants.{At, Nothing}
-use Rattle.sets.specs.Contents.{count, entryOf, entriesFrom, entries, bodyOf}
+use Rattle.sets.specs.Contents.{count, bodiesAt, entryOf, entriesFrom, entries, bodyOf}
+use Rattle.sets.specs.Pieces.{pieceFor}
 use Rattle.sets.specs.Device.{deviceBody, iSerialNumber}
-use Rattle.sets.specs.Strings.{words}
+use Rattle.sets.specs.Strings.{words, listed}
 use Rattle.sets.specs.Opening.{distinctValues}
 use Rattle.sets.specs.Found.{found, isAt}
 use Rattle.sets.proofs.Devices.{at-same, at-missing}
@@ -28,9 +29,9 @@ use Rattle.sets.proofs.Strings.{words-length, found-some}
 use Rattle.rules.specs.declared.Fault.{Fault}
 use Rattle.rules.specs.Findings.{Finding, asked, byteAt}
 use Rattle.rules.specs.Frame.{entryFindings, contentsAsked}
-use Rattle.rules.specs.Device.{oneFindings, deviceEntryFindings}
+use Rattle.rules.specs.Device.{oneFindings, deviceEntryFindings, behindStrings, storeFindings, storeEntryFindings}
 use Rattle.rules.specs.Configuration.{configurationFindings, distinctFrom, configurationsFrom}
-use Rattle.rules.specs.Strings.{languagesFrom, stringEntryFindings, stringsFrom, referenceFindings, bodyReferences, referencesFrom}
+use Rattle.rules.specs.Strings.{languagesFrom, stringEntryFindings, stringsFrom, listedFrom, referenceFindings, bodyReferences, referencesFrom}
 use Rattle.rules.specs.After.{orBroken, after, judged, Judges}
 use Rattle.rules.proofs.After.{after-append}
 
@@ -60,6 +61,16 @@ module _ (limits : Limits) (set : List ℕ) where
   pub device-missing : (es : List Entry) → found (getElem? es 0) ≡ Nothing → deviceEntryFindings limits set es ≡ (asked 301 (byteAt 0 0 4) false ∷ [])
   device-missing [] p = refl
   device-missing (d ∷ ds) p = at-missing p
+
+module _ (set : List ℕ) where
+  pub store-found : (es : List Entry) {e : Entry} → found (getElem? es 0) ≡ At e → storeEntryFindings set es ≡ (asked 312 (byteAt 0 (behindStrings set) 8) (leb (length es) 1) ∷ storeFindings set (behindStrings set) e)
+  store-found [] p = at-missing (sym p)
+  store-found (d ∷ []) p = rw (at-same p)
+  store-found (d ∷ x ∷ xs) p = rw (← at-same p, lt-leb (length (d ∷ x ∷ xs)) 1 (omega arith))
+
+  pub store-missing : (es : List Entry) → found (getElem? es 0) ≡ Nothing → storeEntryFindings set es ≡ (asked 312 (byteAt 0 (bodiesAt set) 0) false ∷ [])
+  store-missing [] p = refl
+  store-missing (d ∷ ds) p = at-missing p
 
 -- ---- group 4
 -- the values of the bodies that were there, as a table has them
@@ -139,6 +150,20 @@ module _ (set ls : List ℕ) (serial i : ℕ) (f : Fault) (e : Entry) (es : List
 pub strings-end : (set ls : List ℕ) (serial at : ℕ) (f : Fault) → after f (stringsFrom set ls serial at []) ≡ f
 unfolding stringsFrom after
 strings-end set ls serial at f = refl
+
+module _ (set ls : List ℕ) (i : ℕ) (f : Fault) (e : Entry) (es : List Entry) where
+  pub listed-in : e .kind ≡ 3 → {g : Fault} → g ≡ orBroken f (asked 509 (byteAt 0 (4 + 8 * i) 2) (listed ls (pieceFor set e)))
+      → after f (listedFrom set ls (4 + 8 * i) (e ∷ es)) ≡ after g (listedFrom set ls (4 + 8 * (i + 1)) es)
+  unfolding listedFrom after
+  listed-in k p = rw (eq-eqb (e .kind) 3 k, p, next-at i)
+
+  pub listed-past : (e .kind ≡ 3 → ⊥) → after f (listedFrom set ls (4 + 8 * i) (e ∷ es)) ≡ after f (listedFrom set ls (4 + 8 * (i + 1)) es)
+  unfolding listedFrom
+  listed-past k = rw (ne-eqb (e .kind) 3 k, next-at i)
+
+pub listed-end : (set ls : List ℕ) (at : ℕ) (f : Fault) → after f (listedFrom set ls at []) ≡ f
+unfolding listedFrom after
+listed-end set ls at f = refl
 
 module _ (set : List ℕ) (f : Fault) (e : Entry) (es : List Entry) where
   pub references-in : e .kind ≡ 2 → {g : Fault} → g ≡ after f (bodyReferences set (e .offset) (bodyOf set e))

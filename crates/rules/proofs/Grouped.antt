@@ -11,6 +11,7 @@ use borrow.Author.Tests.{eqb-true, ne-eqb}
 use Rattle.octets.specs.Sentences.{pick, every}
 use Rattle.octets.proofs.Sentences.{both, joined, every-append}
 use Rattle.descriptors.specs.declared.limits.Limits.{Limits}
+use Rattle.descriptors.specs.Limits.{named as among}
 use Rattle.descriptors.specs.declared.Setting.{Setting}
 use Rattle.descriptors.specs.declared.Endpoint.{Endpoint}
 use Rattle.descriptors.specs.Cut.{Cutting, whole, broken, descriptor, cut}
@@ -20,14 +21,14 @@ use Rattle.descriptors.specs.Configuration.{bNumInterfaces}
 use Rattle.sets.specs.declared.Entry.{Entry}
 use Rattle.sets.specs.Contents.{bodyOf, isKind, entries, entriesOf, total, bodiesAt}
 use Rattle.sets.specs.Device.{deviceBody, iSerialNumber}
-use Rattle.sets.specs.Pieces.{pieceWith}
-use Rattle.sets.specs.Strings.{isStringZero, languages}
+use Rattle.sets.specs.Pieces.{pieceWith, pieceFor}
+use Rattle.sets.specs.Strings.{isStringZero, languages, listed as goes-listed}
 use Rattle.sets.specs.Opening.{Board}
-use Rattle.rules.specs.Findings.{Finding}
+use Rattle.rules.specs.Findings.{Finding, asked, byteAt}
 use Rattle.rules.specs.Frame.{frameFindings, contentsAsked, contentsFindings, noEntry}
-use Rattle.rules.specs.Device.{deviceEntryFindings, deviceFindings, serialAsked, serialFindings}
-use Rattle.rules.specs.Configurations.{isWhole, beginFindings, interfaceFindings, endpointFindings, groupAfter, endpointsAfter, restFindings, cutFindings, bodyFindings, configurationFindings, distinctFrom, configurationsFrom, configurationsFindings}
-use Rattle.rules.specs.Strings.{languagesFrom, languageFindings, stringEntryFindings, stringsFrom, referenceFindings, interfacesFrom, bodyReferences, referencesFrom, stringsFindings}
+use Rattle.rules.specs.Device.{deviceEntryFindings, storeEntryFindings, deviceFindings, serialAsked, serialFindings}
+use Rattle.rules.specs.Configurations.{isWhole, beginFindings, interfaceFindings, endpointFindings, groupAfter, endpointsAfter, restFindings, cutFindings, bodyFindings, companionFindings, companionsFrom, bodyCompanions, configurationFindings, distinctFrom, configurationsFrom, configurationsFindings}
+use Rattle.rules.specs.Strings.{languagesFrom, languageFindings, stringEntryFindings, stringsFrom, listedFrom, referenceFindings, interfacesFrom, bodyReferences, referencesFrom, stringsFindings}
 use Rattle.rules.specs.Explained.{findings}
 use Rattle.rules.proofs.After.{isNumbered}
 
@@ -60,10 +61,20 @@ unfolding every contentsAsked
 contents limits end at first last start [] = refl
 contents limits end at first last start (e ∷ es) = contents limits end (at + 8) false e (start + e .length) es
 
-pub devices : (limits : Limits) (set : List ℕ) (es : List Entry) → Of 3 (deviceEntryFindings limits set es)
+device : (limits : Limits) (set : List ℕ) (es : List Entry) → Of 3 (deviceEntryFindings limits set es)
 unfolding every
-devices limits set [] = refl
-devices limits set (e ∷ es) = refl
+device limits set [] = refl
+device limits set (e ∷ es) = refl
+
+store : (set : List ℕ) (es : List Entry) → Of 3 (storeEntryFindings set es)
+unfolding every
+store set [] = refl
+store set (e ∷ es) = refl
+
+pub devices : (limits : Limits) (set : List ℕ) → Of 3 (deviceFindings limits set)
+devices limits set =
+    then 3 (deviceEntryFindings limits set (entriesOf 1 set)) _ (device limits set (entriesOf 1 set))
+    (choice 3 (among (limits .entries) 15) (storeEntryFindings set (entriesOf 15 set)) [] (store set (entriesOf 15 set)) (nothing 3))
 
 pub serials : (zero : Bool) (block : List ℕ) → Of 6 (serialAsked zero block)
 unfolding every
@@ -105,9 +116,22 @@ cuts limits size start whole = refl
 cuts limits size start broken = refl
 cuts limits size start (descriptor d ds) = rest limits start (bNumInterfaces d) (length d) 0 none [] ds
 
+accompanies : (start at last : ℕ) (due : Bool) (cs : Cutting) → Of 4 (companionsFrom start at last due cs)
+unfolding every companionsFrom
+accompanies start at last due whole = refl
+accompanies start at last due broken = refl
+accompanies start at last due (descriptor d ds) =
+    then 4 (pick (isWhole d) (companionFindings start at last due d) []) _ (choice 4 (isWhole d) (companionFindings start at last due d) [] refl refl)
+    (accompanies start (at + length d) at (isEndpoint d) ds)
+
+pub companions : (limits : Limits) (start : ℕ) (body : List ℕ) → Of 4 (bodyCompanions limits start body)
+companions limits start body = choice 4 (limits .companions) (companionsFrom start 0 0 false (cut body)) [] (accompanies start 0 0 false (cut body)) (nothing 4)
+
 configuration : (limits : Limits) (at n : ℕ) (distinct : Bool) (e : Entry) (body : List ℕ) → Of 4 (configurationFindings limits at n distinct e body)
 unfolding every
-configuration limits at n distinct e body = then 4 (bodyFindings limits (e .offset) body) _ (cuts limits (length body) (e .offset) (cut body)) refl
+configuration limits at n distinct e body =
+    then 4 (bodyFindings limits (e .offset) body) _ (cuts limits (length body) (e .offset) (cut body))
+    (then 4 (bodyCompanions limits (e .offset) body) _ (companions limits (e .offset) body) refl)
 
 pub configurations : (limits : Limits) (set : List ℕ) (at n : ℕ) (earlier : List (List ℕ)) (es : List Entry) → Of 4 (configurationsFrom limits set at n earlier es)
 unfolding every configurationsFrom
@@ -148,9 +172,19 @@ references set [] = refl
 references set (e ∷ es) =
     then 5 (pick (isKind 2 e) (bodyReferences set (e .offset) (bodyOf set e)) []) _ (choice 5 (isKind 2 e) (bodyReferences set (e .offset) (bodyOf set e)) [] (named set (e .offset) 0 (cut (bodyOf set e))) refl) (references set es)
 
+languages-listed : (set ls : List ℕ) (at : ℕ) (es : List Entry) → Of 5 (listedFrom set ls at es)
+unfolding every listedFrom
+languages-listed set ls at [] = refl
+languages-listed set ls at (e ∷ es) =
+    then 5 (pick (isKind 3 e) (asked 509 (byteAt 0 at 2) (goes-listed ls (pieceFor set e)) ∷ []) []) _
+    (choice 5 (isKind 3 e) (asked 509 (byteAt 0 at 2) (goes-listed ls (pieceFor set e)) ∷ []) [] refl refl)
+    (languages-listed set ls (at + 8) es)
+
 pub group-5 : (set : List ℕ) → Of 5 (stringsFindings set)
 unfolding every
-group-5 set = then 5 (stringsFrom set (languages set) (iSerialNumber (deviceBody set)) 4 (entries set)) _ (strings set (languages set) (iSerialNumber (deviceBody set)) 4 (entries set)) (references set (entries set))
+group-5 set =
+    then 5 (stringsFrom set (languages set) (iSerialNumber (deviceBody set)) 4 (entries set)) _ (strings set (languages set) (iSerialNumber (deviceBody set)) 4 (entries set))
+    (then 5 (listedFrom set (languages set) 4 (entries set)) _ (languages-listed set (languages set) 4 (entries set)) (references set (entries set)))
 
 -- ---- all: what holds of every rule whose number has a group holds of all that are asked
 module _ (p : Finding → Bool) (f : (x : Finding) → 1 ≤ x .rule / 100 → p x ≡ true) where
@@ -171,7 +205,7 @@ module _ (p : Finding → Bool) (f : (x : Finding) → 1 ≤ x .rule / 100 → p
       let set = b .set in
       before-others 1 (omega arith) (frameFindings set) _ (frames set)
       (before-others 2 (omega arith) (contentsFindings limits set) _ (contents limits (total set) 4 true noEntry (bodiesAt set) (entries set))
-      (before-others 3 (omega arith) (deviceFindings limits set) _ (devices limits set (entriesOf 1 set))
+      (before-others 3 (omega arith) (deviceFindings limits set) _ (devices limits set)
       (before-others 4 (omega arith) (configurationsFindings limits set) _ (configurations limits set 4 0 [] (entries set))
       (before-others 5 (omega arith) (stringsFindings set) _ (group-5 set)
       (every-in 6 (omega arith) (serialFindings (iSerialNumber (deviceBody set)) (b .serial)) (serials (eqb (iSerialNumber (deviceBody set)) 0) (b .serial)))))))

@@ -16,8 +16,8 @@ use Rattle.descriptors.specs.Check.{Progress, onward, beginning}
 use Rattle.sets.specs.declared.Entry.{Entry}
 use Rattle.sets.specs.Contents.{bodyOf, isKind}
 use Rattle.rules.specs.Configurations.{distinctFrom}
-use Rattle.rules.specs.Configuration.{placedFindings, interfaceFindings, endpointFindings, typeFindings, restFindings, cutFindings, bodyFindings, configurationFindings, configurationsFrom}
-use Rattle.rules.proofs.Grouped.{Of, then, choice, nothing}
+use Rattle.rules.specs.Configuration.{placedFindings, interfaceFindings, endpointFindings, typeFindings, restFindings, cutFindings, bodyFindings, bodyCompanions, configurationFindings, configurationsFrom}
+use Rattle.rules.proofs.Grouped.{Of, then, choice, nothing, companions}
 
 placed : (inside : Bool) (start at : ℕ) (s t : Setting) → Of 4 (placedFindings inside start at s t)
 unfolding every
@@ -56,7 +56,9 @@ cuts limits size start (descriptor d ds) = rest limits start (bNumInterfaces d) 
 
 configuration : (limits : Limits) (at n : ℕ) (distinct : Bool) (e : Entry) (body : List ℕ) → Of 4 (configurationFindings limits at n distinct e body)
 unfolding every
-configuration limits at n distinct e body = then 4 (bodyFindings limits (e .offset) body) _ (cuts limits (length body) (e .offset) (cut body)) refl
+configuration limits at n distinct e body =
+    then 4 (bodyFindings limits (e .offset) body) _ (cuts limits (length body) (e .offset) (cut body))
+    (then 4 (bodyCompanions limits (e .offset) body) _ (companions limits (e .offset) body) refl)
 
 pub configurations : (limits : Limits) (set : List ℕ) (at n : ℕ) (earlier : List (List ℕ)) (es : List Entry) → Of 4 (configurationsFrom limits set at n earlier es)
 unfolding every configurationsFrom

@@ -3,7 +3,7 @@ use Prim.Native.Nat.{ℕ, _+_, _-_, _≤_, _<_}
 use native.Mathlib.Omega.{arith}
 use mathlib.Core.Path.{_≡_, refl, sym, ap, _∙_}
 use mathlib.Core.List.{List, [], _∷_, _++_}
-use mathlib.Core.Bool.{Bool, true, false, _&&_}
+use mathlib.Core.Bool.{Bool, true, false, _&&_, not}
 use lib.ListN.{length, take, drop, length-take, length-drop}
 use lib.Seq.{getD-take, getD-drop, length-take-le}
 use lib.Dec.{eqb, leb}
@@ -14,13 +14,14 @@ use Rattle.octets.proofs.Sentences.{cases}
 use Rattle.descriptors.specs.declared.limits.Limits.{Limits}
 use Rattle.descriptors.specs.declared.walk.Stand.{Stand}
 use Rattle.descriptors.specs.Cut.{Cutting, whole, broken, descriptor, cut}
-use Rattle.descriptors.specs.Descriptor.{isInterface, iInterface}
+use Rattle.descriptors.specs.Descriptor.{isInterface, isEndpoint, iInterface}
 use Rattle.descriptors.specs.Walk.{Pace, before, standOf, stepsOn, stepOf}
 use Rattle.descriptors.specs.Check.{Progress, onward}
 use Rattle.descriptors.proofs.Walks.{spanned, Moved, moved, cut-end, cut-small, cut-long}
 use Rattle.rules.specs.declared.Fault.{Fault}
 use Rattle.rules.specs.Findings.{Finding, asked, byteAt}
 use Rattle.rules.specs.Configuration.{isWhole, descriptorFindings, endFindings, restFindings, cutFindings, bodyFindings}
+use Rattle.rules.specs.Configurations.{companionFindings, companionsFrom}
 use Rattle.rules.specs.Strings.{referenceFindings, interfacesFrom}
 use Rattle.rules.specs.After.{orBroken, after}
 use Rattle.rules.proofs.After.{after-append, breaks}
@@ -177,3 +178,38 @@ module _ (set : List ℕ) (start : ℕ) (body : List ℕ) (at : ℕ) (f : Fault)
     interfaces-on m p =
         let o = goes-on body at last step e h m in
         ap (λ cs. after f (interfacesFrom set start at cs)) (o .cuts) ∙ interfaces-turn _ _ (o .complete) ∙ rw (p, o .ends)
+
+-- ---- companions
+module _ (start : ℕ) (body : List ℕ) (at last : ℕ) (due : Bool) (f : Fault) where
+  companions-whole : after f (companionsFrom start at last due whole) ≡ orBroken f (asked 438 (byteAt start last 0) (not due))
+  unfolding companionsFrom after
+  companions-whole = refl
+
+  companions-broken : after f (companionsFrom start at last due broken) ≡ f
+  unfolding companionsFrom after
+  companions-broken = refl
+
+  companions-long : (d : List ℕ) → isWhole d ≡ false → after f (companionsFrom start at last due (descriptor d broken)) ≡ f
+  unfolding companionsFrom after
+  companions-long d p = rw p
+
+  companions-turn : (d : List ℕ) (ds : Cutting) → isWhole d ≡ true
+      → after f (companionsFrom start at last due (descriptor d ds)) ≡ after (after f (companionFindings start at last due d)) (companionsFrom start (at + length d) at (isEndpoint d) ds)
+  unfolding companionsFrom
+  companions-turn d ds p = rw p (after-append f (companionFindings start at last due d) _)
+
+  pub companions-end : length body ≤ at → after f (companionsFrom start at last due (cut (drop at body))) ≡ orBroken f (asked 438 (byteAt start last 0) (not due))
+  companions-end h = ap (λ cs. after f (companionsFrom start at last due cs)) (cut-end body at h) ∙ companions-whole
+
+  module _ (stand : Stand) (step : Pace) (e : step ≡ stepOf body at stand) (h : at < length body) where
+    pub companions-stuck : step .end ≤ at → after f (companionsFrom start at last due (cut (drop at body))) ≡ f
+    companions-stuck m = stuck-cases body at stand step e h m
+        (λ q c. ap (λ cs. after f (companionsFrom start at last due cs)) c ∙ companions-broken)
+        (λ d q c p. ap (λ cs. after f (companionsFrom start at last due cs)) c ∙ companions-long d p)
+
+    pub companions-on : at < step .end → {g : Fault} {next : Bool}
+        → g ≡ after f (companionFindings start at last due (spanned body at (step .end))) → next ≡ isEndpoint (spanned body at (step .end))
+        → after f (companionsFrom start at last due (cut (drop at body))) ≡ after g (companionsFrom start (step .end) at next (cut (drop (step .end) body)))
+    companions-on m p q =
+        let o = goes-on body at stand step e h m in
+        ap (λ cs. after f (companionsFrom start at last due cs)) (o .cuts) ∙ companions-turn _ _ (o .complete) ∙ rw (p, q, o .ends)

@@ -7,7 +7,7 @@ use mathlib.Core.Bool.{true}
 use lib.Dec.{eqb}
 use Rattle.octets.specs.Sentences.{every, first}
 use Rattle.descriptors.specs.declared.limits.Limits.{Limits}
-use Rattle.sets.specs.Contents.{entries, entriesOf, total, bodiesAt}
+use Rattle.sets.specs.Contents.{entries, total, bodiesAt}
 use Rattle.sets.specs.Device.{deviceBody, iSerialNumber}
 use Rattle.sets.specs.Opening.{Board}
 use Rattle.rules.specs.Findings.{Finding}
@@ -43,7 +43,7 @@ walked-numbered limits b =
     let set = b .set in
     before-others isNumbered has-number 1 (omega arith) (frameFindings set) _ (frames set)
     (before-others isNumbered has-number 2 (omega arith) (contentsFindings limits set) _ (contents limits (total set) 4 true noEntry (bodiesAt set) (entries set))
-    (before-others isNumbered has-number 3 (omega arith) (deviceFindings limits set) _ (devices limits set (entriesOf 1 set))
+    (before-others isNumbered has-number 3 (omega arith) (deviceFindings limits set) _ (devices limits set)
     (before-others isNumbered has-number 4 (omega arith) (configurationsFindings limits set) _ (configurations limits set 4 0 [] (entries set))
     (before-others isNumbered has-number 5 (omega arith) (stringsFindings set) _ (group-5 set)
     (every-in isNumbered has-number 6 (omega arith) (serialFindings (iSerialNumber (deviceBody set)) (b .serial)) (serials (eqb (iSerialNumber (deviceBody set)) 0) (b .serial)))))))

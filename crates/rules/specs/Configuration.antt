@@ -20,7 +20,7 @@ use Rattle.sets.specs.Pieces.{pieceWith, hasIndex, hasNoLanguage}
 use Rattle.sets.specs.Opening.{valueNonzero}
 use Rattle.rules.specs.declared.progress.Progress.{Progress as Kept}
 use Rattle.rules.specs.Findings.{Finding, asked, byteAt}
-pub use Rattle.rules.specs.Configurations.{isWhole, headFindings, headNumbers, mayNumber, numberFindings, sizeFindings, intervalFindings, distinctFrom}
+pub use Rattle.rules.specs.Configurations.{isWhole, headFindings, headNumbers, mayNumber, numberFindings, sizeFindings, intervalFindings, distinctFrom, bodyCompanions}
 
 -- how far the check is, as the code keeps it
 abbrev pub progressIn : Kept → Progress
@@ -104,7 +104,7 @@ abbrev pub configurationFindings : Limits → ℕ → ℕ → Bool → Entry →
 configurationFindings limits at n distinct e body =
     asked 401 (byteAt 0 at 1) (hasIndex n (pieceWith e body)) ∷
     asked 402 (byteAt 0 at 2) (hasNoLanguage (pieceWith e body)) ∷
-    (bodyFindings limits (e .offset) body ++ (asked 435 (byteAt (e .offset) 0 5) (valueNonzero body) ∷ asked 436 (byteAt (e .offset) 0 5) distinct ∷ []))
+    (bodyFindings limits (e .offset) body ++ (bodyCompanions limits (e .offset) body ++ (asked 435 (byteAt (e .offset) 0 5) (valueNonzero body) ∷ asked 436 (byteAt (e .offset) 0 5) distinct ∷ [])))
 
 -- the entries from `at` on; `earlier` are the bodies that were there
 unfoldable pub configurationsFrom : Limits → List ℕ → ℕ → ℕ → List (List ℕ) → List Entry → List Finding

@@ -1,18 +1,19 @@
 -- Group 4, rule by rule: entry by entry, and in a body descriptor by descriptor. Places are bytes of the set.
 use Prim.Native.Nat.{ℕ, _+_}
 use mathlib.Core.List.{List, [], _∷_, _++_, map}
-use mathlib.Core.Bool.{Bool, true, false, _||_}
+use mathlib.Core.Bool.{Bool, true, false, _||_, not}
 use mathlib.Core.Option.{Option, some, none}
 use lib.ListN.{length}
 use lib.Dec.{eqb, ltb}
 use Rattle.octets.specs.Octets.{byte}
-use Rattle.octets.specs.Sentences.{pick, every}
+use Rattle.octets.specs.Sentences.{pick, _⇒_, every}
 use Rattle.descriptors.specs.declared.limits.Limits.{Limits}
 use Rattle.descriptors.specs.declared.Setting.{Setting}
 use Rattle.descriptors.specs.declared.Endpoint.{Endpoint}
 use Rattle.descriptors.specs.Cut.{Cutting, whole, broken, descriptor, cut}
 use Rattle.descriptors.specs.Descriptor.{bDescriptorType, isInterface, isEndpoint, bNumEndpoints, bEndpointAddress, bmAttributes, wMaxPacketSize, bInterval, transferType}
 use Rattle.descriptors.specs.Descriptor.{addressBitsZero, numberNotZero, highBitsZero, notControl, middleBitsZero, bulkSize, interruptSize, isochronousSize, interruptInterval, isochronousInterval, endpointLongEnough, typeAllowed, interfaceLongEnough}
+use Rattle.descriptors.specs.Companion.{isCompanion, longCompanion}
 use Rattle.descriptors.specs.Interfaces.{Group, begunBy, settingOf, endpointOf, numberZero, alternateZero, sameNumber, nextNumber, follows, isLastNumber, alternateWithin, counted, apart}
 use Rattle.descriptors.specs.Configuration.{bNumInterfaces, isConfiguration, headLongEnough, totalIsSize, bitSevenOne, lowBitsZero, powerWithin, countsInterface, atMost16Interfaces}
 use Rattle.sets.specs.declared.Entry.{Entry}
@@ -151,6 +152,24 @@ cutFindings limits size start (descriptor d ds) =
 abbrev pub bodyFindings : Limits → ℕ → List ℕ → List Finding
 bodyFindings limits start body = cutFindings limits (length body) start (cut body)
 
+-- ---- companions, of a kind that has them. Document 02, L13: "a companion (type 48, at least 6 bytes) stands directly after every endpoint and nowhere else"
+-- a descriptor at `at`, after one that begins at `last`; `due`: that is an endpoint
+abbrev pub companionFindings : ℕ → ℕ → ℕ → Bool → List ℕ → List Finding
+companionFindings start at last due d =
+    asked 438 (byteAt start last 0) (due ⇒ isCompanion d) ∷
+    asked 439 (byteAt start at 1) (isCompanion d ⇒ due) ∷
+    asked 437 (byteAt start at 0) (longCompanion d) ∷ []
+
+-- all descriptors of a body, the first among them, from `at` on; and its end
+unfoldable pub companionsFrom : ℕ → ℕ → ℕ → Bool → Cutting → List Finding
+companionsFrom start at last due whole = asked 438 (byteAt start last 0) (not due) ∷ []
+companionsFrom start at last due broken = []
+companionsFrom start at last due (descriptor d ds) =
+    pick (isWhole d) (companionFindings start at last due d) [] ++ companionsFrom start (at + length d) at (isEndpoint d) ds
+
+abbrev pub bodyCompanions : Limits → ℕ → List ℕ → List Finding
+bodyCompanions limits start body = pick (limits .companions) (companionsFrom start 0 0 false (cut body)) []
+
 -- ---- the entries
 -- the n-th configuration, whose entry stands at `at`; `distinct`: its value is none of those before it.
 -- "indices 0 up by one, language 0, each body as below; bConfigurationValue nonzero and distinct between them"
@@ -158,7 +177,7 @@ abbrev pub configurationFindings : Limits → ℕ → ℕ → Bool → Entry →
 configurationFindings limits at n distinct e body =
     asked 401 (byteAt 0 at 1) (hasIndex n (pieceWith e body)) ∷
     asked 402 (byteAt 0 at 2) (hasNoLanguage (pieceWith e body)) ∷
-    (bodyFindings limits (e .offset) body ++ (asked 435 (byteAt (e .offset) 0 5) (valueNonzero body) ∷ asked 436 (byteAt (e .offset) 0 5) distinct ∷ []))
+    (bodyFindings limits (e .offset) body ++ (bodyCompanions limits (e .offset) body ++ (asked 435 (byteAt (e .offset) 0 5) (valueNonzero body) ∷ asked 436 (byteAt (e .offset) 0 5) distinct ∷ [])))
 
 -- a body beside those before it
 abbrev pub distinctFrom : List (List ℕ) → List ℕ → Bool

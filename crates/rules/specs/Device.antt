@@ -1,12 +1,15 @@
--- Groups 3 and 6, rule by rule: the device, with places in the set, and the serial block, with places in the block.
-use Prim.Native.Nat.{ℕ}
+-- Groups 3 and 6, rule by rule: the device and the BOS, with places in the set, and the serial block, with places in the block.
+use Prim.Native.Nat.{ℕ, _+_, _*_}
 use mathlib.Core.List.{List, [], _∷_, _++_}
 use mathlib.Core.Bool.{Bool, true, false}
 use lib.ListN.{length}
-use lib.Dec.{eqb}
+use lib.Dec.{eqb, leb}
+use Rattle.octets.specs.Octets.{word}
+use Rattle.octets.specs.Sentences.{pick}
 use Rattle.descriptors.specs.declared.limits.Limits.{Limits}
+use Rattle.descriptors.specs.Limits.{named}
 use Rattle.sets.specs.declared.Entry.{Entry}
-use Rattle.sets.specs.Contents.{bodyOf, entriesOf}
+use Rattle.sets.specs.Contents.{bodiesAt, bodyOf, entriesOf}
 use Rattle.sets.specs.Pieces.{pieceFor, isOne, hasIndex, hasNoLanguage}
 use Rattle.sets.specs.Device.{has18Bytes, says18Bytes, isDevice, controlSize, subclassWithClass, countsConfiguration, atMost8Configurations, countIsEntries}
 use Rattle.sets.specs.Strings.{saysItsLength, typedString, evenLength, upTo254}
@@ -41,8 +44,29 @@ deviceEntryFindings limits set [] = asked 301 (byteAt 0 0 4) (isOne {A = Entry} 
 deviceEntryFindings limits set (e ∷ es) =
     asked 301 (byteAt 0 0 12) (isOne (e ∷ es)) ∷ oneFindings limits set e
 
+-- the BOS. Document 02, L13: "there is one BOS entry (type 15, index 0, language 0, at least 5 bytes, bytes 2–3 its length)".
+-- Entries ascend by type, so the first entry of a type above 3 stands behind those of types 1 to 3
+abbrev pub behindStrings : List ℕ → ℕ
+behindStrings set = 4 + 8 * (length (entriesOf 1 set) + length (entriesOf 2 set) + length (entriesOf 3 set))
+
+abbrev pub storeFindings : List ℕ → ℕ → Entry → List Finding
+storeFindings set at e =
+    asked 313 (byteAt 0 at 1) (hasIndex 0 (pieceFor set e)) ∷
+    asked 314 (byteAt 0 at 2) (hasNoLanguage (pieceFor set e)) ∷
+    asked 315 (byteAt 0 at 6) (leb 5 (length (bodyOf set e))) ∷
+    asked 316 (byteAt (e .offset) 0 2) (eqb (word (bodyOf set e) 2) (length (bodyOf set e))) ∷ []
+
+abbrev pub storeEntryFindings : List ℕ → List Entry → List Finding
+storeEntryFindings set [] = asked 312 (byteAt 0 (bodiesAt set) 0) (isOne {A = Entry} []) ∷ []
+storeEntryFindings set (e ∷ es) =
+    asked 312 (byteAt 0 (behindStrings set) 8) (isOne (e ∷ es)) ∷ storeFindings set (behindStrings set) e
+
+-- of a kind that has them
+abbrev pub storesFindings : Limits → List ℕ → List Finding
+storesFindings limits set = pick (named (limits .entries) 15) (storeEntryFindings set (entriesOf 15 set)) []
+
 abbrev pub deviceFindings : Limits → List ℕ → List Finding
-deviceFindings limits set = deviceEntryFindings limits set (entriesOf 1 set)
+deviceFindings limits set = deviceEntryFindings limits set (entriesOf 1 set) ++ storesFindings limits set
 
 -- "empty when iSerialNumber is 0; else of even length 4–254, first byte its length, second byte 3"
 abbrev pub serialAsked : Bool → List ℕ → List Finding

@@ -1,4 +1,5 @@
--- Group 5, rule by rule: the strings entry by entry, and then the references, since they are judged by the languages that string 0 lists. Places are bytes of the set.
+-- Group 5, rule by rule: the strings entry by entry; whether string 0 is there; and then what is judged by the languages that it lists, the entries' and the references.
+-- Places are bytes of the set.
 use Prim.Native.Nat.{ℕ, _+_, _*_}
 use mathlib.Core.List.{List, [], _∷_, _++_}
 use mathlib.Core.Bool.{Bool, _&&_, not}
@@ -9,7 +10,7 @@ use Rattle.descriptors.specs.Descriptor.{isInterface, iInterface}
 use Rattle.descriptors.specs.Configuration.{iConfiguration}
 use Rattle.sets.specs.declared.Entry.{Entry}
 use Rattle.sets.specs.Contents.{bodiesAt, bodyOf, isKind, entries, entriesOf}
-use Rattle.sets.specs.Pieces.{pieceWith, piecesIn, piecesOf}
+use Rattle.sets.specs.Pieces.{pieceWith, pieceFor, piecesIn, piecesOf}
 use Rattle.sets.specs.Device.{deviceBody, iManufacturer, iProduct, iSerialNumber}
 use Rattle.sets.specs.Strings.{saysItsLength, typedString, evenLength, upTo254, isStringZero, stringZero, languages, listsOne, listsAtMostFour, isNonzero, ascends, languageZero, listed, notSerial, goodReference, zeroIf}
 use Rattle.rules.specs.Findings.{Finding, asked, byteAt}
@@ -33,7 +34,7 @@ stringFindings start body =
     asked 502 (byteAt start 0 1) (typedString body) ∷
     asked 503 (byteAt start 0 0) (evenLength body && upTo254 body) ∷ []
 
--- an entry at `at`: its body; "Language 0 goes with index 0 and no other"; the languages, if it is string 0; "Other entries use listed languages";
+-- an entry at `at`: its body; "Language 0 goes with index 0 and no other"; the languages, if it is string 0;
 -- "No entry has the index iSerialNumber when that is nonzero"
 abbrev pub stringEntryFindings : List ℕ → ℕ → ℕ → Entry → List ℕ → List Finding
 stringEntryFindings ls serial at e body =
@@ -41,13 +42,19 @@ stringEntryFindings ls serial at e body =
     stringFindings (e .offset) body ++
     (asked 504 (byteAt 0 at 2) (languageZero p) ∷
     (pick (isStringZero p) (languageFindings (e .offset) ls) [] ++
-    (asked 509 (byteAt 0 at 2) (listed ls p) ∷ asked 511 (byteAt 0 at 1) (notSerial serial p) ∷ [])))
+    (asked 511 (byteAt 0 at 1) (notSerial serial p) ∷ [])))
 
 -- the entries from `at` on
 unfoldable pub stringsFrom : List ℕ → List ℕ → ℕ → ℕ → List Entry → List Finding
 stringsFrom set ls serial at [] = []
 stringsFrom set ls serial at (e ∷ es) =
     pick (isKind 3 e) (stringEntryFindings ls serial at e (bodyOf set e)) [] ++ stringsFrom set ls serial (at + 8) es
+
+-- "Other entries use listed languages": the entries from `at` on
+unfoldable pub listedFrom : List ℕ → List ℕ → ℕ → List Entry → List Finding
+listedFrom set ls at [] = []
+listedFrom set ls at (e ∷ es) =
+    pick (isKind 3 e) (asked 509 (byteAt 0 at 2) (listed ls (pieceFor set e)) ∷ []) [] ++ listedFrom set ls (at + 8) es
 
 -- ---- the references
 -- a reference whose byte is byte k of what begins at `at` of what begins at `start`: "If there is any .. nonzero reference, index 0 is there"; "Each nonzero reference ..
@@ -81,5 +88,6 @@ deviceReferences set =
 -- "If there is any string entry .., index 0 is there", where it has to stand: first of all strings, behind the entries of the device and of the configurations
 abbrev pub stringsFindings : List ℕ → List Finding
 stringsFindings set =
-    asked 510 (byteAt 0 (12 + 8 * length (entriesOf 2 set)) 0) (zeroIf (not (isEmpty (piecesOf 3 (piecesIn set)))) (isSome (stringZero set))) ∷
-    (stringsFrom set (languages set) (iSerialNumber (deviceBody set)) 4 (entries set) ++ (deviceReferences set ++ referencesFrom set (entries set)))
+    stringsFrom set (languages set) (iSerialNumber (deviceBody set)) 4 (entries set) ++
+    (asked 510 (byteAt 0 (12 + 8 * length (entriesOf 2 set)) 0) (zeroIf (not (isEmpty (piecesOf 3 (piecesIn set)))) (isSome (stringZero set))) ∷
+    (listedFrom set (languages set) 4 (entries set) ++ (deviceReferences set ++ referencesFrom set (entries set))))

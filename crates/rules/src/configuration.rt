@@ -11,6 +11,7 @@ use descriptors::limits::Speed;
 use descriptors::types::CONFIGURATION;
 use descriptors::types::ENDPOINT;
 use descriptors::types::INTERFACE;
+use descriptors::types::SUPERSPEED_ENDPOINT_COMPANION;
 use descriptors::walk;
 use descriptors::walk::BEFORE_FIRST;
 use descriptors::walk::Stand;
@@ -31,7 +32,8 @@ ghost use Rattle.descriptors.specs.Walk.{before, settingAt};
 ghost use Rattle.descriptors.specs.Check.{beginning};
 ghost use Rattle.descriptors.specs.Limits.{rangesOf};
 ghost use Rattle.rules.specs.Findings.{asked, byteAt};
-ghost use Rattle.rules.specs.Configuration.{progressIn, headFindings, headNumbers, placedFindings, interfaceFindings, surplus, numberFindings, sizeFindings, intervalFindings, addressFindings, endpointFindings, typeFindings, descriptorFindings, endFindings, restFindings, bodyFindings, configurationFindings, configurationsFindings};
+ghost use Rattle.rules.specs.Configuration.{progressIn, headFindings, headNumbers, placedFindings, interfaceFindings, surplus, numberFindings, sizeFindings, intervalFindings, addressFindings, endpointFindings, typeFindings, descriptorFindings, endFindings, restFindings, bodyFindings, bodyCompanions, configurationFindings, configurationsFindings};
+ghost use Rattle.rules.specs.Configurations.{companionFindings, companionsFrom};
 ghost use Rattle.rules.specs.After.{orBroken, after};
 
 // ---- one descriptor, which begins at `at` of a body that begins at `start`
@@ -383,6 +385,55 @@ fn body_fault(found: Fault, body: &[u8], start: u16, limits: Limits) -> Fault
     rest_fault(found, body, end, start, octets::peek(head, 4), limits)
 }
 
+// ---- companions
+// A descriptor at `at`, after one that begins at `last`; `due`: that is an endpoint.
+fn companion_fault(found: Fault, d: &[u8], start: u16, at: u16, last: u16, due: bool) -> Fault
+    ensures { λ r. ⌜ r ≡ after found (companionFindings start at last due (now (d .entry))) ⌝ }
+{
+    let companion = octets::peek(d, 1) == SUPERSPEED_ENDPOINT_COMPANION;
+    let found = ask(found, 438, start, last, 0, !due | companion);
+    let found = ask(found, 439, start, at, 1, !companion | due);
+    ask(found, 437, start, at, 0, !companion | (6 <= d.len()))
+}
+
+// A walk of its own over all descriptors of a body.
+fn companions_fault(found: Fault, body: &[u8], start: u16) -> Fault
+    requires { ⌜ length (now body) < 65536 ⌝ }
+    ensures { λ r. ⌜ r ≡ after found (companionsFrom start 0 0 false (cut (now (body .entry)))) ⌝ }
+{
+    let mut found = found;
+    let mut last = BEFORE_FIRST;
+    let mut behind: u16 = 0;
+    let mut due = false;
+    let mut at = 0;
+    while at < body.len() {
+        let place = at as u16;
+        let step = walk::advance(body, at, last);
+        let end = step.end;
+        if end <= at {
+            return found;
+        }
+        let d = &body[at..end];
+        found = companion_fault(found, d, start, place, behind, due);
+        due = octets::peek(d, 1) == ENDPOINT;
+        behind = place;
+        last = step.setting;
+        at = end;
+    }
+    ask(found, 438, start, behind, 0, !due)
+}
+
+// The companions of a body, of a kind that has them.
+fn accompanied_fault(found: Fault, body: &[u8], start: u16, limits: Limits) -> Fault
+    requires { ⌜ length (now body) < 65536 ⌝ }
+    ensures { λ r. ⌜ r ≡ after found (bodyCompanions limits start (now (body .entry))) ⌝ }
+{
+    if limits.companions {
+        return companions_fault(found, body, start);
+    }
+    found
+}
+
 // ---- the entries
 // A configuration's entry at `at`: the index that it has to have, its body, and whether its value was there before.
 fn configuration_fault(
@@ -401,6 +452,7 @@ fn configuration_fault(
     let found = ask(found, 401, 0, at, 1, e.index == index);
     let found = ask(found, 402, 0, at, 2, e.language == 0);
     let found = body_fault(found, body, start, limits);
+    let found = accompanied_fault(found, body, start, limits);
     let found = ask(found, 435, start, 0, 5, 1 <= octets::peek(body, 5));
     ask(found, 436, start, 0, 5, !again)
 }

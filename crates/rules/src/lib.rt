@@ -11,7 +11,8 @@ use sets::opening::SERIAL_BROKEN;
 ghost use mathlib.Core.Path.{_≡_};
 ghost use Rattle.rules.specs.Findings.{asked, byteAt};
 ghost use Rattle.rules.specs.After.{orBroken};
-ghost use Rattle.rules.specs.Explained.{explained, inside};
+ghost use Rattle.octets.specs.Sentences.{first};
+ghost use Rattle.rules.specs.Explained.{findings, isBroken, faultOf, explained, inside};
 ghost use Rattle.sets.specs.Opening.{lent};
 
 // A broken rule and the byte where it is broken; rule 0 where none is.
@@ -39,7 +40,7 @@ pub fn ask(found: Fault, rule: u16, start: u16, at: u16, k: u8, holds: bool) -> 
 }
 
 // A place among some bytes: past their end it is the last of them.
-fn place_inside(bytes: &[u8], place: u32) -> u32
+pub fn place_inside(bytes: &[u8], place: u32) -> u32
     ensures { λ r. ⌜ r ≡ inside (now (bytes .entry)) place ⌝ }
 {
     let size = bytes.len();
@@ -52,18 +53,25 @@ fn place_inside(bytes: &[u8], place: u32) -> u32
     (size - 1) as u32
 }
 
-// The first rule that a set and its serial block break.
-pub fn explain(set: &[u8], serial: &[u8], limits: Limits) -> Explained
-    ensures { λ r. ⌜ r ≡ explained limits (lent (now (set .entry)) (now (serial .entry))) ⌝ }
+// The first rule that a set and its serial block break, and the byte where it is broken, wherever that lies.
+pub fn first_fault(set: &[u8], serial: &[u8], limits: Limits) -> Fault
+    ensures { λ r. ⌜ r ≡ faultOf (first isBroken (findings limits (lent (now (set .entry)) (now (serial .entry))))) ⌝ }
 {
-    let number = sets::opening::opening(set, serial, limits);
     let found = Fault { rule: 0, place: 0 };
     let found = frame::frame_fault(set, found);
     let found = frame::contents_fault(set, limits, found);
     let found = device::device_fault(set, limits, found);
     let found = configuration::configurations_fault(set, limits, found);
     let found = string::strings_fault(set, found);
-    let found = device::serial_fault(sets::device::serial_index(set), serial, found);
+    device::serial_fault(sets::device::serial_index(set), serial, found)
+}
+
+// Opening's number, with the first rule that is broken.
+pub fn explain(set: &[u8], serial: &[u8], limits: Limits) -> Explained
+    ensures { λ r. ⌜ r ≡ explained limits (lent (now (set .entry)) (now (serial .entry))) ⌝ }
+{
+    let number = sets::opening::opening(set, serial, limits);
+    let found = first_fault(set, serial, limits);
     let rule = found.rule;
     let mut place = place_inside(set, found.place);
     if number == SERIAL_BROKEN {

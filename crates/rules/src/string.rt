@@ -1,4 +1,4 @@
-// Group 5, rule by rule: the strings entry by entry, then the references.
+// Group 5, rule by rule: the strings entry by entry, whether string 0 is there, then the languages of the others and the references.
 use crate::Fault;
 use crate::ask;
 use crate::languages::in_every_language;
@@ -18,18 +18,18 @@ use sets::device::device_body;
 use sets::device::serial_index;
 ghost use mathlib.Core.Path.{_≡_};
 ghost use mathlib.Core.List.{[], _∷_};
-ghost use mathlib.Core.Bool.{_||_};
+ghost use mathlib.Core.Bool.{_&&_, _||_};
 ghost use Prim.Native.Nat.{ℕ, _+_, _<_};
 ghost use lib.Dec.{eqb, leb};
 ghost use lib.ListN.{length, drop};
-ghost use Rattle.octets.specs.Sentences.{pick, isSome, _⇒_};
+ghost use Rattle.octets.specs.Sentences.{pick, member};
 ghost use Rattle.octets.specs.Table.{has};
 ghost use Rattle.descriptors.specs.Descriptor.{isInterface, iInterface};
 ghost use Rattle.sets.specs.Contents.{bodyOf, entries};
 ghost use Rattle.sets.specs.Strings.{words, stringZero, languages};
-ghost use Rattle.rules.specs.Findings.{asked};
-ghost use Rattle.rules.specs.Strings.{languagesFrom, languageFindings, stringFindings, stringEntryFindings, stringsFrom, bodyReferences, referencesFrom, stringsFindings};
-ghost use Rattle.rules.specs.After.{after, judged, Judges, StringZero};
+ghost use Rattle.rules.specs.Findings.{asked, byteAt};
+ghost use Rattle.rules.specs.Strings.{languagesFrom, languageFindings, stringFindings, stringEntryFindings, stringsFrom, listedFrom, bodyReferences, referencesFrom, stringsFindings};
+ghost use Rattle.rules.specs.After.{orBroken, after, judged, Judges, StringZero};
 
 // ---- the strings
 // The languages that string 0 lists, one after another; it begins at `start`.
@@ -88,13 +88,10 @@ fn entry_fault(found: Fault, e: Entry, at: u16, body: &[u8], zero: &[u8], serial
 {
     let index_zero = e.index == 0;
     let language_zero = e.language == 0;
-    let first = index_zero & language_zero;
-    let listed = first | sets::string::lists(zero, e.language);
     let goes = (!language_zero | index_zero) & (!index_zero | language_zero);
     let found = body_fault(found, body, e.offset);
     let found = ask(found, 504, 0, at, 2, goes);
-    let found = zero_fault(found, first, zero, e.offset);
-    let found = ask(found, 509, 0, at, 2, listed);
+    let found = zero_fault(found, index_zero & language_zero, zero, e.offset);
     ask(found, 511, 0, at, 1, !(1 <= serial) | !(e.index == serial))
 }
 
@@ -112,6 +109,39 @@ fn entries_fault(found: Fault, set: &[u8], zero: &[u8], serial: u8) -> Fault
         i += 1;
         if e.kind == STRING {
             found = entry_fault(found, e, at, body_of(set, e), zero, serial);
+        }
+    }
+    found
+}
+
+// Whether an entry at `at` uses a language that string 0 lists.
+fn language_fault(found: Fault, e: Entry, at: u16, zero: &[u8]) -> Fault
+    ensures { λ r. ⌜ r ≡ orBroken found (asked 509 (byteAt 0 at 2) ((eqb (e .index) 0 && eqb (e .language) 0) || member (e .language) (words (drop 2 (now (zero .entry)))))) ⌝ }
+{
+    let first = (e.index == 0) & (e.language == 0);
+    ask(
+        found,
+        509,
+        0,
+        at,
+        2,
+        first | sets::string::lists(zero, e.language),
+    )
+}
+
+// The languages of the string entries; `zero` is string 0.
+fn listed_fault(found: Fault, set: &[u8], zero: &[u8]) -> Fault
+    ensures { λ r. ⌜ r ≡ after found (listedFrom (now (set .entry)) (words (drop 2 (now (zero .entry)))) 4 (entries (now (set .entry)))) ⌝ }
+{
+    let count = octets::peek(set, 2);
+    let mut found = found;
+    let mut i: u8 = 0;
+    while i < count {
+        let e = entry_at(set, i);
+        let at = 4 + 8 * (i as u16);
+        i += 1;
+        if e.kind == STRING {
+            found = language_fault(found, e, at, zero);
         }
     }
     found
@@ -222,6 +252,7 @@ fn judged_fault(found: Fault, set: &[u8], zero: &[u8], there: bool) -> Fault
     let device = device_body(set);
     let start = 4 + 8 * (octets::peek(set, 2) as u16);
     let strings = 1 <= count_of(set, STRING);
+    let found = entries_fault(found, set, zero, serial);
     let found = ask(
         found,
         510,
@@ -230,7 +261,7 @@ fn judged_fault(found: Fault, set: &[u8], zero: &[u8], there: bool) -> Fault
         0,
         !strings | there,
     );
-    let found = entries_fault(found, set, zero, serial);
+    let found = listed_fault(found, set, zero);
     let found = reference_fault(
         found,
         start,

@@ -174,6 +174,24 @@ pub fn explain(set: &[u8], serial: &[u8]) -> (u8, u16, u32) {
     (number, rule, place)
 }
 
+/// The same of a SuperSpeed set.
+pub fn explain_super(set: &[u8], serial: &[u8]) -> (u8, u16, u32) {
+    let (mut rule, mut place) = (0, 0);
+    // SAFETY: as in open.
+    let number = unsafe { sys::hk_super_explain(set.as_ptr(), set.len(), serial.as_ptr(), serial.len(), &mut rule, &mut place) };
+    (number, rule, place)
+}
+
+/// The same of a pair: the opening number, the block (0 the full-speed set, 1 the high-speed set, 2 the serial block), the rule and the place.
+pub fn explain_two(full: &[u8], high: &[u8], serial: &[u8]) -> (u8, u8, u16, u32) {
+    let (mut block, mut rule, mut place) = (0, 0, 0);
+    // SAFETY: as in open.
+    let number = unsafe {
+        sys::hk_two_explain(full.as_ptr(), full.len(), high.as_ptr(), high.len(), serial.as_ptr(), serial.len(), &mut block, &mut rule, &mut place)
+    };
+    (number, block, rule, place)
+}
+
 /// For makers: writes the set of these pieces, and gives its length.
 pub fn write(pieces: &[u8], serial: &[u8], buffer: &mut [u8]) -> Result<usize, Refusal> {
     let mut written = 0;

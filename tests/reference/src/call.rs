@@ -3,6 +3,7 @@
 use crate::dumps;
 use crate::endpoints;
 use crate::events::{Block, Event, Lent, Outcome, Part};
+use crate::explained;
 use crate::fault::Fault;
 use crate::kind::Kind;
 use crate::octets::hex;
@@ -39,8 +40,9 @@ pub enum Call {
     /// An event of the wire; the image left is the order, the room, the pipe record and the device record.
     Pipe(PipeCall),
     TwoPipe(PipeCall),
-    /// The number alone: which rule is tests/makers/broken.py's to say.
     Explain,
+    TwoExplain,
+    SuperExplain,
 }
 
 /// What is lent to an event of the wire beside the sets, and its number.
@@ -125,7 +127,7 @@ impl Call {
     /// Two sets are lent to it.
     pub fn takes_two(&self) -> bool {
         let in_row = matches!(self, Call::TwoPort { .. });
-        in_row || matches!(self, Call::TwoOpen { .. } | Call::TwoEvent { .. } | Call::TwoEndpoint { .. } | Call::TwoPipe(_))
+        in_row || matches!(self, Call::TwoExplain | Call::TwoOpen { .. } | Call::TwoEvent { .. } | Call::TwoEndpoint { .. } | Call::TwoPipe(_))
     }
 
     pub fn answer(&self, lent: &Lent) -> Outcome {
@@ -154,9 +156,11 @@ impl Call {
                 ports::event(lent, row, *port, &Event::of_number(*number, *value, setup))
             }
             Call::Pipe(call) | Call::TwoPipe(call) => joined(call.hear(lent)),
-            Call::Explain => {
-                let number = lent.alone().map_or_else(|number| number, |_| 0);
-                Outcome { number, bytes: vec![0, 0], part: None, image: Vec::new() }
+            Call::Explain => explained::outcome(explained::explain(Kind::Alone, &lent.set, &lent.serial, lent.fault)),
+            Call::SuperExplain => explained::outcome(explained::explain(Kind::Super, &lent.set, &lent.serial, lent.fault)),
+            Call::TwoExplain => {
+                let high = lent.high.as_deref().unwrap_or_default();
+                explained::outcome(explained::explain_pair(&lent.set, high, &lent.serial, lent.fault))
             }
         }
     }
@@ -185,7 +189,8 @@ impl Call {
                 format!("port {port} {} {}", hex(row), event_words(&event))
             }
             Call::Pipe(call) | Call::TwoPipe(call) => format!("wire {}", wire_words(&call.wire())),
-            Call::Explain => "explain".to_string(),
+            Call::Explain | Call::TwoExplain => "explain".to_string(),
+            Call::SuperExplain => "explainsuper".to_string(),
         }
     }
 
@@ -235,7 +240,9 @@ impl Call {
                 let part = part_words(*part);
                 format!("{number} {order} {room} {} {part} {} {}", hex(bytes), hex(pipe), hex(record))
             }
-            Call::Explain => format!("{number}"),
+            Call::Explain | Call::TwoExplain | Call::SuperExplain => {
+                format!("{number} {} {}", u16::from_le_bytes([bytes[0], bytes[1]]), part_words(*part))
+            }
         }
     }
 }

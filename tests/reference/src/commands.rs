@@ -31,6 +31,7 @@ const DEFAULT_STRIKES: usize = 200_000;
 const DEFAULT_WIRE_CALLS: usize = 200_000;
 const DEFAULT_RUNS: usize = 20_000;
 const DEFAULT_SUPERS: usize = 100_000;
+const DEFAULT_EXPLAINED: usize = 200_000;
 
 /// The numbers that opening gives back, and all of them.
 const OPENING_NUMBERS: [u8; 7] = [0, 1, 2, 3, 4, 5, 6];
@@ -54,10 +55,11 @@ reference vectors [--least N] FILE..            answers every question of the fi
 reference run-vectors --program CMD [--least N] FILE..
                                                 the same, and through a harness
 reference compare --program CMD [--sets N] [--calls N] [--pairs N] [--pair-calls N] [--port-calls N] [--strikes N] [--wire-calls N] [--transfers N] [--writes N] [--dumps N] [--trims N]
-                  [--supers N] [--seed S] [--fault NAME]
+                  [--supers N] [--explained N] [--seed S] [--fault NAME]
                                                 sets through opening, calls over the whole boundary, or both; the same with two sets lent; events at ports;
                                                 runs from power-on, whole and with the other drivers' events struck; events of the wire; whole transfers;
-                                                streams of pieces; dumps; sets to trim; SuperSpeed sets, opened and written;
+                                                streams of pieces; dumps; sets to trim; SuperSpeed sets, opened and written; sets and pairs of
+                                                every kind explained;
                                                 from 100,000 sets and 200,000 calls on each rule and number must be reached
 reference faults --program CMD [--seed S]       every planted fault must be noticed
 reference serve [--fault NAME]                  the reference in a harness's place
@@ -206,12 +208,13 @@ fn compare(arguments: &Arguments) -> Verdict {
     let dumps = arguments.number("dumps")?;
     let trims = arguments.number("trims")?;
     let supers = arguments.number("supers")?;
+    let explained = arguments.number("explained")?;
     let (pairs, pair_calls) = (arguments.number("pairs")?, arguments.number("pair-calls")?);
     let port_calls = arguments.number("port-calls")?;
     let strikes = arguments.number("strikes")?;
     let (wire_calls, transfers) = (arguments.number("wire-calls")?, arguments.number("transfers")?);
     let named =
-        [sets, calls, writes, dumps, trims, supers, pairs, pair_calls, port_calls, strikes, wire_calls, transfers];
+        [sets, calls, writes, dumps, trims, supers, explained, pairs, pair_calls, port_calls, strikes, wire_calls, transfers];
     let both = named.iter().all(Option::is_none);
     let mut right = true;
     if let Some(pairs) = pairs {
@@ -243,6 +246,9 @@ fn compare(arguments: &Arguments) -> Verdict {
     }
     if let Some(supers) = supers {
         right &= compare_supers(arguments, supers)?;
+    }
+    if let Some(calls) = explained {
+        right &= compare_explained(arguments, calls)?;
     }
     if sets.is_some() || both {
         right &= compare_opening(arguments, sets.unwrap_or(DEFAULT_SETS))?;
@@ -402,6 +408,15 @@ fn compare_supers(arguments: &Arguments, sets: usize) -> Verdict {
     Ok(same & written & met)
 }
 
+/// Each rule of each kind of set is told of some.
+fn compare_explained(arguments: &Arguments, calls: usize) -> Verdict {
+    let mut comparison = Comparison::start(arguments.program()?, PATIENCE).map_err(told)?;
+    let rules = runs::explaining(&mut comparison, calls, arguments.seed()?, arguments.fault()?);
+    let same = ended(comparison, "explained", "sets and pairs")?;
+    let by_number = rules.iter().map(|(kind, rule, count)| (format!("rule {rule} {}", kebab(&format!("{kind:?}"))), *count));
+    Ok(same & reached(&by_number.collect::<Vec<_>>(), calls >= DEFAULT_EXPLAINED))
+}
+
 /// Tells how a comparison went and how long it took.
 fn ended(comparison: Comparison, part: &str, unit: &str) -> Verdict {
     let (start, calls) = (comparison.start, comparison.calls);
@@ -442,6 +457,8 @@ fn faults(arguments: &Arguments) -> Verdict {
             runs::whole_two(&mut comparison, DEFAULT_PAIR_CALLS, seed, fault);
         } else if fault::SUPER.contains(&fault) {
             super_draft::opening(&mut comparison, DEFAULT_SUPERS, seed, fault);
+        } else if fault::EXPLAINED.contains(&fault) {
+            runs::explaining(&mut comparison, DEFAULT_EXPLAINED, seed, fault);
         } else if fault::PORTS.contains(&fault) {
             runs::ports(&mut comparison, DEFAULT_PORT_CALLS, seed, fault);
         } else if fault::PIPE.contains(&fault) || fault::TRANSFERS.contains(&fault) {

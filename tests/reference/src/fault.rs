@@ -127,6 +127,16 @@ faults! {
         StrayCompanionPasses IsochronousNeedsNoCompanion CompanionsAfterStrings SuperQualifierPasses
         SuperRefusalKeepsImage
     }
+    EXPLAINED {
+        Untold312 Untold313 Untold314 Untold315 Untold316 Untold437 Untold438 Untold439
+        Untold2401 Untold2402 Untold2403 Untold2404 Untold2405 Untold2406 Untold2407 Untold2408 Untold2409 Untold2410
+        Astray312 Astray313 Astray314 Astray315 Astray316 Astray437 Astray438 Astray439
+        Astray2401 Astray2402 Astray2403 Astray2404 Astray2405 Astray2406 Astray2407 Astray2408 Astray2409 Astray2410
+        Untold504 Untold509 Untold510 Astray504 Astray509 Astray510
+        MissingStringZeroToldFirst UnlistedToldAtItsString StoreToldBeforeTheDevice CompanionsToldBeforeTheOthers
+        ValueToldBeforeCompanions ShortCompanionToldFirst OtherSpeedsToldBeforeTheQualifier MissingOtherSpeedToldFirst
+        HighSetBesideToldFirst HighBlockToldAsFull SerialFaultToldInTheSet PlacePastTheEnd
+    }
     PORTS {
         NeighbourWritten PortTakenAsLength PortsFromOne PortByLowByte PortByLowFourBytes PortAfterSet RowOfNineRefused
         EmptyRowDoesNotFit RefusedPortDropsWaiting EveryRecordMustFit ResetOfEveryPort
@@ -164,7 +174,7 @@ faults! {
 impl Fault {
     /// All that show at the C boundary.
     pub fn at_boundary() -> impl Iterator<Item = Fault> {
-        [OPENING, EVENTS, PACKETS, ENDPOINTS, WRITER, DUMPS, TRIM, PAIRS, SPEEDS, PORTS, STRIKES, SUPER, PIPE, TRANSFERS]
+        [OPENING, EVENTS, PACKETS, ENDPOINTS, WRITER, DUMPS, TRIM, PAIRS, SPEEDS, PORTS, STRIKES, SUPER, EXPLAINED, PIPE, TRANSFERS]
             .into_iter()
             .flatten()
             .copied()
@@ -172,6 +182,21 @@ impl Fault {
 
     pub fn name(self) -> String {
         kebab(&format!("{self:?}"))
+    }
+
+    /// The rule that is never told.
+    pub fn untold(self) -> Option<u16> {
+        self.rule_behind("Untold")
+    }
+
+    /// The rule that is told one byte further on.
+    pub fn astray(self) -> Option<u16> {
+        self.rule_behind("Astray")
+    }
+
+    fn rule_behind(self, word: &str) -> Option<u16> {
+        // most runs have no fault planted, and a name is dear
+        (self != Fault::None).then(|| format!("{self:?}").strip_prefix(word)?.parse().ok()).flatten()
     }
 
     pub fn named(name: &str) -> Option<Fault> {

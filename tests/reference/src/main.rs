@@ -10,6 +10,7 @@ mod draft;
 mod dumps;
 mod endpoints;
 mod events;
+mod explained;
 mod fault;
 mod files;
 mod kind;

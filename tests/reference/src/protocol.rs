@@ -22,7 +22,8 @@
 //!     f image                hk_super_open                 F pieces buffer   hk_super_write, as hk_write
 //!     i dump buffer          hk_import, in the same way    x buffer       hk_export
 //!     t set                  hk_trim: length is the total, the image is the set
-//!     X                      hk_explain: the bytes are the rule, the offset is the place (tests/makers/explained asks it)
+//!     X                      hk_explain: the bytes are the rule, the block and the offset are its place
+//!     Y                      hk_super_explain, in the same way         Z              hk_two_explain
 //!
 //! Each call is answered with error(1) number(1) count(1) bytes(2) block(1) offset(4) length(4) and the image as a block.
 
@@ -148,6 +149,8 @@ impl Command {
             Command::Call(Call::Pipe(_)) => b'c',
             Command::Call(Call::TwoPipe(_)) => b'C',
             Command::Call(Call::Explain) => b'X',
+            Command::Call(Call::TwoExplain) => b'Z',
+            Command::Call(Call::SuperExplain) => b'Y',
             Command::Call(Call::Event { event, .. }) => match event {
                 Event::Setup(_) => b's',
                 Event::StatusEnd => b'e',
@@ -235,7 +238,7 @@ fn write_call(call: &Call, stream: &mut impl Write) -> io::Result<()> {
             stream.write_all(&call.value.to_le_bytes())?;
             [&call.image, &call.pipe, &call.reply, &call.setup].iter().try_for_each(|block| write_block(stream, block))
         }
-        Call::Explain => Ok(()),
+        Call::Explain | Call::TwoExplain | Call::SuperExplain => Ok(()),
     }
 }
 
@@ -255,6 +258,8 @@ fn read_call(operation: u8, stream: &mut impl Read) -> io::Result<Call> {
         }
         b't' => return Ok(Call::Trim { set: read_block(stream)? }),
         b'X' => return Ok(Call::Explain),
+        b'Z' => return Ok(Call::TwoExplain),
+        b'Y' => return Ok(Call::SuperExplain),
         b'c' => return Ok(Call::Pipe(read_pipe(stream)?)),
         b'C' => return Ok(Call::TwoPipe(read_pipe(stream)?)),
         b'V' => {

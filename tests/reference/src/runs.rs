@@ -8,7 +8,10 @@ use crate::concerns::concerned;
 use crate::damage::{damaged, flipped};
 use crate::draft::Draft;
 use crate::events::{Block, Event, Lent, Outcome};
+use crate::explained::{explain, rules_of};
 use crate::fault::Fault;
+use crate::kind::Kind;
+use crate::octets::number;
 use crate::opening::Board;
 use crate::pair::{Boards, Refused};
 use crate::pair_draft::{any_pair, valid_pair};
@@ -16,6 +19,7 @@ use crate::questions::{self, enumeration, event_for, fitting};
 use crate::random::Random;
 use crate::record::{Record, IMAGE_LENGTH};
 use crate::rule::Rule;
+use crate::super_draft::any_super_set;
 use crate::strikes::{any_board, strike, Tally, RUNS_ON_A_BOARD};
 
 /// The number for types 6 and 7 that are not as said.
@@ -72,6 +76,70 @@ pub fn opening_two(comparison: &mut Comparison, pairs: usize, seed: u64, fault: 
         comparison.ask(&lent, Call::TwoOpen { image });
     }
     reached.retain(|(block, rule, _)| *block == Block::Set || !JUDGED_IN_FULL_SET.contains(rule));
+    reached
+}
+
+/// How often each rule was told, by the block that it was told of, for each kind of set.
+pub type ReachedByRules = Vec<(Kind, u16, usize)>;
+
+/// A second fault, so that the order of two shows: an entry's index or language, or a byte of its body, most often near its start.
+fn changed_again(set: &mut [u8], random: &mut Random) {
+    let entries = set.get(2).map_or(0, |&count| usize::from(count));
+    if entries == 0 || set.len() < 4 + 8 * entries {
+        return;
+    }
+    let at = 4 + 8 * random.below(entries);
+    let (offset, length) = (usize::from(number(set, at + 4)), usize::from(number(set, at + 6)).max(1));
+    let place = match random.below(4) {
+        0 => at + random.pick(&[1, 2]),
+        1 => offset + random.below(length),
+        _ => offset + random.below(length.min(10)),
+    };
+    let byte = random.pick(&[0, 1, 2, 7, 64, 255]);
+    if let Some(changed) = set.get_mut(place) {
+        *changed = byte;
+    }
+}
+
+/// Lends sets of each kind to hk_explain, hk_two_explain and hk_super_explain, in turn.
+pub fn explaining(comparison: &mut Comparison, calls: usize, seed: u64, fault: Fault) -> ReachedByRules {
+    let mut random = Random::new(seed);
+    let every = |kind| rules_of(kind).into_iter().map(move |rule| (kind, rule, 0));
+    let kinds = [Kind::Alone, Kind::PairedFull, Kind::PairedHigh, Kind::Super];
+    let mut reached: ReachedByRules = kinds.into_iter().flat_map(every).collect();
+    while comparison.calls < calls && !comparison.stopped() {
+        let (lent, call, kinds) = match comparison.calls % 4 {
+            0 => {
+                let (set, serial) = any_set(&mut random);
+                (Lent::new(set, serial, fault), Call::Explain, [Kind::Alone; 2])
+            }
+            1 => {
+                let (mut set, serial) = any_super_set(&mut random);
+                match random.below(100) {
+                    0 => set.truncate(random.below(8)),
+                    1 => set[2] = random.pick(&[0, 65, 255]),
+                    _ => {}
+                }
+                (Lent::new(set, serial, fault), Call::SuperExplain, [Kind::Super; 2])
+            }
+            _ => {
+                let (mut full, mut high, serial) = any_pair(&mut random);
+                if random.percent(30) {
+                    changed_again(&mut full, &mut random);
+                    changed_again(&mut high, &mut random);
+                }
+                (Lent::two(full, high, serial, fault), Call::TwoExplain, [Kind::PairedFull, Kind::PairedHigh])
+            }
+        };
+        let lent = Arc::new(lent);
+        let told = comparison.ask(&lent, call.clone());
+        let rule = u16::from_le_bytes([told.bytes[0], told.bytes[1]]);
+        // the serial block of a pair is judged by the full-speed set first
+        let by_high = told.part.is_some_and(|part| part.block == Block::High)
+            || call == Call::TwoExplain && told.number == 6 && explain(Kind::PairedFull, &lent.set, &lent.serial, fault).is_none();
+        let kind = kinds[usize::from(by_high)];
+        reached.iter_mut().filter(|found| (found.0, found.1) == (kind, rule)).for_each(|found| found.2 += 1);
+    }
     reached
 }
 

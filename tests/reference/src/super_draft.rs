@@ -15,6 +15,7 @@ use crate::random::Random;
 use crate::record::{FULL_SPEED, IMAGE_LENGTH};
 use crate::superspeed::{self, Broken};
 
+const INTERFACE: u8 = 4;
 const COMPANION: u8 = 48;
 
 fn companion(random: &mut Random) -> Vec<u8> {
@@ -108,6 +109,20 @@ fn damage_companion(descriptors: &mut Descriptors, random: &mut Random) {
     }
 }
 
+/// Sometimes a second fault beside a companion's, so that their order shows: another companion, the value, a count of endpoints.
+fn damage_beside(descriptors: &mut Descriptors, random: &mut Random) {
+    match random.below(8) {
+        0 => damage_companion(descriptors, random),
+        1 => descriptors[0][5] = 0,
+        2 => {
+            if let Some(at) = place(descriptors, INTERFACE, random) {
+                descriptors[at][4] ^= 1;
+            }
+        }
+        _ => {}
+    }
+}
+
 /// A size or an interval at an edge.
 fn damage_endpoint(descriptors: &mut Descriptors, random: &mut Random) {
     let Some(at) = place(descriptors, ENDPOINT, random) else { return };
@@ -157,7 +172,11 @@ fn any_entries(random: &mut Random) -> (Vec<DraftEntry>, Vec<u8>) {
     let damage = random.below(20);
     match damage {
         6 => draft.device[7] = random.pick(&[0, 8, 10, 16, 18, 64]),
-        7..=10 => damage_companion(&mut draft.configurations[chosen], random),
+        7..=10 => {
+            damage_companion(&mut draft.configurations[chosen], random);
+            damage_beside(&mut draft.configurations[chosen], random);
+        }
+        13 => draft.device[7] = random.pick(&[8, 9]),
         11..=12 => damage_endpoint(&mut draft.configurations[chosen], random),
         _ => {}
     }

@@ -136,6 +136,9 @@ impl Script {
                 Some(self.tell_call(Call::Import { dump, buffer }))
             }
             "export" => Some(self.tell_call(Call::Export { buffer: from_hex(words.get(1)?)? })),
+            "explain" if self.lends_two() => Some(self.tell_call(Call::TwoExplain)),
+            "explain" => Some(self.tell_call(Call::Explain)),
+            "explainsuper" => Some(self.tell_call(Call::SuperExplain)),
             "trim" => Some(self.tell_call(Call::Trim { set: self.lent.set.clone() })),
             "endpoint" => {
                 let number = words.get(1)?.parse().ok()?;

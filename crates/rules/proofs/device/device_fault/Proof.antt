@@ -1,36 +1,25 @@
--- `rules::device::device_fault` meets its contract. No axiom.
-use mathlib.Core.Path.{_≡_, refl, sym, ap, _∙_}
+-- `rules::device::device_fault` meets its contract: the device's entry, and the BOS of a kind that has one. No axiom.
+use mathlib.Core.Path.{sym, _∙_}
+use mathlib.Core.List.{[]}
 use Rattle.sets.specs.Contents.{entriesOf}
-use Rattle.rules.proofs.Entries.{device-found, device-missing}
-use Rattle.rules.proofs.After.{asks, ends, joins}
+use Rattle.rules.specs.Device.{deviceEntryFindings, storeEntryFindings}
+use Rattle.rules.specs.After.{after}
+use Rattle.rules.proofs.After.{joins, nothing-more}
 use borrow.Author.Needs.{needs}
 use Rattle.rules.proofs.device.device_fault.Statement.{statement}
 use Rattle.rules.proofs.device.device_fault.Tie as tie
 
 returns : tie.Need-returns
 returns c =
-    let s = c .before .before .before .before .before .before in
-    let a = s .before .before .args in
-    let es = entriesOf 1 (a .set .now) in
-    rw (device-found (a .limits) (a .set .now) es (sym (s .entry-of .ensures) ∙ c .before .before .before .before .e .given .1))
-    (asks _ _ _ (rw (c .before .before .count-of .ensures) at (c .before .ask .ensures)) (c .one-fault .ensures))
+    let a = c .before .before .before .before .before .args in
+    let set = a .set .now in
+    rw (sym (c .before .before .is-named .ensures) ∙ c .before .if1 .taken) (joins _ (deviceEntryFindings (a .limits) set (entriesOf 1 set)) _ (c .before .before .before .entry-fault .ensures) (c .stores-fault .ensures))
 
 returns-2 : tie.Need-returns-2
 returns-2 c =
-    let s = c .before .before .before in
-    let a = s .before .before .args in
-    rw (device-missing (a .limits) (a .set .now) (entriesOf 1 (a .set .now)) (sym (s .entry-of .ensures) ∙ c .before .enum-told .given .1)) (ends _ _ (c .ask2 .ensures))
+    let a = c .before .before .before .before .args in
+    let set = a .set .now in
+    rw (sym (c .before .is-named .ensures) ∙ c .if1 .left) (joins _ (deviceEntryFindings (a .limits) set (entriesOf 1 set)) [] (c .before .before .entry-fault .ensures) (nothing-more _))
 
 pub device-fault-spec : {M : Type 1} → statement M
-device-fault-spec =
-    tie.close
-    (tie.spec
-    (λ c κs. search needs)
-    (λ c. search needs)
-    (λ c κs. search needs)
-    (λ c κs. search needs)
-    (λ c κs. search needs)
-    (λ c. search needs)
-    (λ c κs. search needs)
-    returns
-    returns-2)
+device-fault-spec = tie.close (tie.spec (λ c κs. search needs) (λ c κs. search needs) (λ c κs. search needs) returns returns-2)

@@ -1,0 +1,4 @@
+pub mod Agreeing
+pub mod Entries
+pub mod Grouped
+pub mod First

@@ -1,0 +1,15 @@
+-- `pair_rules::beside::retyped_length` meets its contract. No axiom.
+use native.Mathlib.Omega.{arith}
+use Rattle.pair_rules.proofs.Agreeing.{retyped-long, retyped-short}
+use borrow.Author.Needs.{needs}
+use Rattle.pair_rules.proofs.beside.retyped_length.Statement.{statement}
+use Rattle.pair_rules.proofs.beside.retyped_length.Tie as tie
+
+returns : tie.Need-returns
+returns c = retyped-short (c .before .args .body .now) (c .if1 .taken)
+
+returns-2 : tie.Need-returns-2
+returns-2 c = retyped-long (c .before .args .body .now) (c .if1 .left)
+
+pub retyped-length-spec : {M : Type 1} → statement M
+retyped-length-spec = tie.close (tie.spec returns returns-2)

@@ -1,0 +1,14 @@
+-- `rules::configuration::companion_fault` meets its contract. No axiom.
+use Rattle.rules.specs.After.{after}
+use borrow.Author.Needs.{needs}
+use Rattle.rules.proofs.configuration.companion_fault.Statement.{statement}
+use Rattle.rules.proofs.configuration.companion_fault.Tie as tie
+
+returns : tie.Need-returns
+unfolding after
+returns c = cc
+
+pub companion-fault-spec : {M : Type 1} → statement M
+companion-fault-spec =
+    tie.close
+    (tie.spec (λ c κs. search needs) (λ c κs. search needs) (λ c κs. search needs) (λ c κs. search needs) returns)
