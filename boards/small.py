@@ -11,7 +11,7 @@ from layout import Layout
 from lifetimes import DECLARED, with_lifetimes
 from module import Unexpected, audit, retargeted
 from narrow import Narrowing
-from promises import with_alignments
+from promises import with_promises
 from tables import with_tables
 
 HERE = os.path.dirname(os.path.abspath(__file__))
@@ -30,7 +30,7 @@ def small(text, prototypes, judged=True, reasons=None):
     audit(plain)
     layout = Layout(plain, judged).run()
     addresses = bounds.judge(functions, layout, prototypes, reasons) if judged else set()
-    with_alignments(functions)
+    with_promises(functions)
     with_lifetimes(functions)
     narrowing = Narrowing(layout, addresses)
     for function in functions.values():
