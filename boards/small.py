@@ -18,7 +18,7 @@ HERE = os.path.dirname(os.path.abspath(__file__))
 LIST = os.path.join(HERE, "inlining.txt")
 # Small, not quick, unless the list says otherwise.
 USUAL = "optsize"
-WORDS = {"called": "optsize noinline", "inside": "optsize alwaysinline", "quick": ""}
+WORDS = {"called": "optsize noinline", "inside": "optsize alwaysinline", "quick": "", "quick-called": "noinline"}
 
 
 def small(text, prototypes, judged=True, reasons=None):
