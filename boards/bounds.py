@@ -355,18 +355,21 @@ class Bounds:
 
     # ---- the judgement
     def judge(self):
-        """The values of which only the low 32 bits are looked at; raises Unexpected with the first that no reason places."""
-        addresses = set()
+        """The values of which only the low 32 bits are looked at; raises Unexpected with one that no reason places, a number that is computed before one that is handed on."""
+        addresses, unplaced = set(), []
         for name, values in self.values.items():
             self.hold_constants(name)
             for value in self.wide_values(name):
                 bound, reason = self.bound(name, value), self.made(name, value)[1]
-                if bound >= LIMIT:
-                    if not self.is_address(values, value):
-                        raise Unexpected(f"a number that 32 bits might not hold (up to {bound:,}), in {name}: {values.line(value) or value}")
+                if bound >= LIMIT and self.is_address(values, value):
                     addresses.add((name, value))
                     reason = "an offset of an address, which has 32 bits"
+                elif bound >= LIMIT:
+                    line = values.line(value)
+                    unplaced.append((not NUMBER.match(line), f"a number that 32 bits might not hold (up to {bound:,}), in {name}: {line or value}"))
                 self.reasons[reason] += 1
+        if unplaced:
+            raise Unexpected(min(unplaced, key=lambda one: one[0])[1])
         return addresses
 
     def hold_constants(self, name):
