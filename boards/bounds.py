@@ -307,6 +307,8 @@ class Bounds:
     def handed_in(self, name, found, label):
         callee, words = callee_and_values(found)
         if callee not in INTRINSICS and callee not in MARKS:
+            if self.functions[callee].exported:
+                raise Unexpected(f"a call of what C calls, in {name}: {found[0]}")
             for number, ((kind, _), word) in enumerate(zip(self.functions[callee].parameters, words)):
                 if kind != "ptr":
                     yield (callee, number), min(self.at(name, word, label), most(kind))
