@@ -1,7 +1,8 @@
 """The header's prototypes: held to the module's functions, and turned into the shim that joins the two on a 32-bit processor.
 
-The header says size_t, which is 32 bits wide there; the module takes lengths of 64 bits, and a part as a pointer and a 64-bit length in 16 bytes. The shim widens
-the one and narrows the other, for each prototype alike. It is compiled with the header, so that C's own rules hold it to the prototypes.
+The header says size_t, which is 32 bits wide there; the module as it comes takes lengths of 64 bits, and a part as a pointer and a 64-bit length in 16 bytes. The
+wide shim widens the one and narrows the other, for each prototype alike; the module made small takes both as C has them. It is compiled with the header, so that
+C's own rules hold it to the prototypes.
 """
 import re, sys
 
@@ -14,19 +15,23 @@ OBJECTS = {"": "heideklonk", "HK_LARGE": "tables", "HK_MAKERS": "makers", "HK_TW
 MARK = rf"(?:({'|'.join(filter(None, OBJECTS))})\s+)?"
 
 BEGINNING = """\
-/* The library's exports on a 32-bit processor: size_t outside, the module's 64-bit lengths inside. It is the library, and asks for no version. */
+/* The library's exports on a 32-bit processor. It is the library, and asks for no version. */
 #define HK_ANY_VERSION
 #include "heideklonk.h"
 
-typedef struct { const uint8_t *start; uint64_t length; } wide_part;
 _Static_assert(sizeof(size_t) == 4 && sizeof(void *) == 4, "a 32-bit processor");
-_Static_assert(sizeof(wide_part) == 16 && __builtin_offsetof(wide_part, length) == 8 && _Alignof(wide_part) == 8, "a slice as the module has it");
+_Static_assert(sizeof(hk_part) == 8 && __builtin_offsetof(hk_part, length) == 4, "a slice as the small module has it");
 _Static_assert(sizeof(hk_record) == 32 && _Alignof(hk_record) == 4, "a record as the module has it");
 
 #if defined(__arm__)
 /* Tag_ABI_VFP_args: nothing here is a floating-point number, so it links with firmware of either convention. */
 __asm__(".eabi_attribute 28, 3");
 #endif
+"""
+WIDE_PART = """
+/* size_t outside, the module's 64-bit lengths inside. */
+typedef struct { const uint8_t *start; uint64_t length; } wide_part;
+_Static_assert(sizeof(wide_part) == 16 && __builtin_offsetof(wide_part, length) == 8 && _Alignof(wide_part) == 8, "a slice as the module has it");
 """
 
 
@@ -52,6 +57,12 @@ class Prototype:
         return TYPES.get(self.result), kinds
 
     def shim(self):
+        """The small module's function has the export's own types."""
+        name, words = self.name.removeprefix("hk_"), ", ".join(f"{kind} {word}" for kind, word in self.parameters) or "void"
+        called = f"small_{name}({', '.join(word for _, word in self.parameters)})"
+        return f"\n{self.result} small_{name}({words});\n{self.result} {self.name}({words}) {{\n    return {called};\n}}\n"
+
+    def wide_shim(self):
         """The wide function's prototype, and the export that calls it."""
         wide = [(kind.replace("size_t", "uint64_t").replace("hk_part", "wide_part"), name) for kind, name in self.parameters]
         parts = [name for kind, name in self.parameters if kind == "hk_part *"]
@@ -80,7 +91,9 @@ def hold(found, exports):
             raise Unexpected(f"include/heideklonk.h: {prototype.name} takes or gives other types than the module's function")
 
 
-def shim(found):
+def shim(found, wide):
+    if wide:
+        return BEGINNING + WIDE_PART + "".join(prototype.wide_shim() for prototype in found)
     return BEGINNING + "".join(prototype.shim() for prototype in found)
 
 

@@ -14,6 +14,8 @@ from collections import defaultdict
 SLOT = 8
 WIDTHS = {"i1": 1, "i8": 1, "i16": 2, "i32": 4, "i64": 8, "ptr": SLOT}
 COPY, FILL, TRAP = INTRINSICS = ("llvm.memmove.p0.p0.i64", "llvm.memset.p0.i64", "llvm.trap")
+# What marks where a variable begins and ends to be needed: written by lifetimes.py, and never in the module as it comes.
+MARKS = ("llvm.lifetime.start.p0", "llvm.lifetime.end.p0")
 NUMBER = "number"
 # What ties the text to x86-64.
 TIES = [r'^target (datalayout|triple) .*\n', r' "target-cpu"="x86-64"', r' "probe-stack"="inline-asm"']

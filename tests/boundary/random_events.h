@@ -7,7 +7,7 @@
 #include "../../firmware/sets.c" /* tools/cc compiles one source */
 
 #define DAMAGED_COPIES 24
-#define MOST_SET 512
+#define MOST_SET 1024
 #define SET_ADDRESS 5
 #define FIRST_OTHER_EVENT 9 /* no event has this number or a higher one */
 
@@ -88,7 +88,7 @@ static struct event random_event(void) {
 }
 
 /* Any other event number is a setup of a wrong length. */
-static hk_answer on_image(uint8_t *image, const struct event *event) {
+static inline hk_answer on_image(uint8_t *image, const struct event *event) {
     hk_answer answer = {255, {0, 0}, 0, {set, 0}};
     size_t setup_length = event->kind == HK_EVENT_SETUP ? event->setup_length : 0;
     switch (event->kind) {
