@@ -28,10 +28,12 @@ pub struct Verdict {
 pub fn good_head(d: &[u8], size: usize) -> bool
     ensures { λ r. ⌜ r ≡ goodHead size (now (d .entry)) ⌝ }
 {
+    if d.len() < 9 {
+        return false;
+    }
     let attributes = octets::peek(d, 7);
     let interfaces = octets::peek(d, 4);
     (octets::peek(d, 1) == types::CONFIGURATION)
-        & (9 <= d.len())
         & (octets::word(d, 2) as usize == size)
         & (attributes / 128 == 1)
         & (attributes % 32 == 0)

@@ -7,9 +7,10 @@ use crate::types;
 use crate::walk;
 use crate::walk::Stand;
 ghost use mathlib.Core.Path.{_≡_};
-ghost use Prim.Native.Nat.{_<_};
-ghost use mathlib.Core.Bool.{true};
-ghost use lib.Dec.{eqb};
+ghost use Prim.Native.Nat.{ℕ};
+ghost use mathlib.Core.Bool.{true, _&&_, not};
+ghost use lib.Dec.{eqb, ltb};
+ghost use lib.ListN.{getD};
 ghost use Rattle.octets.specs.Bit.{bit};
 ghost use Rattle.octets.specs.Sentences.{pick, below};
 ghost use Rattle.descriptors.specs.Cut.{cut, wellCut};
@@ -17,6 +18,9 @@ ghost use Rattle.descriptors.specs.Descriptor.{isInterface, isEndpoint};
 ghost use Rattle.descriptors.specs.Configuration.{Configuration, configurationOf};
 ghost use Rattle.descriptors.specs.Lookup.{listed};
 ghost use Rattle.descriptors.specs.Survey.{noting, earlier, foundHere, onward, atCurrent, atOther, nothingSeen, TellsInterfaces, Surveys, goodAlternate};
+
+// The bits of a word that stand for no interface with an alternate setting.
+const PAST_SIXTEEN: u32 = 0xFFFF0000;
 
 // What an event asks of the selected configuration: an endpoint, by its address, and a setting of an interface.
 pub struct Asked {
@@ -195,32 +199,25 @@ pub fn walk(body: &[u8], alternates: [u8; 16], asked: Asked) -> Survey
     seen
 }
 
-// Whether interface j's alternate setting exists, or is 0 if the interface does not.
-fn good_alternate(existing: u32, current: u32, j: u32, alternate: u8) -> bool
-    requires { ⌜ j < 32 ⌝ }
-    ensures { λ r. ⌜ r ≡ pick (bit existing j) (bit current j) (eqb alternate 0) ⌝ }
+// The interfaces whose alternate setting is not 0: bit j is interface j's.
+fn moved(alternates: [u8; 16]) -> u32
+    ensures { λ r. ⌜ ((k : ℕ) → bit r k ≡ (ltb k 16 && not (eqb (getD alternates k 0) 0))) ⌝ }
 {
-    if octets::test_bit(existing, j) {
-        return octets::test_bit(current, j);
+    let mut word: u32 = 0;
+    let mut j: u32 = 0;
+    while j < 16 {
+        if octets::peek(&alternates[..], j as usize) != 0 {
+            word = octets::set_bit(word, j);
+        }
+        j += 1;
     }
-    alternate == 0
+    word
 }
 
-// Whether the alternate settings of all interfaces exist, and are 0 for interfaces that do not, by the survey's words.
+// Whether the alternate settings of all interfaces exist, and are 0 for interfaces that do not, by the survey's words: all sixteen at once.
 pub fn alternates_exist(existing: u32, current: u32, alternates: [u8; 16]) -> bool
     ensures { λ r. ⌜ ((c : Configuration) → TellsInterfaces c alternates existing current → r ≡ below 16 (goodAlternate c alternates)) ⌝ }
 {
-    let mut j: u32 = 16;
-    while 0 < j {
-        j -= 1;
-        if !good_alternate(
-            existing,
-            current,
-            j,
-            octets::peek(&alternates[..], j as usize),
-        ) {
-            return false;
-        }
-    }
-    true
+    octets::has_only(octets::without(existing, PAST_SIXTEEN), current)
+        & octets::has_only(moved(alternates), existing)
 }

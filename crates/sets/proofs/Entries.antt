@@ -1,9 +1,9 @@
 -- The laws of a set's contents: its entries, one after another, and the bodies that they name. No axiom.
 use Prim.Native.Nat.{ℕ, zero, suc, _+_, _-_, _*_, _≤_, _<_}
-use native.Mathlib.Nat.{sub-zero}
+use native.Mathlib.Nat.{sub-zero, zero-add}
 use native.Mathlib.Omega.{arith}
 use mathlib.Core.Path.{_≡_, refl, sym, ap, _∙_}
-use mathlib.Core.List.{List, [], _∷_}
+use mathlib.Core.List.{List, [], _∷_, List·Memᴰ, List·Memᴰ·head, List·Memᴰ·tail}
 use mathlib.Core.Bool.{Bool, true, false, _&&_, _||_, and-false}
 use mathlib.Core.Option.{some, none}
 use lib.Dec.{eqb, leb, ltb}
@@ -12,12 +12,12 @@ use Rattle.octets.proofs.Sentences.{cases}
 use lib.ListN.{length, take, drop, getElem?, length-drop, drop-of-length-le}
 use lib.Seq.{getD-take, drop-drop, take-all, take-nil}
 use Rattle.octets.specs.Octets.{byte, part}
-use Rattle.octets.specs.Sentences.{every, any, only, first, neighbours}
+use Rattle.octets.specs.Sentences.{pick, every, any, only, first, neighbours}
 use Rattle.descriptors.specs.declared.limits.Limits.{Limits}
 use Rattle.descriptors.specs.Limits.{named}
 use Rattle.sets.specs.declared.Entry.{Entry}
-use Rattle.sets.specs.Contents.{count, entryOf, entriesFrom, entries, isKind, before, endToEnd}
-use Rattle.sets.specs.Checks.{goodEntry}
+use Rattle.sets.specs.Contents.{total, count, entryOf, entriesFrom, entries, entriesOf, isKind, before, endToEnd, goodContents}
+use Rattle.sets.specs.Checks.{goodEntry, goodPlaced, rankOf}
 
 -- ---- reading
 -- an entry is its first eight bytes, or as many as are there
@@ -218,3 +218,115 @@ module _ (limits : Limits) (end : ℕ) where
   unfolding contentsFrom every neighbours endToEnd
   contents-all last start [] = refl
   contents-all last start (e ∷ es) = rw (after e (start + e .length) es) (sorted (named (limits .entries) (e .kind)) (leb 2 (e .length)) (eqb (e .offset) start) true _ _ _ _)
+
+-- ---- counting: one entry more is of a type, or not
+module _ (set : List ℕ) (n : ℕ) (p : n ≡ count set) (i : ℕ) (h : i < n) (e : Entry) (q : e ≡ entryOf (drop (4 + 8 * i) set)) where
+  count-turn : (kind k : ℕ) → k + length (restOf kind set i) ≡ pick (eqb (e .kind) kind) (k + 1) k + length (restOf kind set (i + 1))
+  count-turn kind k = cases (eqb (e .kind) kind)
+      (λ t. rw (t, kind-next kind set n p i h e q (eqb-true (e .kind) kind t)) (omega arith))
+      (λ t. rw (t, kind-other kind set n p i h e q (eqb-false (e .kind) kind t)))
+
+  pub counts-on : (kind k : ℕ) → length (entriesOf kind set) ≡ k + length (restOf kind set i)
+      → length (entriesOf kind set) ≡ pick (eqb (e .kind) kind) (k + 1) k + length (restOf kind set (i + 1))
+  counts-on kind k inv = inv ∙ count-turn kind k
+
+pub counts-start : (kind : ℕ) (set : List ℕ) → length (entriesOf kind set) ≡ 0 + length (restOf kind set 0)
+counts-start kind set = rw zero-add (ap (λ es. length (only (isKind kind) es)) (rest-start set))
+
+pub counts-end : (kind k : ℕ) (set : List ℕ) (n : ℕ) (p : n ≡ count set) (i : ℕ) → length (entriesOf kind set) ≡ k + length (restOf kind set i) → n ≤ i → k ≡ length (entriesOf kind set)
+counts-end kind k set n p i inv h = sym (inv ∙ rw (kind-end kind set n p i h) (omega arith))
+
+pub pick-few : (b : Bool) (k i : ℕ) → k ≤ i → pick b (k + 1) k ≤ i + 1
+pick-few true k i h = omega arith
+pick-few false k i h = omega arith
+
+-- ---- the one pass over the contents: the entries before the i-th are good and counted, and the last of them has this rank
+pub record Outlined (limits : Limits) (set : List ℕ) (start rank devices configurations i : ℕ) : Type 0 where
+  pub last : Entry
+  pub language : last .language < 65536
+  pub index : last .index < 256
+  pub ranked : rank ≡ rankOf last
+  pub bound : start ≤ 2044 + 65535 * i
+  pub few : devices ≤ i
+  pub fewer : configurations ≤ i
+  pub good : goodContents limits set ≡ contentsFrom limits (total set) (eqb i 0) last start (rest set i)
+  pub one : length (entriesOf 1 set) ≡ devices + length (restOf 1 set i)
+  pub two : length (entriesOf 2 set) ≡ configurations + length (restOf 2 set i)
+
+module _ (limits : Limits) (set : List ℕ) {start rank devices configurations : ℕ} (i : ℕ) (o : Outlined limits set start rank devices configurations i)
+    (n : ℕ) (p : n ≡ count set) (h : i < n) (e : Entry) (q : e ≡ entryOf (drop (4 + 8 * i) set)) (l : e .language < 65536) (x : e .index < 256) where
+  -- what the code tests of the next entry
+  next-good : contentsFrom limits (total set) (eqb i 0) (o .last) start (rest set i)
+      ≡ (goodPlaced limits e start (eqb i 0 || ltb rank (rankOf e)) && contentsFrom limits (total set) false e (start + e .length) (rest set (i + 1)))
+  next-good =
+      ap (contentsFrom limits (total set) (eqb i 0) (o .last) start) (next-entry set n p i h e q)
+      ∙ contents-more limits (total set) (eqb i 0) (o .last) start e (rest set (i + 1))
+      ∙ rw (o .ranked, by-rank (o .last .kind) (o .last .language) (o .last .index) (e .kind) (e .language) (e .index) (o .language) (o .index) l x)
+
+  pub outline-not : goodPlaced limits e start (eqb i 0 || ltb rank (rankOf e)) ≡ false → false ≡ goodContents limits set
+  outline-not z = sym (o .good ∙ next-good ∙ rw z)
+
+  pub outline-on : goodPlaced limits e start (eqb i 0 || ltb rank (rankOf e)) ≡ true → start + e .length ≤ 2044 + 65535 * (i + 1)
+      → Outlined limits set (start + e .length) (rankOf e) (pick (eqb (e .kind) 1) (devices + 1) devices) (pick (eqb (e .kind) 2) (configurations + 1) configurations) (i + 1)
+  outline-on z b = record {
+    last = e;
+    language = l;
+    index = x;
+    ranked = refl;
+    bound = b;
+    few = pick-few (eqb (e .kind) 1) devices i (o .few);
+    fewer = pick-few (eqb (e .kind) 2) configurations i (o .fewer);
+    good = o .good ∙ next-good ∙ rw (z, ne-eqb (i + 1) 0 (λ r. omega arith));
+    one = counts-on set n p i h e q 1 devices (o .one);
+    two = counts-on set n p i h e q 2 configurations (o .two);
+  }
+
+-- ---- the i-th entry is one of the entries
+from-member : (n : ℕ) (bytes : List ℕ) (i : ℕ) → i < n → List·Memᴰ (entryOf (drop (8 * i) bytes)) (entriesFrom n bytes)
+unfolding entriesFrom
+from-member zero bytes i h = absurd (omega arith)
+from-member (suc n) bytes zero h = List·Memᴰ·head refl
+from-member (suc n) bytes (suc i) h =
+    let e : 8 + 8 * i ≡ 8 * suc i = omega arith in
+    List·Memᴰ·tail (rw (drop-drop, e) at (from-member n (drop 8 bytes) i (omega arith)))
+
+pub entry-member : (set : List ℕ) (i : ℕ) → i < count set → List·Memᴰ (entryOf (drop (4 + 8 * i) set)) (entries set)
+entry-member set i h = rw drop-drop at (from-member (count set) (drop 4 set) i h)
+
+-- ---- how many there are
+from-length : (n : ℕ) (bytes : List ℕ) → length (entriesFrom n bytes) ≡ n
+unfolding entriesFrom
+from-length zero bytes = refl
+from-length (suc n) bytes = ap suc (from-length n (drop 8 bytes))
+
+three-types : (es : List Entry) → length (only (isKind 1) es) + length (only (isKind 2) es) + length (only (isKind 3) es) ≤ length es
+unfolding only
+three-types [] = omega arith
+three-types (e ∷ es) =
+    let t = three-types es in
+    cases (eqb (e .kind) 1)
+    (λ p. let k = eqb-true (e .kind) 1 p in rw (p, ne-eqb (e .kind) 2 (λ q. omega arith), ne-eqb (e .kind) 3 (λ q. omega arith)) (omega arith))
+    (λ p. rw p (cases (eqb (e .kind) 2)
+    (λ q. let k = eqb-true (e .kind) 2 q in rw (q, ne-eqb (e .kind) 3 (λ r. omega arith)) (omega arith))
+    (λ q. rw q (cases (eqb (e .kind) 3) (λ r. rw r (omega arith)) (λ r. rw r (omega arith))))))
+
+nothing-there : (es : List Entry) → length es ≡ 0 → es ≡ []
+nothing-there [] p = refl
+nothing-there (e ∷ es) p = absurd (omega arith)
+
+module _ (set : List ℕ) (n : ℕ) (p : n ≡ length (entriesOf 2 set)) (one : length (entriesOf 1 set) ≡ 1) where
+  pub few-entries : n + 1 ≤ count set
+  few-entries = omega (arith, three-types (entries set), from-length (count set) (drop 4 set))
+
+  -- no entry but the device's and the configurations': no string
+  pub none-besides : count set ≡ n + 1 → entriesOf 3 set ≡ []
+  none-besides q = nothing-there (entriesOf 3 set) (omega (arith, three-types (entries set), from-length (count set) (drop 4 set)))
+
+-- all of a type are passed once so many were
+module _ (kind : ℕ) (set : List ℕ) (n k i : ℕ) (p : n ≡ length (entriesOf kind set)) (inv : length (entriesOf kind set) ≡ k + length (restOf kind set i)) where
+  pub all-passed : n ≤ k → restOf kind set i ≡ []
+  all-passed h = nothing-there (restOf kind set i) (omega arith)
+
+  pub more-there : k < n → i < count set
+  more-there h = cases (ltb i (count set)) (λ q. ltb-true i (count set) q)
+      (λ q. absurd (let z : length (restOf kind set i) ≡ 0 = ap length (kind-end kind set (count set) refl i (ltb-false i (count set) q)) in omega arith))

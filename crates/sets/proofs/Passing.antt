@@ -31,6 +31,10 @@ frame-whole set f =
     let b = eqb-true (total set) (length set) (conjunct 2 (leb 4 (length set) ∷ leb (length set) 16384 ∷ eqb (total set) (length set) ∷ leb 1 (count set) ∷ leb (count set) 64 ∷ eqb (byte set 3) 0 ∷ leb (bodiesAt set) (total set) ∷ []) f) in
     omega arith
 
+pub frame-few : (set : List ℕ) → goodFrame set ≡ true → count set ≤ 64
+unfolding goodFrame
+frame-few set f = leb-true (count set) 64 (conjunct 4 (leb 4 (length set) ∷ leb (length set) 16384 ∷ eqb (total set) (length set) ∷ leb 1 (count set) ∷ leb (count set) 64 ∷ eqb (byte set 3) 0 ∷ leb (bodiesAt set) (total set) ∷ []) f)
+
 pub ordered : (limits : Limits) (set : List ℕ) → goodFrame set ≡ true → goodContents limits set ≡ true → Ordered set
 unfolding goodContents
 ordered limits set f g = record {

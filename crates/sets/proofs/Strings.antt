@@ -3,7 +3,7 @@ use Prim.Native.Nat.{ℕ, suc, _+_, _-_, _*_, _/_, _≤_, _<_}
 use native.Mathlib.Numerals.{add-one}
 use native.Mathlib.Omega.{arith}
 use mathlib.Core.Path.{_≡_, refl, sym, ap, _∙_}
-use mathlib.Core.List.{List, [], _∷_}
+use mathlib.Core.List.{List, [], _∷_, map}
 use mathlib.Core.Bool.{Bool, true, false, _&&_, _||_, and-false, and-assoc, or-true, or-false, or-assoc}
 use mathlib.Core.Option.{Option, some, none, Option·map}
 use lib.ListN.{length, drop, length-drop}
@@ -17,11 +17,12 @@ use Rattle.octets.specs.Table.{has, with}
 use Rattle.octets.proofs.Tables.{with-long, has-with, allOf, has-none}
 use Rattle.sets.specs.declared.Entry.{Entry}
 use Rattle.sets.specs.declared.EntryFound.the-variants.{At, Nothing}
-use Rattle.sets.specs.Contents.{isKind, entries}
+use Rattle.sets.specs.Contents.{isKind, entries, entriesOf}
 use Rattle.sets.specs.Pieces.{Piece, pieceFor, piecesIn, piecesOf, kindOf}
-use Rattle.sets.specs.Strings.{words, isString, isStringZero, stringZero, languagesIn, languages, goodLanguages}
+use Rattle.sets.specs.Strings.{words, isString, isStringZero, stringZero, languagesIn, languagesOf, languages, goodLanguages}
 use Rattle.sets.specs.Found.{found, isAt}
-use Rattle.sets.proofs.Pieces.{first-map}
+use Rattle.sets.specs.Checks.{noNames, Reads}
+use Rattle.sets.proofs.Pieces.{first-map, of-kind}
 use Rattle.sets.proofs.Devices.{at-same, at-missing}
 
 -- ---- the numbers that a body lists, from a place on
@@ -159,3 +160,19 @@ module _ (set : List ℕ) where
   pub languages-of : {o : Option Piece} → stringZero set ≡ o → languages set ≡ languagesIn o
   unfolding languages
   languages-of p = ap languagesIn p
+
+-- ---- no string
+module _ (set : List ℕ) (p : entriesOf 3 set ≡ []) where
+  bare-pieces : piecesOf 3 (piecesIn set) ≡ []
+  bare-pieces = sym (of-kind set 3) ∙ ap (map (pieceFor set)) p
+
+  bare-languages : languages set ≡ []
+  unfolding languages first
+  bare-languages = ap languagesOf bare-pieces
+
+  pub bare-reads : Reads set (languages set) true (with noNames 0)
+  bare-reads = record {
+    entries = rw (bare-languages, bare-pieces);
+    named = λ _ j h. rw bare-languages (with-none j);
+    zero = with-none 0;
+  }

@@ -1,10 +1,11 @@
 -- Working definitions for the contracts of the checks, rule by rule; no promise cites them.
-use Prim.Native.Nat.{ℕ, _≤_, _<_}
+use Prim.Native.Nat.{ℕ, _+_, _*_, _≤_, _<_}
 use mathlib.Core.Path.{_≡_}
 use mathlib.Core.List.{List, [], _∷_}
 use mathlib.Core.Bool.{Bool, true, _&&_, _||_, not}
 use lib.ListN.{length}
 use lib.Dec.{eqb}
+use Rattle.octets.specs.Octets.{part}
 use Rattle.octets.specs.Sentences.{pick, every, neighbours, isEmpty}
 use Rattle.descriptors.specs.declared.limits.Limits.{Limits}
 use Rattle.descriptors.specs.declared.check.Verdict.{Verdict}
@@ -12,9 +13,11 @@ use Rattle.descriptors.specs.Configuration.{goodConfiguration}
 use Rattle.octets.specs.Table.{has}
 use Rattle.descriptors.specs.Check.{configurationRefers}
 use Rattle.sets.specs.declared.Entry.{Entry}
-use Rattle.sets.specs.Contents.{bodies, bodiesAt, entries, before, goodFrame, goodContents, kindAllowed, bodyLongEnough, beginsAt}
-use Rattle.sets.specs.Pieces.{Piece, pieceWith, piecesIn, piecesOf, hasIndex, hasNoLanguage}
-use Rattle.sets.specs.Device.{deviceBody, iManufacturer, iProduct, iSerialNumber}
+use Rattle.sets.specs.declared.contents.Outline.{Outline}
+use Rattle.sets.specs.declared.opening.Begun.{Begun}
+use Rattle.sets.specs.Contents.{bodies, bodyOf, bodiesAt, entries, entriesOf, before, goodFrame, goodContents, kindAllowed, bodyLongEnough, beginsAt}
+use Rattle.sets.specs.Pieces.{Piece, pieceWith, pieceFor, piecesIn, piecesOf, hasIndex, hasNoLanguage}
+use Rattle.sets.specs.Device.{deviceBody, goodDevice, iManufacturer, iProduct, iSerialNumber}
 use Rattle.sets.specs.Opening.{goodDevices, valueNonzero}
 use Rattle.sets.specs.Strings.{goodString, goodLanguages, languageZero, languages, listed, notSerial, goodReference}
 
@@ -22,9 +25,26 @@ use Rattle.sets.specs.Strings.{goodString, goodLanguages, languageZero, 
 abbrev pub isNext : Bool → Entry → Entry → Bool
 isNext first last e = first || before last e
 
--- an entry whose body has to begin at `start`
+-- an entry whose body has to begin at `start`, and whether it follows the one before
+abbrev pub goodPlaced : Limits → Entry → ℕ → Bool → Bool
+goodPlaced limits e start follows = kindAllowed limits e && bodyLongEnough e && beginsAt start e && follows
+
 abbrev pub goodEntry : Limits → Bool → Entry → ℕ → Entry → Bool
-goodEntry limits first last start e = kindAllowed limits e && bodyLongEnough e && beginsAt start e && isNext first last e
+goodEntry limits first last start e = goodPlaced limits e start (isNext first last e)
+
+-- an entry's place in the order, as one number
+abbrev pub rankOf : Entry → ℕ
+rankOf e = 16777216 * e .kind + 256 * e .language + e .index
+
+-- what the one pass over the contents tells
+pub record Outlines (limits : Limits) (set : List ℕ) (o : Outline) : Type 0 where
+  pub good : o .good ≡ goodContents limits set
+  pub devices : o .good ≡ true → o .devices ≡ length (entriesOf 1 set)
+  pub configurations : o .good ≡ true → o .configurations ≡ length (entriesOf 2 set)
+
+-- the one device entry, beside the number of configurations
+abbrev pub goodDeviceEntry : Limits → List ℕ → Entry → ℕ → Bool
+goodDeviceEntry limits set e configurations = hasIndex 0 (pieceFor set e) && hasNoLanguage (pieceFor set e) && goodDevice limits configurations (bodyOf set e)
 
 -- a configuration entry with index n, its body, and whether its value was there before
 abbrev pub goodNumbered : Limits → Entry → ℕ → List ℕ → Bool → Bool
@@ -82,8 +102,18 @@ pub record Begins (limits : Limits) (set : List ℕ) : Type 0 where
   pub contents : goodContents limits set ≡ true
   pub devices : goodDevices limits (piecesIn set) ≡ true
 
--- what is read and walked through before groups 4 to 6 are asked: the strings, and the configurations with their references
-pub record Ready (set names : List ℕ) (good : Bool) (configurations : Verdict) : Type 0 where
+-- and what is known then: how many configurations there are, where the device descriptor lies, and that there is no string
+pub record Starts (limits : Limits) (set : List ℕ) (b : Begun) : Type 0 where
+  pub met : Begins limits set
+  pub configurations : b .configurations ≡ length (entriesOf 2 set)
+  pub whole : b .device + 18 ≤ length set
+  pub device : part set (b .device) 18 ≡ deviceBody set
+  pub bare : b .bare ≡ true → entriesOf 3 set ≡ []
+
+-- what is read and walked through before groups 4 to 6 are asked: the strings, and the configurations with their references; and where the device descriptor lies
+pub record Ready (set names : List ℕ) (good : Bool) (configurations : Verdict) (device : ℕ) : Type 0 where
+  pub whole : device + 18 ≤ length set
+  pub described : part set device 18 ≡ deviceBody set
   pub entries : good ≡ goodListed set (languages set)
   pub named : good ≡ true → (j : ℕ) → j < 256 → has names j ≡ mayName set (languages set) j
   pub told : configurations .good ≡ true → configurations .refers ≡ every (configurationRefers names) (bodies 2 set)

@@ -2,6 +2,8 @@
 use crate::Entry;
 use crate::EntryFound;
 use crate::contents::body_of;
+use crate::contents::body_whole;
+use crate::contents::entry_whole;
 use crate::contents::entry_at;
 use crate::contents::entry_of;
 use descriptors::ConfigurationIndex;
@@ -12,6 +14,7 @@ use descriptors::types::CONFIGURATION;
 use octets::table::holds;
 use octets::table::join;
 ghost use mathlib.Core.Path.{_≡_};
+ghost use lib.ListN.{length};
 ghost use Rattle.octets.specs.Sentences.{first, any, every};
 ghost use Rattle.descriptors.specs.Check.{verdict, configurationRefers};
 ghost use Rattle.sets.specs.Contents.{entries, entriesOf, bodies};
@@ -19,7 +22,7 @@ ghost use Rattle.sets.specs.Pieces.{piecesIn};
 ghost use Rattle.sets.specs.Found.{found, valued, canWake};
 ghost use Rattle.sets.specs.Opening.{goodConfigurations};
 ghost use Rattle.sets.specs.View.{entryByIndex};
-ghost use Rattle.sets.specs.Checks.{goodNumbered};
+ghost use Rattle.sets.specs.Checks.{goodNumbered, Begins};
 
 // A configuration entry: the index that it has to have, its body, and whether its value was there before.
 fn good_configuration_entry(
@@ -44,21 +47,21 @@ fn good_configuration_entry(
     }
 }
 
-// Group 4, and whether every reference of the configurations is in `names`: a pass over the entries, with the index that is next and
+// Group 4, and whether every reference of the configurations is in `names`: a pass over so many of them, with the index that is next and
 // the values that were there.
-pub fn good_configurations(set: &[u8], limits: Limits, names: &[u32; 8]) -> Verdict
+pub fn good_configurations(set: &[u8], limits: Limits, names: &[u32; 8], many: u8) -> Verdict
+    requires { ⌜ Begins limits (now set) × (many ≡ length (entriesOf 2 (now set))) ⌝ }
     ensures { λ r. ⌜ r ≡ verdict (goodConfigurations limits (piecesIn (now (set .entry)))) (every (configurationRefers (now (names .entry))) (bodies 2 (now (set .entry)))) ⌝ }
 {
-    let count = octets::peek(set, 2);
     let mut index: u8 = 0;
     let mut seen = [0u32; 8];
     let mut refers = true;
     let mut i: u8 = 0;
-    while i < count {
-        let e = entry_at(set, i);
+    while index < many {
+        let e = entry_whole(set, i);
         i += 1;
         if e.kind == CONFIGURATION {
-            let body = body_of(set, e);
+            let body = body_whole(set, e);
             let value = octets::peek(body, 5);
             let again = holds(&seen, value);
             let verdict = good_configuration_entry(e, index, body, again, limits, names);

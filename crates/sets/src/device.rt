@@ -1,30 +1,37 @@
 // The device descriptor and the serial block. Groups 3 and 6.
+use crate::Entry;
 use crate::EntryFound;
 use crate::capabilities::good_capabilities;
 use crate::contents::body_of;
-use crate::contents::count_whole;
+use crate::contents::body_whole;
 use crate::contents::entry_of;
 use descriptors::limits::Limits;
-use descriptors::types::CONFIGURATION;
 use descriptors::types::DEVICE;
 use descriptors::types::STRING;
 use octets::table::holds;
 ghost use mathlib.Core.Path.{_≡_};
-ghost use Prim.Native.Nat.{_≤_};
-ghost use lib.ListN.{length};
-ghost use Rattle.sets.specs.Contents.{bodiesAt};
+ghost use mathlib.Core.Bool.{_&&_};
+ghost use Prim.Native.Nat.{_+_, _≤_};
+ghost use lib.ListN.{length, getElem?};
+ghost use lib.Dec.{eqb};
+ghost use Rattle.octets.specs.Sentences.{pick};
+ghost use Rattle.sets.specs.declared.EntryFound.the-variants.{Nothing};
+ghost use Rattle.sets.specs.Contents.{entriesOf};
 ghost use Rattle.sets.specs.Pieces.{piecesIn};
 ghost use Rattle.sets.specs.Device.{goodDevice, deviceBody, iSerialNumber};
-ghost use Rattle.sets.specs.Opening.{oneDevice, goodDevices, goodSerial};
-ghost use Rattle.sets.specs.Checks.{deviceRefers};
+ghost use Rattle.sets.specs.Opening.{oneStore, goodSerial};
+ghost use Rattle.sets.specs.Found.{found};
+ghost use Rattle.sets.specs.Checks.{goodDeviceEntry, deviceRefers};
 
 // The device descriptor, beside the number of type 2 entries.
 fn good_device(body: &[u8], configurations: u8, limits: Limits) -> bool
     ensures { λ r. ⌜ r ≡ goodDevice limits configurations (now (body .entry)) ⌝ }
 {
+    if body.len() != 18 {
+        return false;
+    }
     let listed = octets::peek(body, 17);
-    (body.len() == 18)
-        & (octets::peek(body, 0) == 18)
+    (octets::peek(body, 0) == 18)
         & (octets::peek(body, 1) == DEVICE)
         & descriptors::limits::is_doubled(limits.control, octets::peek(body, 7) as u16)
         & (!(octets::peek(body, 4) == 0) | (octets::peek(body, 5) == 0))
@@ -43,30 +50,25 @@ pub fn device_body(set: &[u8]) -> &[u8]
     }
 }
 
-fn good_device_entries(set: &[u8], limits: Limits) -> bool
-    requires { ⌜ bodiesAt (now set) ≤ length (now set) ⌝ }
-    ensures { λ r. ⌜ r ≡ oneDevice limits (piecesIn (now (set .entry))) ⌝ }
+// The device entry, where there is one alone.
+pub fn sole_entry(set: &[u8], devices: u8) -> EntryFound
+    ensures { λ r. ⌜ r ≡ pick (eqb devices 1) (found (getElem? (entriesOf 1 (now (set .entry))) 0)) Nothing ⌝ }
 {
-    if count_whole(set, DEVICE) != 1 {
-        return false;
+    if devices == 1 {
+        return entry_of(set, DEVICE, 0);
     }
-    match entry_of(set, DEVICE, 0) {
-        EntryFound::At(e) => {
-            let configurations = count_whole(set, CONFIGURATION);
-            (e.index == 0)
-                & (e.language == 0)
-                & good_device(body_of(set, e), configurations, limits)
-        }
-        EntryFound::Nothing => false,
-    }
+    EntryFound::Nothing
 }
 
-// Group 3, once the contents are whole.
-pub fn good_devices(set: &[u8], limits: Limits) -> bool
-    requires { ⌜ bodiesAt (now set) ≤ length (now set) ⌝ }
-    ensures { λ r. ⌜ r ≡ goodDevices limits (piecesIn (now (set .entry))) ⌝ }
+// Group 3, of the device entry and so many configurations, once the contents are good.
+pub fn good_devices(set: &[u8], e: Entry, configurations: u8, limits: Limits) -> bool
+    requires { ⌜ e .offset + e .length ≤ length (now set) ⌝ }
+    ensures { λ r. ⌜ r ≡ (oneStore limits (piecesIn (now (set .entry))) && goodDeviceEntry limits (now (set .entry)) e configurations) ⌝ }
 {
-    good_capabilities(set, limits) & good_device_entries(set, limits)
+    good_capabilities(set, limits)
+        & ((e.index == 0)
+            & (e.language == 0)
+            & good_device(body_whole(set, e), configurations, limits))
 }
 
 // The index of the serial number's string, 0 where there is none.
@@ -77,10 +79,9 @@ pub fn serial_index(set: &[u8]) -> u8
 }
 
 // Whether the device's three string references are in `names`.
-pub fn device_refers(set: &[u8], names: &[u32; 8]) -> bool
-    ensures { λ r. ⌜ r ≡ deviceRefers (now (names .entry)) (deviceBody (now (set .entry))) ⌝ }
+pub fn device_refers(device: &[u8], names: &[u32; 8]) -> bool
+    ensures { λ r. ⌜ r ≡ deviceRefers (now (names .entry)) (now (device .entry)) ⌝ }
 {
-    let device = device_body(set);
     holds(names, octets::peek(device, 14))
         & holds(names, octets::peek(device, 15))
         & holds(names, octets::peek(device, 16))

@@ -6,7 +6,6 @@ use crate::contents::count_of;
 use crate::contents::entry_at;
 use crate::contents::entry_whole;
 use crate::contents::find_entry;
-use crate::device::device_refers;
 use crate::device::serial_index;
 use descriptors::types::STRING;
 use octets::table::holds;
@@ -18,9 +17,9 @@ ghost use lib.ListN.{drop, getD};
 ghost use lib.Dec.{eqb, ltb};
 ghost use Rattle.octets.specs.Sentences.{pick, any, every, member};
 ghost use Rattle.sets.specs.Pieces.{pieceWith, piecesIn, piecesOf};
-ghost use Rattle.sets.specs.Strings.{words, isString, isStringZero, goodString, languageZero, notSerial, goodLanguages, languages, inEvery, goodReference, goodStrings};
+ghost use Rattle.sets.specs.Strings.{words, isString, isStringZero, goodString, languageZero, notSerial, goodLanguages, languages, inEvery, goodReference};
 ghost use Rattle.octets.specs.Table.{has, with};
-ghost use Rattle.sets.specs.Checks.{goodStringPiece, goodListed, mayName, noNames, Ordered, Ascend, Reads, Read};
+ghost use Rattle.sets.specs.Checks.{goodStringPiece, goodListed, mayName, noNames, Ordered, Ascend, Reads};
 
 // String 0 lists one to four languages, nonzero and ascending.
 fn good_languages(body: &[u8]) -> bool
@@ -160,6 +159,14 @@ fn close(names: &mut [u32; 8], more: bool, serial: u8)
     join(names, 0);
 }
 
+// Where there is no string, a reference may be 0 alone.
+pub fn name_none(names: &mut [u32; 8])
+    ensures { λ _. ⌜ now (names .exit) ≡ with noNames 0 ⌝ }
+{
+    *names = [0u32; 8];
+    join(names, 0);
+}
+
 // The string entries, where string 0 lists good languages: whether they are good, and then what a reference may be. One pass, since the entries ascend by language and
 // so do the languages: `table` has the indices that every language before this one has, `names` those of them that were seen in this one.
 fn read_listed(set: &[u8], languages: &[u8], serial: u8, names: &mut [u32; 8]) -> bool
@@ -204,8 +211,7 @@ fn read_entries(set: &[u8], languages: &[u8], names: &mut [u32; 8]) -> bool
     if good_languages(languages) {
         return read_listed(set, languages, serial_index(set), names);
     }
-    *names = [0u32; 8];
-    join(names, 0);
+    name_none(names);
     count_of(set, STRING) == 0
 }
 
@@ -217,15 +223,7 @@ pub fn read(set: &[u8], languages: &[u8], names: &mut [u32; 8]) -> bool
     if read_entries(set, languages, names) {
         return true;
     }
-    *names = [0u32; 8];
-    join(names, 0);
+    name_none(names);
     false
 }
 
-// Group 5, once the strings are read and it is known whether the references of the configurations are in `names`.
-pub fn good_strings(set: &[u8], good: bool, names: &[u32; 8], refer: bool) -> bool
-    requires { ⌜ Read (now set) (now names) refer good ⌝ }
-    ensures { λ r. ⌜ r ≡ goodStrings (piecesIn (now (set .entry))) ⌝ }
-{
-    refer & device_refers(set, names) & good
-}

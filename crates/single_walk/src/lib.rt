@@ -10,18 +10,20 @@ use descriptors::limits::Limits;
 use descriptors::survey::Asked;
 use events::Event;
 use events::reaction::Reaction;
+use sets::opening::Begun;
 use sets::opening::DONE;
 use steps::facts;
 use steps::facts::Selected;
 ghost use mathlib.Core.Path.{_≡_};
-ghost use mathlib.Core.List.{List};
+ghost use mathlib.Core.List.{List, []};
 ghost use mathlib.Core.Bool.{false, true};
 ghost use Prim.Native.Nat.{ℕ};
 ghost use lib.Dec.{eqb};
 ghost use Rattle.octets.specs.Sentences.{pick};
 ghost use Rattle.descriptors.specs.declared.limits.Limits.{Limits};
 ghost use Rattle.descriptors.specs.Limits.{pairedFull, highSpeed};
-ghost use Rattle.sets.specs.Checks.{Ordered, Reads, Begins, Ready};
+ghost use Rattle.sets.specs.Checks.{Ordered, Reads, Begins, Starts, Ready};
+ghost use Rattle.sets.specs.Contents.{entriesOf};
 ghost use Rattle.sets.specs.Pieces.{piecesIn};
 ghost use Rattle.sets.specs.Strings.{languages};
 ghost use Rattle.sets.specs.Opening.{lent, goodConfigurations, opening};
@@ -48,25 +50,36 @@ fn refuses(number: u8) -> Opened
 }
 
 // The parts of opening around the configurations, each a function of its own, as in sets::opening::opening, so that what they are lent shares its place on the stack.
-fn begin(set: &[u8], limits: Limits) -> u8
-    ensures { λ r. ⌜ (r ≡ 0 → Begins limits (now (set .entry))) × ((r ≡ 0 → ⊥) → (serial : List ℕ) → r ≡ opening limits (lent (now (set .entry)) serial)) ⌝ }
+fn begin(set: &[u8], limits: Limits) -> Begun
+    ensures { λ r. ⌜ (r .number ≡ 0 → Starts limits (now (set .entry)) r) × ((r .number ≡ 0 → ⊥) → (serial : List ℕ) → r .number ≡ opening limits (lent (now (set .entry)) serial)) ⌝ }
 {
     sets::opening::first_groups(set, limits)
 }
 
-fn read_strings(set: &[u8], names: &mut [u32; 8]) -> bool
-    requires { ⌜ Ordered (now set) ⌝ }
+fn read_strings(set: &[u8], bare: bool, names: &mut [u32; 8]) -> bool
+    requires { ⌜ Ordered (now set) × (bare ≡ true → entriesOf 3 (now set) ≡ []) ⌝ }
     ensures { λ r. ⌜ Reads (now (set .entry)) (languages (now (set .entry))) r (now (names .exit)) ⌝ }
 {
+    if bare {
+        sets::string::name_none(names);
+        return true;
+    }
     sets::string::read(set, sets::string::string_zero(set), names)
 }
 
-fn finish(set: &[u8], serial: &[u8], configurations: Verdict, strings: bool, names: &[u32; 8]) -> u8
-    requires { ⌜ Ready (now set) (now names) strings configurations ⌝ }
+fn finish(
+    set: &[u8],
+    serial: &[u8],
+    configurations: Verdict,
+    strings: bool,
+    names: &[u32; 8],
+    device: u16,
+) -> u8
+    requires { ⌜ Ready (now set) (now names) strings configurations device ⌝ }
     ensures { λ r. ⌜ ((limits : Limits) → Begins limits (now (set .entry)) → configurations .good ≡ goodConfigurations limits (piecesIn (now (set .entry)))
         → r ≡ opening limits (lent (now (set .entry)) (now (serial .entry)))) ⌝ }
 {
-    sets::opening::last_groups(set, serial, configurations, strings, names)
+    sets::opening::last_groups(set, serial, configurations, strings, names, device)
 }
 
 // Opening by these limits, at full or at high speed, with what is asked of the configuration that has this value, at these alternate settings.
@@ -82,17 +95,17 @@ pub fn open_set(
     requires { ⌜ AtSpeed limits high ⌝ }
     ensures { λ r. ⌜ Tells (opening limits (lent (now (set .entry)) (now (serial .entry)))) (now (set .entry)) (value .0) (now (alternates .entry)) asked r ⌝ }
 {
-    let first = begin(set, limits);
-    if first != DONE {
-        return refuses(first);
+    let begun = begin(set, limits);
+    if begun.number != DONE {
+        return refuses(begun.number);
     }
     let mut names = [0u32; 8];
-    let strings = read_strings(set, &mut names);
+    let strings = read_strings(set, begun.bare, &mut names);
     let passed = pass::configurations(set, limits, high, &names, value, alternates, asked);
     let verdict = passed.verdict;
     let known = passed.known;
     Opened {
-        number: finish(set, serial, verdict, strings, &names),
+        number: finish(set, serial, verdict, strings, &names, begun.device),
         known,
     }
 }

@@ -10,28 +10,29 @@ use Rattle.single_walk.proofs.open_set.Tie as tie
 
 returns : tie.Need-returns
 returns c = record {
-  number = c .refuses .ensures ∙ c .before .before .begin .ensures .1 (c .before .if1 .taken) (c .before .before .before .before .before .args .serial .now);
+  number = c .refuses .ensures ∙ c .before .before .before .begin .ensures .1 (c .before .if1 .taken) (c .before .before .before .before .before .before .args .serial .now);
   known = λ z. absurd (c .before .if1 .taken (sym (c .refuses .ensures) ∙ z));
 }
 
 read-strings-requires : tie.Need-read-strings-requires
-read-strings-requires c κs = let b = c .before .before .begin .ensures .0 (c .before .if1 .left) in ordered _ _ (b .frame) (b .contents)
+read-strings-requires c κs = let b = c .before .before .before .begin .ensures .0 (c .before .if1 .left) in (ordered _ _ (b .met .frame) (b .met .contents), b .bare)
 
 configurations-requires : tie.Need-configurations-requires
-configurations-requires c κs = (c .before .before .before .before .before .before .before .pre, c .before .read-strings .ensures .zero)
+configurations-requires c κs = (c .before .before .before .before .before .before .before .before .pre, c .before .read-strings .ensures .zero)
 
 finish-requires : tie.Need-finish-requires
 finish-requires c κs =
     let v = c .before .before .before .configurations in
     let r = c .before .before .before .before .before .read-strings .ensures in
-    record { entries = r .entries; named = r .named; told = λ good. told (v .result .verdict) _ _ (v .ensures .verdict) good }
+    let b = c .before .before .before .before .before .before .before .before .before .begin .ensures .0 (c .before .before .before .before .before .before .before .if1 .left) in
+    record { whole = b .whole; described = b .device; entries = r .entries; named = r .named; told = λ good. told (v .result .verdict) _ _ (v .ensures .verdict) good }
 
 returns-2 : tie.Need-returns-2
 returns-2 c =
-    let a = c .before .before .before .before .before .before .before .before .before .before .before .before .args in
+    let a = c .before .before .before .before .before .before .before .before .before .before .before .before .before .args in
     let v = c .before .before .before .before .configurations in
     let good = ap (λ v. v .good) (v .ensures .verdict) in
-    let number = c .finish .ensures (a .limits) (c .before .before .before .before .before .before .before .before .before .begin .ensures .0 (c .before .before .before .before .before .before .before .before .if1 .left)) good in
+    let number = c .finish .ensures (a .limits) (c .before .before .before .before .before .before .before .before .before .before .begin .ensures .0 (c .before .before .before .before .before .before .before .before .if1 .left) .met) good in
     record {
       number = number;
       known = λ z. v .ensures .known (good ∙ groups (a .limits) (lent (a .set .now) (a .serial .now)) (sym number ∙ z) .configurations);

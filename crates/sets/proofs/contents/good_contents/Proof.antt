@@ -1,58 +1,79 @@
--- `sets::contents::good_contents` meets its contract: the entries passed are good, and what is asked of all is asked of those left. No axiom.
-use Prim.Native.Nat.{_+_, _-_, _*_, _≤_}
+-- `sets::contents::good_contents` meets its contract: the entries passed are good and counted, and what is asked of all is asked of those left. No axiom.
+use Prim.Native.Nat.{_-_}
 use native.Mathlib.Omega.{arith}
 use mathlib.Core.Bool.{true}
-use mathlib.Core.Path.{_≡_, sym, ap, _∙_}
+use mathlib.Core.Path.{_≡_, refl, sym, ap, _∙_}
 use lib.Dec.{eqb}
 use borrow.Author.Needs.{needs}
 use borrow.Author.Tests.{not-true, not-false}
+use Rattle.octets.proofs.Sentences.{never}
 use Rattle.sets.specs.Contents.{total, goodContents}
-use Rattle.sets.proofs.Entries.{rest, rest-start, asked-next, asked-end, contentsFrom, contents-all, contents-turn, contents-more, contents-end}
+use Rattle.sets.proofs.Entries.{rest-start, no-entry, contentsFrom, contents-all, contents-end, counts-start, counts-end, Outlined, outline-not, outline-on}
 use Rattle.sets.proofs.contents.good_contents.Statement.{statement}
 use Rattle.sets.proofs.contents.good_contents.Tie as tie
 
 abbrev Inv-loop : tie.InvT-loop
-Inv-loop set limits count start₀ last₀ i₀ start last i = (start ≤ 2044 + 65535 * i) × (goodContents limits set ≡ contentsFrom limits (total set) (eqb i 0) last start (rest set i))
+Inv-loop set limits count start₀ last₀ devices₀ configurations₀ i₀ start last devices configurations i = Outlined limits set start last devices configurations i
 
 abbrev μ-loop : tie.MeasureT-loop
-μ-loop set limits count start₀ last₀ i₀ start last i = count - i
+μ-loop set limits count start₀ last₀ devices₀ configurations₀ i₀ start last devices configurations i = count - i
 
 loop-holds : tie.Need-loop-holds Inv-loop μ-loop
 unfolding goodContents
 loop-holds c =
-    let a = c .before .before .args in (
-      omega arith,
-      rw (c .peek .ensures)
-          (sym (contents-all (a .limits) (total (a .set .now)) _ _ _)
-          ∙ ap (contentsFrom (a .limits) (total (a .set .now)) true _ _) (rest-start (a .set .now))),
-    )
+    let a = c .before .before .args in
+    let set = a .set .now in
+    record {
+      last = record { kind = 0; index = 0; language = 0; offset = 0; length = 0 };
+      language = omega arith;
+      index = omega arith;
+      ranked = refl;
+      bound = omega arith;
+      few = omega arith;
+      fewer = omega arith;
+      good = rw (c .peek .ensures)
+          (sym (contents-all (a .limits) (total set) _ _ _) ∙ ap (contentsFrom (a .limits) (total set) true _ _) (rest-start set));
+      one = counts-start 1 set;
+      two = counts-start 2 set;
+    }
 
 returns : tie.Need-returns Inv-loop μ-loop
 returns c =
-    let s = c .before .before in
+    let s = c .before .before .before .before in
     let a = s .before .before .before .before .before .args in
     let l = s .before .before .loop in
-    sym
-    (asked-next (contentsFrom (a .limits) (total (a .set .now)) (eqb (l .i) 0) (l .last) (l .start)) (a .set .now) _ (s .before .before .before .peek .ensures) (l .i) (l .inv .1) (s .before .loop-test .taken) _ (s .entry-whole .ensures)
-    ∙ contents-more (a .limits) (total (a .set .now)) _ _ _ _ _
-    ∙ rw (← c .before .good-entry .ensures, not-true (c .before .good-entry .result) (c .if1 .taken)))
+    let g = c .before .before .good-entry in
+    let no = not-true (g .result) (c .before .if1 .taken) in
+    record {
+      good = c .unordered .ensures
+          ∙ outline-not (a .limits) (a .set .now) (l .i) (l .inv) _ (s .before .before .before .peek .ensures) (s .before .loop-test .taken) (s .entry-whole .result) (s .entry-whole .ensures) (search needs) (search needs)
+          (rw (← c .before .before .before .rank .ensures) (sym (g .ensures) ∙ no));
+      devices = λ t. never t (c .unordered .ensures);
+      configurations = λ t. never t (c .unordered .ensures);
+    }
 
 loop-again : tie.Need-loop-again Inv-loop μ-loop
 loop-again c =
-    let s = c .before .before .before in
+    let s = c .before .before .before .before .before .before .before .before in
     let a = s .before .before .before .before .before .args in
-    let l = s .before .before .loop in (
-      omega arith,
-      asked-next (contentsFrom (a .limits) (total (a .set .now)) (eqb (l .i) 0) (l .last) (l .start)) (a .set .now) _ (s .before .before .before .peek .ensures) (l .i) (l .inv .1) (s .before .loop-test .taken) _ (s .entry-whole .ensures)
-          ∙ contents-turn (a .limits) (total (a .set .now)) (l .i) (l .last) (l .start) (s .entry-whole .result) _
-          (rw (c .before .before .good-entry .ensures) at (not-false (c .before .before .good-entry .result) (c .before .if1 .left))),
-    )
+    let l = s .before .before .loop in
+    let g = c .before .before .before .before .before .before .good-entry in
+    rw (c .counted2 .ensures, c .before .before .counted .ensures, c .before .before .before .before .before .before .before .rank .ensures)
+    (outline-on (a .limits) (a .set .now) (l .i) (l .inv) _ (s .before .before .before .peek .ensures) (s .before .loop-test .taken) (s .entry-whole .result) (s .entry-whole .ensures) (search needs) (search needs)
+    (rw (← c .before .before .before .before .before .before .before .rank .ensures) (sym (g .ensures) ∙ not-false (g .result) (c .before .before .before .before .before .if1 .left))) (omega arith))
 
 returns-2 : tie.Need-returns-2 Inv-loop μ-loop
 returns-2 c =
     let a = c .before .before .before .before .before .args in
+    let set = a .set .now in
     let l = c .before .before .loop in
-    rw (c .word .ensures) (sym (asked-end (contentsFrom (a .limits) (total (a .set .now)) (eqb (l .i) 0) (l .last) (l .start)) (a .set .now) _ (c .before .before .before .peek .ensures) (l .i) (l .inv .1) (c .before .loop-test .left) ∙ contents-end (a .limits) (total (a .set .now)) _ _ _))
+    let n = c .before .before .before .peek .ensures in
+    record {
+      good = rw (c .word .ensures)
+          (sym (l .inv .good ∙ ap (contentsFrom (a .limits) (total set) (eqb (l .i) 0) (l .inv .last) (l .start)) (no-entry set _ n (l .i) (c .before .loop-test .left)) ∙ contents-end (a .limits) (total set) _ _ _));
+      devices = λ _. counts-end 1 (l .devices) set _ n (l .i) (l .inv .one) (c .before .loop-test .left);
+      configurations = λ _. counts-end 2 (l .configurations) set _ n (l .i) (l .inv .two) (c .before .loop-test .left);
+    }
 
 pub good-contents-spec : {M : Type 1} → statement M
 good-contents-spec =
@@ -67,9 +88,13 @@ good-contents-spec =
     loop-holds
     (λ c κs. search needs)
     (λ c κs. search needs)
+    (λ c κs. search needs)
+    (λ c κs. search needs)
     returns
     (λ c. search needs)
     (λ c. search needs)
+    (λ c κs. search needs)
+    (λ c κs. search needs)
     (λ c. search needs)
     (λ c. search needs)
     loop-again

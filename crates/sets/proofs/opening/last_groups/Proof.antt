@@ -1,6 +1,7 @@
 -- `sets::opening::last_groups` meets its contract: group after group, behind the first three. No axiom.
 use Prim.Native.Nat.{ℕ}
-use mathlib.Core.Bool.{Bool, true, not}
+use native.Mathlib.Nat.{add-sub-cancel-left}
+use mathlib.Core.Bool.{Bool, true, _&&_, not}
 use mathlib.Core.List.{List}
 use mathlib.Core.Path.{_≡_, sym, _∙_}
 use borrow.Author.Needs.{needs}
@@ -11,6 +12,7 @@ use Rattle.sets.specs.Opening.{lent, goodConfigurations, goodBlock, open
 use Rattle.sets.specs.Pieces.{piecesIn}
 use Rattle.sets.specs.Strings.{goodStrings}
 use Rattle.sets.specs.Checks.{Begins}
+use Rattle.sets.proofs.GoodStrings.{strings-told}
 use Rattle.sets.proofs.opening.last_groups.Statement.{statement}
 use Rattle.sets.proofs.opening.last_groups.Tie as tie
 
@@ -30,32 +32,36 @@ module _ (limits : Limits) (set serial : List ℕ) (b : Begins limits set) where
     sixth s p = rw (b .frame, b .contents, b .devices, g, s, p)
 
 returns : tie.Need-returns
-returns c = λ limits b g. fourth limits (c .before .before .before .before .args .set .now) (c .before .before .before .before .args .serial .now) b (sym g ∙ not-true _ (c .if1 .taken))
+returns c = λ limits b g. fourth limits (c .before .before .before .before .before .args .set .now) (c .before .before .before .before .before .args .serial .now) b (sym g ∙ not-true _ (c .if1 .taken))
 
-good-strings-requires : tie.Need-good-strings-requires
-good-strings-requires c κs = let r = c .before .before .before .before .pre in
-    record {
+-- what is asked of the strings and the references together
+strings : (c : tie.After-device-refers) → let a = c .before .before .before .before .before .before .args in (a .configurations .refers && c .device-refers .result && a .good) ≡ goodStrings (piecesIn (a .set .now))
+strings c =
+    let a = c .before .before .before .before .before .before .args in
+    let r = c .before .before .before .before .before .before .pre in
+    rw (c .device-refers .ensures, add-sub-cancel-left, r .described)
+    (strings-told (a .set .now) (λ k. c .before .before .before .before .before .shared-slice-known .given k .fits) (a .names .now) (a .configurations .refers) (a .good) (record {
       entries = r .entries;
       named = r .named;
-      told = r .told (not-false _ (c .if1 .left));
-    }
+      told = r .told (not-false _ (c .before .if1 .left));
+    }))
 
 returns-2 : tie.Need-returns-2
 returns-2 c =
-    λ limits b g. fifth limits (c .before .before .before .before .before .before .args .set .now) (c .before .before .before .before .before .before .args .serial .now) b (sym g ∙ not-false _ (c .before .before .if1 .left))
-    (sym (c .before .good-strings .ensures) ∙ not-true (c .before .good-strings .result) (c .if2 .taken))
+    λ limits b g. fifth limits (c .before .before .before .before .before .before .before .before .args .set .now) (c .before .before .before .before .before .before .before .before .args .serial .now) b (sym g ∙ not-false _ (c .before .before .before .if1 .left))
+    (sym (strings (c .before .before)) ∙ not-true _ (c .if2 .taken))
 
-block : (c : tie.After-good-serial) → goodBlock (piecesIn (c .before .before .before .before .before .before .before .before .args .set .now)) (c .before .before .before .before .before .before .before .before .args .serial .now) ≡ c .good-serial .result
+block : (c : tie.After-good-serial) → goodBlock (piecesIn (c .before .before .before .before .before .before .before .before .before .before .args .set .now)) (c .before .before .before .before .before .before .before .before .before .before .args .serial .now) ≡ c .good-serial .result
 unfolding goodBlock
-block c = sym (rw (c .before .serial-index .ensures) at (c .good-serial .ensures))
+block c = sym (rw (c .before .peek .ensures, add-sub-cancel-left, c .before .before .before .before .before .before .before .before .before .before .pre .described) at (c .good-serial .ensures))
 
 -- all but the serial block is good
-met : (c : tie.After-good-serial) (limits : Limits) {x : Bool} → let a = c .before .before .before .before .before .before .before .before .args in
+met : (c : tie.After-good-serial) (limits : Limits) {x : Bool} → let a = c .before .before .before .before .before .before .before .before .before .before .args in
     Begins limits (a .set .now) → a .configurations .good ≡ goodConfigurations limits (piecesIn (a .set .now)) → c .good-serial .result ≡ x
     → pick (not x) 6 0 ≡ opening limits (lent (a .set .now) (a .serial .now))
 met c limits b g p =
-    sixth limits (c .before .before .before .before .before .before .before .before .args .set .now) (c .before .before .before .before .before .before .before .before .args .serial .now) b (sym g ∙ not-false _ (c .before .before .before .before .if1 .left))
-    (sym (c .before .before .before .good-strings .ensures) ∙ not-false (c .before .before .before .good-strings .result) (c .before .before .if2 .left)) (block c ∙ p)
+    sixth limits (c .before .before .before .before .before .before .before .before .before .before .args .set .now) (c .before .before .before .before .before .before .before .before .before .before .args .serial .now) b (sym g ∙ not-false _ (c .before .before .before .before .before .if1 .left))
+    (sym (strings (c .before .before .before .before)) ∙ not-false _ (c .before .before .if2 .left)) (block c ∙ p)
 
 returns-3 : tie.Need-returns-3
 returns-3 c = λ limits b g. met (c .before) limits b g (not-true (c .before .good-serial .result) (c .if3 .taken))
@@ -67,8 +73,12 @@ pub last-groups-spec : {M : Type 1} → statement M
 last-groups-spec =
     tie.close
     (tie.spec
+    (λ c. search needs)
+    (λ c. search needs)
+    (λ c. search needs)
+    (λ c. search needs)
     returns
-    good-strings-requires
+    (λ c κs. search needs)
     returns-2
     (λ c κs. search needs)
     (λ c κs. search needs)

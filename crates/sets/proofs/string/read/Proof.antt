@@ -37,9 +37,9 @@ returns c =
 
 returns-2 : tie.Need-returns-2
 returns-2 c = record {
-  entries = sym (c .before .before .before .if1 .left) ∙ c .before .before .before .before .read-entries .ensures .0;
+  entries = sym (c .before .before .if1 .left) ∙ c .before .before .before .read-entries .ensures .0;
   named = λ g. absurd (false≢true g);
-  zero = rw (c .join .ensures) (with-none 0);
+  zero = rw (c .name-none .ensures) (with-none 0);
 }
 
 pub read-spec : {M : Type 1} → statement M

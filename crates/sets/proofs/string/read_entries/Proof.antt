@@ -19,9 +19,9 @@ returns c =
 
 returns-2 : tie.Need-returns-2
 returns-2 c =
-    let g = sym (c .before .before .before .before .before .good-languages .ensures) ∙ c .before .before .before .before .if1 .left in (
-      rw (g, c .count-of .ensures) (none-of (c .before .before .before .before .before .before .before .before .args .set .now) 3),
-      λ p j q. rw (g, c .before .join .ensures) (with-none j),
+    let g = sym (c .before .before .before .before .good-languages .ensures) ∙ c .before .before .before .if1 .left in (
+      rw (g, c .count-of .ensures) (none-of (c .before .before .before .before .before .before .before .args .set .now) 3),
+      λ p j q. rw (g, c .before .name-none .ensures) (with-none j),
     )
 
 pub read-entries-spec : {M : Type 1} → statement M
