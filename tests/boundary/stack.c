@@ -13,25 +13,25 @@
 
 #include "heideklonk.h"
 
-/* Of a board that lends one set, and of one that lends two: on x86-64 what is reached, and a little room (of the pipe, hk_setup's and a hundred); on a board's processor
- * what every call of a board must keep. */
+/* Of a board that lends one set, and of one that lends two; of the second way to answer; of the pipe, and of its events that open no set: on x86-64 what is reached, and a
+ * little room; on a board's processor what every call of a board must keep. */
 #ifdef __x86_64__
-#define MOST 768
-#define MOST_OF_TWO 864
-#define MOST_OF_PIPE 777
-#define MOST_OF_TWO_PIPE 1008
-#define MOST_OF_TWO_PACKET 608
+#define MOST 648
+#define MOST_OF_TWO 808
+#define MOST_OF_TABLE 984
+#define MOST_OF_PIPE 680
+#define MOST_OF_PACKET 432
+#define MOST_OF_TWO_PIPE 888
+#define MOST_OF_TWO_PACKET 496
 #else
 #define MOST 1024
 #define MOST_OF_TWO 1024
+#define MOST_OF_TABLE 1024
 #define MOST_OF_PIPE 1024
+#define MOST_OF_PACKET 512
 #define MOST_OF_TWO_PIPE 1024
 #define MOST_OF_TWO_PACKET MOST_OF_PACKET
 #endif
-/* Of the second way to answer, with one set lent and with two. */
-#define MOST_OF_TABLE 1024
-/* Of the pipe's events that open no set, with one set lent and with two. */
-#define MOST_OF_PACKET 512
 /* hk_trim keeps the first bytes of the set aside, as many as 64 entries have: it may take these besides. */
 #define ASIDE 516
 #define STACK_LENGTH 16384

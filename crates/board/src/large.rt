@@ -12,10 +12,7 @@ fn happen(set: &[u8], serial: &[u8], image: &mut [u8], what: Event) -> Answer
     ensures answer { λ r. ⌜ r ≡ event (lent (now (set .entry)) (now (serial .entry))) (now (image .entry)) what .answer ⌝ }
     ensures image { λ _. ⌜ now (image .exit) ≡ event (lent (now (set .entry)) (now (serial .entry))) (now (image .entry)) what .image ⌝ }
 {
-    let reaction = single_walk::react(set, serial, image, what);
-    let change = reaction.next;
-    records::renewal::renew(image, reaction.settles, change);
-    reaction.answer
+    single_walk::react(set, serial, image, what)
 }
 
 // The same on a board that lends two.
@@ -30,10 +27,7 @@ fn happen_two<'a>(
     ensures image { λ _. ⌜ now (image .exit) ≡ event (lentTwo (now (full .entry)) (now (high .entry)) (now (serial .entry))) (now (image .entry)) what .image ⌝ }
 {
     let speed = octets::peek(image, 7);
-    let reaction = single_walk::react_two(full, high, serial, speed, image, what);
-    let change = reaction.next;
-    records::renewal::renew(image, reaction.settles, change);
-    reaction.answer
+    single_walk::react_two(full, high, serial, speed, image, what)
 }
 
 // Any event, by its number: its number; the bytes handed back and how many count; the part of the set or the serial block.

@@ -50,10 +50,8 @@ fn happen(
     ensures image { λ _. ⌜ now (image .exit) ≡ eventIn number (viewIn paired (now (set .entry)) (now (serial .entry))) (now (image .entry)) what .image ⌝ }
 {
     let known = steps::facts::learn(number, set, serial, image, what);
-    let reaction = steps::react(number, paired, set, serial, image, what, known);
-    let change = reaction.next;
-    records::renewal::renew(image, reaction.settles, change);
-    reaction.answer
+    let sought = steps::facts::seek(number, set, serial, what);
+    steps::react(number, paired, image, what, known, sought)
 }
 
 // The same, of a board that lends one set.

@@ -8,8 +8,8 @@ use descriptors::ConfigurationValue;
 use descriptors::check::Verdict;
 use descriptors::limits::Limits;
 use descriptors::survey::Asked;
+use events::Answer;
 use events::Event;
-use events::reaction::Reaction;
 use sets::opening::Begun;
 use sets::opening::DONE;
 use steps::facts;
@@ -29,9 +29,7 @@ ghost use Rattle.sets.specs.Strings.{languages};
 ghost use Rattle.sets.specs.Opening.{lent, goodConfigurations, opening};
 ghost use Rattle.sets.specs.Pair.{openingTwo};
 ghost use Rattle.sets.specs.View.{openingOf};
-ghost use Rattle.records.specs.Change.{recordIn};
-ghost use Rattle.events.specs.Facts.{outcomeOf};
-ghost use Rattle.steps.specs.Gathering.{viewIn, stepIn};
+ghost use Rattle.steps.specs.Gathering.{viewIn, eventIn};
 ghost use Rattle.single_walk.specs.Passes.{AtSpeed, Tells};
 
 // What opening gives, and if that is 0 what it collected.
@@ -110,9 +108,10 @@ pub fn open_set(
     }
 }
 
-// The reaction to an event on a board that lends one set.
-pub fn react(set: &[u8], serial: &[u8], image: &[u8], event: Event) -> Reaction
-    ensures { λ r. ⌜ outcomeOf r (recordIn (now (image .entry))) ≡ stepIn (openingOf (lent (now (set .entry)) (now (serial .entry)))) (viewIn false (now (set .entry)) (now (serial .entry))) (recordIn (now (image .entry))) event ⌝ }
+// An event on a board that lends one set, on an image of any length: it is answered, and the image renewed.
+pub fn react(set: &[u8], serial: &[u8], image: &mut [u8], event: Event) -> Answer
+    ensures answer { λ r. ⌜ r ≡ eventIn (openingOf (lent (now (set .entry)) (now (serial .entry)))) (viewIn false (now (set .entry)) (now (serial .entry))) (now (image .entry)) event .answer ⌝ }
+    ensures image { λ _. ⌜ now (image .exit) ≡ eventIn (openingOf (lent (now (set .entry)) (now (serial .entry)))) (viewIn false (now (set .entry)) (now (serial .entry))) (now (image .entry)) event .image ⌝ }
 {
     let device = records::read(image);
     let alternates = device.alternates;
@@ -128,7 +127,8 @@ pub fn react(set: &[u8], serial: &[u8], image: &[u8], event: Event) -> Reaction
         asked,
     );
     let known = opened.known;
-    steps::react(opened.number, false, set, serial, image, event, known)
+    let sought = facts::seek(opened.number, set, serial, event);
+    steps::react(opened.number, false, image, event, known, sought)
 }
 
 // The full-speed set of two, and the high-speed one.
@@ -187,16 +187,17 @@ fn open_two(
     Opened { number, known }
 }
 
-// The reaction to an event on a board that lends two, of which this speed chooses the one in use.
+// The same on a board that lends two, of which this speed chooses the one in use.
 pub fn react_two<'a>(
     full: &'a [u8],
     high: &'a [u8],
     serial: &[u8],
     speed: u8,
-    image: &[u8],
+    image: &mut [u8],
     event: Event,
-) -> Reaction
-    ensures { λ r. ⌜ outcomeOf r (recordIn (now (image .entry))) ≡ stepIn (openingTwo (now (full .entry)) (now (high .entry)) (now (serial .entry))) (viewIn true (pick (eqb speed 0) (now (full .entry)) (now (high .entry))) (now (serial .entry))) (recordIn (now (image .entry))) event ⌝ }
+) -> Answer
+    ensures answer { λ r. ⌜ r ≡ eventIn (openingTwo (now (full .entry)) (now (high .entry)) (now (serial .entry))) (viewIn true (pick (eqb speed 0) (now (full .entry)) (now (high .entry))) (now (serial .entry))) (now (image .entry)) event .answer ⌝ }
+    ensures image { λ _. ⌜ now (image .exit) ≡ eventIn (openingTwo (now (full .entry)) (now (high .entry)) (now (serial .entry))) (viewIn true (pick (eqb speed 0) (now (full .entry)) (now (high .entry))) (now (serial .entry))) (now (image .entry)) event .image ⌝ }
 {
     let device = records::read(image);
     let alternates = device.alternates;
@@ -205,5 +206,6 @@ pub fn react_two<'a>(
     let opened = open_two(full, high, serial, speed, value, &alternates, asked);
     let set = steps::in_use(full, high, speed);
     let known = opened.known;
-    steps::react(opened.number, true, set, serial, image, event, known)
+    let sought = facts::seek(opened.number, set, serial, event);
+    steps::react(opened.number, true, image, event, known, sought)
 }

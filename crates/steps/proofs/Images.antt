@@ -1,11 +1,11 @@
--- The record of an image of 32 bytes: its size after a change, and the reaction at it. No axiom.
+-- The record of an image: its size after a change, and the reaction at it, of 32 bytes and of any length. No axiom.
 use Prim.Native.Nat.{ℕ}
 use native.Mathlib.Omega.{arith}
-use mathlib.Core.Path.{_≡_, refl}
+use mathlib.Core.Path.{_≡_, refl, ap, _∙_}
 use mathlib.Core.Bool.{Bool, true, false}
 use mathlib.Core.List.{List}
 use lib.ListN.{length, set, length-set}
-use lib.Dec.{ltb}
+use lib.Dec.{eqb, ltb}
 use borrow.Author.Tests.{eq-eqb}
 use borrow.Author.Needs.{length-unmapped}
 use mir.Val.{Val}
@@ -18,8 +18,9 @@ use Rattle.records.specs.declared.Device.{Device}
 use Rattle.records.specs.declared.Change.{Change}
 use Rattle.records.specs.declared.Change.the-variants.{Kept, Waiting, Wakeup, Power, Suspended, Address, Configuration, Setting, Endpoints, Passed, Fresh, TestMode}
 use Rattle.records.specs.Device.{Sized}
-use Rattle.records.specs.Image.{deviceOf}
-use Rattle.records.specs.Change.{withSetting, changed, settledIf, after, recordIn, renewed}
+use Rattle.records.specs.Image.{deviceOf, imageOf}
+use Rattle.records.specs.Fits.{fits}
+use Rattle.records.specs.Change.{withSetting, changed, settledIf, after, misfit, recordIn, renewed}
 use Rattle.records.proofs.Image.{device-image}
 use Rattle.records.proofs.Device as D
 use Rattle.records.proofs.Device.Laws as D′
@@ -28,8 +29,10 @@ use Rattle.records.proofs.Change.Laws as C′
 use Rattle.events.specs.declared.Event.{Event}
 use Rattle.events.specs.declared.reaction.Reaction.{Reaction}
 use Rattle.events.specs.Facts.{outcomeOf}
-use Rattle.events.specs.Answer.{gives}
-use Rattle.steps.specs.Gathering.{stepIn}
+use Rattle.events.specs.declared.Outcome.{Outcome}
+use Rattle.events.specs.declared.Answer.the-variants.{Refused}
+use Rattle.events.specs.Answer.{gives, refused}
+use Rattle.steps.specs.Gathering.{stepIn, eventIn}
 
 -- ---- a record of the types that the code has is of the size that the code has
 pub is-sized : (d : Device) (vs : List Val) → Is D.the-row d vs → Sized d
@@ -73,3 +76,29 @@ pub replied : (n : ℕ) (v : View) (image : List ℕ) (e : Event) (r : Reaction)
     → outcomeOf r (recordIn image) ≡ stepIn n v (recordIn image) e → gives (r .answer) (deviceOf (renewed (r .settles) (r .next) image)) ≡ stepIn n v (deviceOf image) e
 unfolding renewed
 replied n v image e r long z s = rw (eq-eqb (length image) 32 long, device-image (after (r .settles) (r .next) (deviceOf image)) z) (rw (eq-eqb (length image) 32 long) at s)
+
+-- a record that fits no set
+misfits : (v : View) → fits v misfit ≡ false
+unfolding fits
+misfits v = refl
+
+-- an event on an image of any length, with what opening gives and the view of the set in use, by the reaction at the record that is read from it
+module _ (n : ℕ) (v : View) (image : List ℕ) (e : Event) (r : Reaction) (s : outcomeOf r (recordIn image) ≡ stepIn n v (recordIn image) e) where
+  pub answered : r .answer ≡ eventIn n v image e .answer
+  answered = go (eqb (length image) 32) refl
+    where
+      refusals : (t : Bool) → pick t (refused 8 misfit) (refused 7 misfit) .answer ≡ Refused (pick t 8 7)
+      refusals true = refl
+      refusals false = refl
+
+      go : (t : Bool) → eqb (length image) 32 ≡ t → r .answer ≡ eventIn n v image e .answer
+      go true p = ap (λ (o : Outcome). o .answer) s ∙ rw p
+      go false p = ap (λ (o : Outcome). o .answer) s ∙ rw (p, misfits v) (refusals (eqb n 0))
+
+  pub left-behind : renewed (r .settles) (r .next) image ≡ eventIn n v image e .image
+  unfolding renewed
+  left-behind = go (eqb (length image) 32) refl
+    where
+      go : (t : Bool) → eqb (length image) 32 ≡ t → renewed (r .settles) (r .next) image ≡ eventIn n v image e .image
+      go true p = rw p (ap (λ (o : Outcome). imageOf (o .device)) (rw p at s))
+      go false p = rw p

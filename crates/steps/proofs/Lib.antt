@@ -1,4 +1,5 @@
 pub mod Configurations
+pub mod Telling
 pub mod Steps
 pub mod Images
 pub mod EndpointParts

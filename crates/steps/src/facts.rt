@@ -19,16 +19,16 @@ ghost use mathlib.Core.Bool.{Bool, false};
 ghost use mathlib.Core.List.{List};
 ghost use Prim.Native.Nat.{ℕ, _<_};
 ghost use lib.Dec.{ltb};
+ghost use lib.ListN.{length};
 ghost use Rattle.octets.specs.Bit.{bit};
 ghost use Rattle.octets.specs.Sentences.{pick};
 ghost use Rattle.sets.specs.Found.{isFound};
 ghost use Rattle.sets.specs.View.{hasValue};
 ghost use Rattle.events.specs.Requests.{languageFor, locateString, locate};
-ghost use Rattle.records.specs.declared.Device.{Device};
-ghost use Rattle.records.specs.Change.{valued, recordIn};
-ghost use Rattle.events.specs.Facts.{naming, questionOf, askedBy, TellsOf};
+ghost use Rattle.records.specs.Change.{recordIn};
+ghost use Rattle.events.specs.Facts.{naming, questionOf, askedBy};
 ghost use Rattle.steps.specs.Gathering.{configurationsIn, Openable, viewIn, bodyFound, located};
-ghost use Rattle.steps.specs.Selected.{nothingKnown, Knows};
+ghost use Rattle.steps.specs.Selected.{nothingKnown, Knows, locatedAt, Seeks, factsOf};
 
 // The question of a function event, or of one that asks nothing.
 fn naming(address: u8) -> Setup
@@ -80,15 +80,37 @@ pub fn body_found(set: &[u8], entry: EntryFound) -> &[u8]
     }
 }
 
-fn place(entry: EntryFound) -> Located
-    ensures { λ r. ⌜ r ≡ located entry ⌝ }
+// Where a descriptor lies, in the numbers that a set and a serial block that are accepted have: small, so that it is handed on in a register.
+pub enum Site {
+    Body { offset: u16, length: u16 },
+    Serial { length: u16 },
+    Nowhere,
+}
+
+fn place(entry: EntryFound) -> Site
+    ensures { λ r. ⌜ locatedAt r ≡ located entry ⌝ }
 {
     match entry {
-        EntryFound::At(e) => Located::Body {
-            offset: e.offset as usize,
-            length: e.length as usize,
+        EntryFound::At(e) => Site::Body {
+            offset: e.offset,
+            length: e.length,
         },
-        EntryFound::Nothing => Located::Nowhere,
+        EntryFound::Nothing => Site::Nowhere,
+    }
+}
+
+fn located_at(site: Site) -> Located
+    ensures { λ r. ⌜ r ≡ locatedAt site ⌝ }
+{
+    match site {
+        Site::Body { offset, length } => Located::Body {
+            offset: offset as usize,
+            length: length as usize,
+        },
+        Site::Serial { length } => Located::Serial {
+            length: length as usize,
+        },
+        Site::Nowhere => Located::Nowhere,
     }
 }
 
@@ -127,29 +149,31 @@ fn language_for(set: &[u8], index: u8, asked: u16) -> u16
 }
 
 // Where the string with an index lies, in a language.
-fn locate_string(set: &[u8], serial: &[u8], index: u8, language: u16) -> Located
-    ensures { λ r. ⌜ ((paired : Bool) → r ≡ locateString (viewIn paired (now (set .entry)) (now (serial .entry))) index language) ⌝ }
+fn locate_string(set: &[u8], serial: &[u8], index: u8, language: u16) -> Site
+    requires { ⌜ length (now serial) < 65536 ⌝ }
+    ensures { λ r. ⌜ ((paired : Bool) → locatedAt r ≡ locateString (viewIn paired (now (set .entry)) (now (serial .entry))) index language) ⌝ }
 {
     if (1 <= index) & (index == sets::device::serial_index(set)) {
         if sets::string::language_listed(set, language) {
-            return Located::Serial {
-                length: serial.len(),
+            return Site::Serial {
+                length: serial.len() as u16,
             };
         }
-        return Located::Nowhere;
+        return Site::Nowhere;
     }
     place(contents::find_entry(set, types::STRING, index, language))
 }
 
 // Where the descriptor lies that GET_DESCRIPTOR asks for: a configuration by its index, another type by its entry. In a set that is lent alone there
 // is no entry of type 6 or 7.
-fn locate(set: &[u8], serial: &[u8], setup: Setup) -> Located
-    ensures { λ r. ⌜ ((paired : Bool) → setup .bRequest ≡ 0x06 → r ≡ locate (viewIn paired (now (set .entry)) (now (serial .entry))) setup) ⌝ }
+fn locate(set: &[u8], serial: &[u8], setup: Setup) -> Site
+    requires { ⌜ length (now serial) < 65536 ⌝ }
+    ensures { λ r. ⌜ ((paired : Bool) → setup .bRequest ≡ 0x06 → locatedAt r ≡ locate (viewIn paired (now (set .entry)) (now (serial .entry))) setup) ⌝ }
 {
     let kind = (setup.wValue / 256) as u8;
     let index = (setup.wValue % 256) as u8;
     if setup.bRequest != requests::GET_DESCRIPTOR {
-        return Located::Nowhere;
+        return Site::Nowhere;
     }
     if kind == types::STRING {
         return locate_string(set, serial, index, language_for(set, index, setup.wIndex));
@@ -163,7 +187,7 @@ fn locate(set: &[u8], serial: &[u8], setup: Setup) -> Located
     {
         return place(contents::find_entry(set, kind, index, 0));
     }
-    Located::Nowhere
+    Site::Nowhere
 }
 
 // What an event asks of the selected configuration.
@@ -219,7 +243,8 @@ fn look_up(set: &[u8], serial: &[u8], device: Device, event: Event) -> Selected
     }
 }
 
-// What an event has to know of the configuration that the record selects; nothing where the set does not open. It is asked beside the reaction, to spare the stack.
+// What an event has to know of the configuration that the record selects; nothing where the set does not open. It is asked beside the reaction, to spare the stack. A slice that is
+// named whole before it is handed on is lent in registers.
 pub fn learn(opening: u8, set: &[u8], serial: &[u8], image: &[u8], event: Event) -> Selected
     requires { ⌜ (opening ≡ 0 → Openable (now set) (now serial)) ⌝ }
     ensures { λ r. ⌜ (opening ≡ 0 → Knows (now (set .entry)) (recordIn (now (image .entry)) .configuration) (recordIn (now (image .entry)) .alternates) (askedBy (questionOf event)) r) ⌝ }
@@ -227,24 +252,51 @@ pub fn learn(opening: u8, set: &[u8], serial: &[u8], image: &[u8], event: Event)
     if opening != 0 {
         return nothing_known();
     }
-    look_up(set, serial, records::read(image), event)
+    let all = &set[..];
+    let laid = &image[..];
+    look_up(all, serial, records::read(laid), event)
 }
 
-// The facts of the set in use, one of two or lent alone, from what is known of its configurations; what only one request asks is looked up for it alone.
-pub fn gather(paired: bool, set: &[u8], serial: &[u8], event: Event, known: Selected) -> Facts
-    requires { ⌜ Openable (now set) (now serial) ⌝ }
-    ensures { λ r. ⌜ ((d : Device) → Knows (now (set .entry)) (d .configuration) (d .alternates) (askedBy (questionOf event)) known
-        → (let v = viewIn paired (now (set .entry)) (now (serial .entry)) in TellsOf v (valued v d) d (questionOf event) r)) ⌝ }
+// What only one request asks: whether the set has the configuration, and where the descriptor lies.
+pub struct Sought {
+    pub configuration: bool,
+    pub site: Site,
+}
+
+// It is looked up for that request alone; nothing is sought where the set does not open.
+pub fn seek(opening: u8, set: &[u8], serial: &[u8], event: Event) -> Sought
+    requires { ⌜ (opening ≡ 0 → Openable (now set) (now serial)) ⌝ }
+    ensures { λ r. ⌜ (opening ≡ 0 → (paired : Bool) → Seeks (viewIn paired (now (set .entry)) (now (serial .entry))) (questionOf event) r) ⌝ }
+{
+    if opening != 0 {
+        return Sought {
+            configuration: false,
+            site: Site::Nowhere,
+        };
+    }
+    let question = question_of(event);
+    let all = &set[..];
+    let block = &serial[..];
+    Sought {
+        configuration: has_asked(all, question),
+        site: locate(all, block, question),
+    }
+}
+
+// The facts of the set in use, one of two or lent alone, from what is known of its configurations and what was sought.
+pub fn gather(paired: bool, event: Event, known: Selected, sought: Sought) -> Facts
+    ensures { λ r. ⌜ r ≡ factsOf paired (questionOf event) known sought ⌝ }
 {
     let question = question_of(event);
     let survey = known.survey;
+    let site = sought.site;
     Facts {
         paired,
         configured: known.configured,
         waking: known.waking,
         interface: is_among(survey.existing, question.wIndex),
         survey,
-        configuration: has_asked(set, question),
-        located: locate(set, serial, question),
+        configuration: sought.configuration,
+        located: located_at(site),
     }
 }

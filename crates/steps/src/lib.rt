@@ -1,5 +1,6 @@
 // The step of a device: the set or the two sets and the serial block that are lent are checked, then the record, and then the event is answered.
 use crate::facts::Selected;
+use crate::facts::Sought;
 use events::Answer;
 use events::Event;
 use events::Outcome;
@@ -13,14 +14,14 @@ ghost use lib.Dec.{eqb};
 ghost use lib.ListN.{length};
 ghost use Rattle.octets.specs.Sentences.{pick};
 ghost use Rattle.sets.specs.Opening.{lent};
-ghost use Rattle.sets.specs.View.{openingOf};
+ghost use Rattle.sets.specs.View.{View, openingOf};
 ghost use Rattle.records.specs.Image.{deviceOf};
 ghost use Rattle.records.specs.Change.{recordIn};
 ghost use Rattle.events.specs.Answer.{gives};
-ghost use Rattle.events.specs.Facts.{outcomeOf, questionOf, askedBy};
+ghost use Rattle.events.specs.Facts.{outcomeOf};
 ghost use Rattle.events.specs.Step.{step};
-ghost use Rattle.steps.specs.Gathering.{Openable, viewIn, stepIn};
-ghost use Rattle.steps.specs.Selected.{Knows};
+ghost use Rattle.steps.specs.Gathering.{Openable, viewIn, stepIn, eventIn};
+ghost use Rattle.steps.specs.Selected.{Told};
 
 pub mod current;
 pub mod facts;
@@ -44,30 +45,50 @@ pub fn in_use<'a>(full: &'a [u8], high: &'a [u8], speed: u8) -> &'a [u8]
     high
 }
 
-// The reaction to an event on a board that was checked: `opening` is what opening gives, `set` is the set in use, one of two if `paired`, and `known` what was collected or
-// learned of it for the record in the image. Opening and learning are asked before this frame stands, to spare the stack.
-pub fn react(
+// The reaction to an event at the record of an image, from what is known of the set in use and what was sought in it.
+fn reaction_to(
     opening: u8,
     paired: bool,
-    set: &[u8],
-    serial: &[u8],
     image: &[u8],
     event: Event,
     known: Selected,
+    sought: Sought,
 ) -> Reaction
-    requires { ⌜ (opening ≡ 0 → Openable (now set) (now serial) × Knows (now set) (recordIn (now image) .configuration) (recordIn (now image) .alternates) (askedBy (questionOf event)) known) ⌝ }
-    ensures { λ r. ⌜ outcomeOf r (recordIn (now (image .entry))) ≡ stepIn opening (viewIn paired (now (set .entry)) (now (serial .entry))) (recordIn (now (image .entry))) event ⌝ }
+    requires { ⌜ (opening ≡ 0 → (v : View) × Told v paired (recordIn (now image)) event known sought) ⌝ }
+    ensures { λ r. ⌜ ((v : View) → (opening ≡ 0 → Told v paired (recordIn (now (image .entry))) event known sought)
+        → outcomeOf r (recordIn (now (image .entry))) ≡ stepIn opening v (recordIn (now (image .entry))) event) ⌝ }
 {
     if opening != 0 {
         return reaction::refused(refusals::SET_NOT_ACCEPTABLE);
     }
     let device = records::read(image);
-    let facts = facts::gather(paired, set, serial, event, known);
-    let survey = facts.survey;
-    if !records::fits(survey, facts.configured, facts.waking, paired, device) {
+    let survey = known.survey;
+    if !records::fits(survey, known.configured, known.waking, paired, device) {
         return reaction::refused(refusals::RECORD_DOES_NOT_FIT);
     }
+    let facts = facts::gather(paired, event, known, sought);
     events::respond::respond(facts, device, event)
+}
+
+// An event on an image of any length, from what is known of the set in use and what was sought in it: it is answered, and the image renewed. No set is lent here, to spare the stack.
+pub fn react(
+    opening: u8,
+    paired: bool,
+    image: &mut [u8],
+    event: Event,
+    known: Selected,
+    sought: Sought,
+) -> Answer
+    requires { ⌜ (opening ≡ 0 → (v : View) × Told v paired (recordIn (now image)) event known sought) ⌝ }
+    ensures answer { λ r. ⌜ ((v : View) → (opening ≡ 0 → Told v paired (recordIn (now (image .entry))) event known sought) → r ≡ eventIn opening v (now (image .entry)) event .answer) ⌝ }
+    ensures image { λ _. ⌜ ((v : View) → (opening ≡ 0 → Told v paired (recordIn (now (image .entry))) event known sought) → now (image .exit) ≡ eventIn opening v (now (image .entry)) event .image) ⌝ }
+    ensures device { λ r. ⌜ ((v : View) → (opening ≡ 0 → Told v paired (recordIn (now (image .entry))) event known sought) → length (now (image .entry)) ≡ 32
+        → gives r (deviceOf (now (image .exit))) ≡ stepIn opening v (deviceOf (now (image .entry))) event) ⌝ }
+{
+    let reaction = reaction_to(opening, paired, image, event, known, sought);
+    let change = reaction.next;
+    renewal::renew(image, reaction.settles, change);
+    reaction.answer
 }
 
 // The step on a board that lends one set and was checked.
@@ -107,12 +128,9 @@ pub fn reply_in(
     if opening != 0 {
         return Answer::Refused(refusals::SET_NOT_ACCEPTABLE);
     }
-    let laid = &image[..];
-    let known = facts::learn(0, set, serial, laid, event);
-    let reaction = react(0, paired, set, serial, laid, event, known);
-    let change = reaction.next;
-    renewal::renew(image, reaction.settles, change);
-    reaction.answer
+    let known = facts::learn(0, set, serial, image, event);
+    let sought = facts::seek(0, set, serial, event);
+    react(0, paired, image, event, known, sought)
 }
 
 // The same, of a board that lends one set.

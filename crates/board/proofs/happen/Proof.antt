@@ -1,24 +1,36 @@
--- `board::happen` meets its contract: the reaction at the record of the image, and the image renewed. No axiom.
-use mathlib.Core.Path.{_∙_}
+-- `board::happen` meets its contract: what was learned and sought is true, where the set opens. No axiom.
+use native.Mathlib.Omega.{arith}
+use mathlib.Core.Path.{_≡_}
 use borrow.Author.Needs.{needs}
+use Rattle.records.specs.Change.{recordIn}
 use Rattle.steps.specs.Gathering.{viewIn}
-use Rattle.board.proofs.Lengths.{answered, left-behind}
+use Rattle.steps.specs.Selected.{Told}
+use Rattle.steps.proofs.Telling.{told-in}
 use Rattle.board.proofs.happen.Statement.{statement}
 use Rattle.board.proofs.happen.Tie as tie
 
 learn-requires : tie.Need-learn-requires
 learn-requires c κs = c .before .before .before .before .pre
 
+seek-requires : tie.Need-seek-requires
+seek-requires c κs = c .before .before .before .before .before .pre
+
+told : (c : tie.After-seek) → let a = c .before .before .before .before .before .before .args in a .number ≡ 0
+    → Told (viewIn (a .paired) (a .set .now) (a .serial .now)) (a .paired) (recordIn (a .image .now)) (a .what) (c .before .learn .result) (c .seek .result)
+told c z =
+    let start = c .before .before .before .before .before .before in
+    let a = start .args in
+    told-in (a .paired) (a .set .now) (a .serial .now) (recordIn (a .image .now)) (a .what) (λ i. omega (arith, c .before .before .before .before .before .shared-slice-known .given i)) (start .pre z) (c .before .learn .ensures z) (c .seek .ensures z (a .paired))
+
 react-requires : tie.Need-react-requires
-react-requires c κs = λ z. (c .before .before .before .before .before .before .pre z, c .before .learn .ensures z)
+react-requires c κs = λ z. let a = c .before .before .before .before .before .before .before .args in (viewIn (a .paired) (a .set .now) (a .serial .now), told (c .before) z)
 
 returns : tie.Need-returns
 returns c =
-    let a = c .before .before .before .before .before .before .before .before .before .before .before .args in
+    let a = c .before .before .before .before .before .before .before .before .before .before .args in
     let v = viewIn (a .paired) (a .set .now) (a .serial .now) in
-    let r = c .before .before .before .before .react .result in
-    let s = c .before .before .before .before .react .ensures in
-    (answered (a .number) v (a .image .now) (a .what) r s, c .before .before .renew .ensures ∙ left-behind (a .number) v (a .image .now) (a .what) r s)
+    let e = c .before .before .react .ensures in
+    (e .0 v (told (c .before .before .before .before)), e .1 .0 v (told (c .before .before .before .before)))
 
 pub happen-spec : {M : Type 1} → statement M
-happen-spec = tie.close (tie.spec learn-requires react-requires (λ c κs. search needs) (λ c. search needs) returns)
+happen-spec = tie.close (tie.spec learn-requires seek-requires react-requires (λ c. search needs) returns)

@@ -23,6 +23,7 @@ locate-string-spec =
     (tie.spec
     (λ c κs. search needs)
     (λ c κs. search needs)
+    (λ c. search needs)
     returns
     returns-2
     (λ c κs. search needs)

@@ -4,7 +4,7 @@ use Rattle.steps.proofs.facts.place.Tie as tie
 use Rattle.steps.proofs.facts.place.Statement.{statement}
 
 returns : tie.Need-returns
-returns c = rw (c .before .before .before .entry .given .1)
+returns c = rw (c .before .entry .given .1)
 
 pub place-spec : {M : Type 1} → statement M
-place-spec = tie.close (tie.spec (λ c. search needs) (λ c. search needs) (λ c. search needs) (λ c. search needs) returns (λ c. search needs))
+place-spec = tie.close (tie.spec (λ c. search needs) (λ c. search needs) returns (λ c. search needs))
