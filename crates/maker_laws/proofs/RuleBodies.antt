@@ -15,9 +15,8 @@ use Rattle.octets.proofs.Sentences.{cases, every-append}
 use Rattle.descriptors.specs.declared.limits.Limits.{Limits}
 use Rattle.descriptors.specs.declared.Setting.{Setting}
 use Rattle.descriptors.specs.declared.walk.Stand.{Stand}
-use Rattle.descriptors.specs.Cut.{Cutting, whole, broken, descriptor, cut, cutAfter, descriptorsOf, wellCut}
-use Rattle.descriptors.specs.Descriptor.{bDescriptorType, isInterface, isEndpoint, bEndpointAddress, bmAttributes, wMaxPacketSize, bInterval, transferType, goodDescriptor}
-use Rattle.descriptors.specs.Descriptor.{addressBitsZero, numberNotZero, highBitsZero, notControl, middleBitsZero, bulkSize, interruptSize, isochronousSize, interruptInterval, isochronousInterval, endpointLongEnough, typeAllowed, interfaceLongEnough}
+use Rattle.descriptors.specs.Cut.{Cutting, whole, broken, descriptor, cutAfter, descriptorsOf, wellCut}
+use Rattle.descriptors.specs.Descriptor.{bDescriptorType, isInterface, isEndpoint, bEndpointAddress, bmAttributes, wMaxPacketSize, bInterval, transferType, goodDescriptor, addressBitsZero, numberNotZero, highBitsZero, notControl, middleBitsZero, bulkSize, interruptSize, isochronousSize, interruptInterval, isochronousInterval, endpointLongEnough, typeAllowed, interfaceLongEnough}
 use Rattle.descriptors.specs.Interfaces.{grouped, numberZero, alternateZero, follows, alternateWithin, goodInterfaces}
 use Rattle.descriptors.specs.Companion.{goodCompanions}
 use Rattle.descriptors.specs.Configuration.{bNumInterfaces, goodHead, goodDescriptors, goodConfiguration}
@@ -178,7 +177,7 @@ cut-same limits single size start (goes {d} {ds} p q) =
     ∙ ap (λ b. goodHead size d && b) (rest-holds limits single start (bNumInterfaces d) (length d) 0 starting before q)
     ∙ sym (past (wellCut ds) (goodHead size d) _ (every (goodDescriptor limits) rest) (goodInterfaces (bNumInterfaces d) (grouped rest)) (goodCompanions (d ∷ rest)) (after false rest) single (rest-same limits (bNumInterfaces d) ds))
 
-pub body-same : (limits : Limits) → limits .companions ≡ false → (start : ℕ) (body : List ℕ) → allHold (bodyFindings limits start body) ≡ goodConfiguration limits body
+body-same : (limits : Limits) → limits .companions ≡ false → (start : ℕ) (body : List ℕ) → allHold (bodyFindings limits start body) ≡ goodConfiguration limits body
 unfolding goodConfiguration
 body-same limits single start body = cut-same limits single (length body) start (proper 0 body)
 

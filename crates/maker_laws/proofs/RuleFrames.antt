@@ -10,8 +10,7 @@ use Rattle.octets.proofs.Sentences.{row}
 use Rattle.descriptors.specs.declared.limits.Limits.{Limits}
 use Rattle.descriptors.specs.Limits.{named}
 use Rattle.sets.specs.declared.Entry.{Entry}
-use Rattle.sets.specs.Contents.{total, bodiesAt, bodyOf, entries, entriesOf, longEnough, shortEnough, totalIsLength, countsEntry, atMost64Entries, byteThreeZero, contentsInside, goodFrame}
-use Rattle.sets.specs.Contents.{kindAllowed, bodyLongEnough, beginsAt, endsAtTotal, goodContents}
+use Rattle.sets.specs.Contents.{total, bodiesAt, bodyOf, entries, entriesOf, longEnough, shortEnough, totalIsLength, countsEntry, atMost64Entries, byteThreeZero, contentsInside, goodFrame, kindAllowed, bodyLongEnough, beginsAt, endsAtTotal, goodContents}
 use Rattle.sets.specs.Pieces.{pieceFor, piecesIn, hasIndex, hasNoLanguage, sole}
 use Rattle.sets.proofs.Pieces.{of-kind, length-of}
 use Rattle.sets.specs.Checks.{isNext}
@@ -27,7 +26,7 @@ abbrev pub allHold : List Finding → Bool
 allHold xs = every (λ x. x .holds) xs
 
 -- a row of `&&` asks each
-pub row-every : (a : Bool) (bs : List Bool) → row a bs ≡ (a && every (λ b. b) bs)
+row-every : (a : Bool) (bs : List Bool) → row a bs ≡ (a && every (λ b. b) bs)
 unfolding every
 row-every a [] = sym (and-true a)
 row-every a (b ∷ bs) = row-every (a && b) bs ∙ and-assoc a b (every (λ b. b) bs)
