@@ -1,32 +1,24 @@
 -- What the parts of the pipe event give is what an event gets: for the proofs of src/pipe.rt, over any board. No axiom.
-use Prim.Native.Nat.{ℕ, _+_, _≤_, _<_, _/_, _%_}
+use Prim.Native.Nat.{ℕ, _+_, _≤_, _<_}
 use native.Mathlib.Omega.{arith}
-use native.Mathlib.Nat.{zero-add}
 use mathlib.Core.Path.{_≡_, refl, sym, ap, subst, _∙_}
-use mathlib.Core.Logic.{_⊎_, inl, inr}
-use mathlib.Core.Bool.{Bool, true, false, _&&_, false≢true}
-use mathlib.Core.List.{List, [], _∷_}
+use mathlib.Core.Bool.{Bool, true, false, false≢true}
+use mathlib.Core.List.{List, []}
 use lib.ListN.{length}
-use lib.Dec.{eqb, leb}
-use borrow.Author.Tests.{eq-eqb, ne-eqb, eqb-true, leb-true}
+use lib.Dec.{eqb}
+use borrow.Author.Tests.{eq-eqb, eqb-true}
 use Rattle.octets.specs.Octets.{byte}
 use Rattle.octets.specs.Sentences.{pick}
-use Rattle.octets.proofs.Sentences.{conjunct}
-use Rattle.sets.specs.Contents.{total, count, bodiesAt, goodFrame}
+use Rattle.sets.specs.Contents.{count}
 use Rattle.sets.specs.Opening.{Board}
-use Rattle.sets.specs.View.{openingOf, accepted}
-use Rattle.sets.proofs.Groups.{groups}
 use Rattle.records.specs.Image.{deviceOf}
-use Rattle.records.specs.Current.{setFor, boardFor, inUse}
-use Rattle.records.proofs.InUse.{rowFor, opensFor}
+use Rattle.records.specs.Current.{setFor, inUse}
 use Rattle.requests.specs.declared.Setup.{Setup}
 use Rattle.requests.specs.Table.{setupOf}
 use Rattle.events.specs.declared.Answer.{Answer}
-use Rattle.events.specs.declared.Answer.the-variants.{Done, OneByte, TwoBytes, SetPart, SerialPart, Refused}
 use Rattle.events.specs.declared.Event.{Event}
 use Rattle.events.specs.declared.Event.the-variants.{Malformed, StatusEnd}
-use Rattle.events.specs.Answer.{numberOf, bytesOf, partOf}
-use Rattle.events.specs.Answer.{InsideAt}
+use Rattle.events.specs.Answer.{numberOf, bytesOf}
 use Rattle.events.specs.Step.{Reply, setupEvent, event}
 use Rattle.promises.specs.Refusals.{eventInside}
 use Rattle.promises.specs.Replies.{eventWithin, doneAccepted}
@@ -42,38 +34,15 @@ use Rattle.pipes.specs.Transfer.{idle, nothing}
 use Rattle.pipes.specs.Image.{transferOf, imageOf, fitsIn}
 use Rattle.pipes.specs.Turns.{replyAt, turned}
 use Rattle.pipes.specs.Sending.{roomFor, sent, inBlock, bytesIn}
-use Rattle.pipes.specs.Pipe.{Told, Records, Heard, lengthsIn, lengthsOf, packetSize, unheard, orderBegun, pipeBegun, turnBegun, begins, pipeReset, restarts, moves, onTransfer, heardAs, heard, room, handsOver, tells, libraryEvent, outOf}
+use Rattle.pipes.specs.Pipe.{Told, Records, Heard, lengthsIn, lengthsOf, packetSize, unheard, orderBegun, pipeBegun, turnBegun, begins, pipeReset, restarts, onTransfer, heardAs, heard, room, handsOver, tells, libraryEvent, outOf}
 use Rattle.pipes.specs.Hearing.{HandsPiece, isSetup, unheardMoved, movedBy, pipeMoved, looked, pipeLooked, bare, withBytes, responds, settles, outBytes, Gets}
 use Rattle.pipes.proofs.Looking.{looked-moves, pipe-looked-moves}
 use Rattle.pipes.proofs.Ending.{turned-rests}
+use Rattle.pipes.proofs.Replies.{short-set, reply-length, reply-place}
 use Rattle.board.specs.Exports.{Spot, spotOf, spotsTwo}
-use Rattle.board.specs.Pipes.{AnswersPipe, pieceBytes, spotOfPiece}
+use Rattle.board.specs.Pipes.{AnswersPipe}
 
 -- ---- an answer's reply: its place and length are numbers of two bytes, and it is no longer than wLength
--- "at most 16,384" bytes
-short-set : (b : Board) (speed : ℕ) → accepted b ≡ true → length (setFor b speed) ≤ 16384
-unfolding goodFrame
-short-set b speed ok =
-    let set = setFor b speed in
-    let g = groups (rowFor (b .high) speed) (boardFor b speed) (opensFor b speed (eqb-true (openingOf b) 0 ok)) in
-    leb-true (length set) 16384 (conjunct 1 (leb 4 (length set) ∷ leb (length set) 16384 ∷ eqb (total set) (length set) ∷ leb 1 (count set) ∷ leb (count set) 64 ∷ eqb (byte set 3) 0 ∷ leb (bodiesAt set) (total set) ∷ []) (g .frame))
-
-reply-length : (a : Answer) → replyAt a .length ≡ length (bytesOf a) + partOf a .length
-reply-length Done = refl
-reply-length (OneByte x) = refl
-reply-length (TwoBytes x y) = refl
-reply-length (SetPart offset size) = sym (zero-add size)
-reply-length (SerialPart size) = sym (zero-add size)
-reply-length (Refused n) = refl
-
-reply-place : (b : Board) (speed : ℕ) (a : Answer) → InsideAt b speed (partOf a) → (numberOf a ≡ 0 → length (setFor b speed) ≤ 16384) → replyAt a .offset < 65536
-reply-place b speed Done h s = omega arith
-reply-place b speed (OneByte x) h s = omega arith
-reply-place b speed (TwoBytes x y) h s = omega arith
-reply-place b speed (SetPart offset size) h s = let z = s refl in omega arith
-reply-place b speed (SerialPart size) h s = omega arith
-reply-place b speed (Refused n) h s = omega arith
-
 pub place-small : (b : Board) (image : List ℕ) (e : Event) → replyAt (event b image e .answer) .offset < 65536
 place-small b image e = reply-place b (deviceOf image .speed) (event b image e .answer) (eventInside b image e) (λ z. short-set b (deviceOf image .speed) (doneAccepted b image e z))
 
@@ -205,9 +174,6 @@ module _ (b : Board) (image pipe setup reply : List ℕ) where
       where
         over : movedBy l w pipe .ended ≡ true
         over = ap (λ (m : Moved). m .ended) (sym (looked-moves l w pipe is-long not-told)) ∙ t
-
-        reply-to : Reply
-        reply-to = event b image StatusEnd
 
         go : (f : Bool) → fitsIn l pipe ≡ f → heard b r (told w) ≡ restarts (pipeLooked l w pipe) (event b image StatusEnd)
         go true f =

@@ -1,8 +1,7 @@
 -- The premises of the theorems over runs of the pipe hold of something: S, opened; GET_DESCRIPTOR(device) read packet by packet, SET_ADDRESS 5 and its
 -- status stage. Every byte is computed.
-use Prim.Native.Nat.{ℕ}
 use mathlib.Core.Path.{_≡_, refl}
-use mathlib.Core.List.{List, [], _∷_, _++_}
+use mathlib.Core.List.{List, [], _∷_}
 use lib.ListN.{replicate}
 use Rattle.promises.specs.Examples.{bytes, computed, S}
 use Rattle.promises.specs.Refusal.{freshImage}
@@ -13,7 +12,7 @@ use Rattle.pipes.specs.Sending.{sent}
 use Rattle.pipes.specs.Pipe.{Records, heard, wireOf}
 use Rattle.board.specs.Exports.{Spot}
 use Rattle.board.specs.InhabitedRuns.{setSpot, lie}
-use Rattle.board.specs.Runs.{Call, setup, tell, statusEnd, Given, Runs}
+use Rattle.board.specs.Runs.{setup, tell, statusEnd, Given, Runs}
 use Rattle.board.specs.PipeRuns.{PipeCall, pipeEvent, PipeGiven, ordered, PipeRuns, runs, decided, callsIn, pipeMoves}
 
 abbrev pub powerOn : Records

@@ -16,9 +16,9 @@ use Rattle.order.specs.Run.{run, answers}
 use Rattle.pipes.specs.declared.Turn.{Turn}
 use Rattle.pipes.specs.declared.Wire.{Wire}
 use Rattle.pipes.specs.declared.Wire.the-variants.{Setup, Taken, Received, Reset, Reply, Room, Accept, Refuse, Unknown}
-use Rattle.pipes.specs.Image.{transferOf, imageOf, fitsIn}
+use Rattle.pipes.specs.Image.{transferOf, fitsIn}
 use Rattle.pipes.specs.Turns.{turned}
-use Rattle.pipes.specs.Pipe.{Told, Records, Heard, lengthsOf, unheard, moves, onTransfer, heardAs, heard, handsOver, wireOf, tells, libraryEvent, outOf}
+use Rattle.pipes.specs.Pipe.{Told, Records, lengthsOf, unheard, moves, onTransfer, heardAs, heard, handsOver, wireOf, tells, libraryEvent, outOf}
 use Rattle.board.specs.Exports.{Spot, Spots}
 use Rattle.board.specs.Pipes.{AnswersPipe, pieceBytes, spotOfPiece}
 use Rattle.board.specs.Runs.{Call, setup, tell, recordEvent, statusEnd, busResetTo, eventOf, Given, Meets, Runs, ends, calls}

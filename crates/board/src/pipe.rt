@@ -52,7 +52,10 @@ fn finish<'a>(
     ensures part { λ _. ⌜ HandsPiece (now (set .entry)) (now (set .entry)) (now (serial .entry)) (now (reply .entry)) ((set .entry) .ptr) ((set .entry) .ptr) ((serial .entry) .ptr) ((reply .entry) .ptr)
         (sent (lengthsIn (now (set .entry)) (now (serial .entry)) (now (reply .entry))) (response .order) (transferOf (now (pipe .entry)))) (now (now (part .exit))) ((now (part .exit)) .ptr) ⌝ }
 {
-    response::hand_over(set, set, serial, reply, pipe, response, out, part)
+    let next = pipes::image::read(pipe);
+    response::write_out(response, next, out);
+    *part = response::part_sent(set, set, serial, reply, response.order, next);
+    response.number
 }
 
 // Any event of the pipe, by its number: its number; order, count, the two bytes and the room in one block; the part that is sent.
@@ -123,7 +126,10 @@ fn finish_two<'a>(
         (now (now (part .exit))) ((now (part .exit)) .ptr) ⌝ }
 {
     let used = steps::in_use(full, high, speed);
-    response::hand_over(full, used, serial, reply, pipe, response, out, part)
+    let next = pipes::image::read(pipe);
+    response::write_out(response, next, out);
+    *part = response::part_sent(full, used, serial, reply, response.order, next);
+    response.number
 }
 
 // Any event of the pipe, by its number, on a board that lends two sets: the part is one of the set in use, the serial block or the reply.

@@ -12,7 +12,7 @@ use borrow.Author.Tests.{lt-ltb}
 use Rattle.octets.specs.Sentences.{pick, neighbours}
 use Rattle.octets.proofs.Sentences.{or-left, or-right}
 use Rattle.descriptors.specs.Limits.{fullSpeed}
-use Rattle.set_writer.specs.Writer.{pieces, precedes, sorted, laid, setOf, writing}
+use Rattle.set_writer.specs.Writer.{precedes, sorted, laid, setOf, writing}
 use Rattle.set_writer.specs.Stream.{streamOf}
 use Rattle.sets.specs.Pieces.{Piece}
 use Rattle.set_writer.proofs.Stream.{stream-read, stream-whole}
@@ -53,15 +53,15 @@ numbered-length i [] = refl
 numbered-length i (b ∷ bs) = ap suc (numbered-length (i + 1) bs)
 
 module _ (dump : List ℕ) where
-  pub pieces-sorted : sorted (piecesFor dump) ≡ piecesFor dump
+  pieces-sorted : sorted (piecesFor dump) ≡ piecesFor dump
   pieces-sorted =
       sorted-is (piecesFor dump) (piecesFor dump) (itself (piecesFor dump))
       (neighbours-ascend precedes transitive (piecesFor dump) (pieces-up (device dump) (configurations dump) (numbered-up 0 (configurations dump))))
 
-  pub stream-set : setOf (streamOf (piecesFor dump)) ≡ imported dump
+  stream-set : setOf (streamOf (piecesFor dump)) ≡ imported dump
   stream-set = ap (λ (ps : List Piece). laid (sorted ps)) (stream-read (piecesFor dump)) ∙ ap laid pieces-sorted
 
-  pub pieces-count : length (piecesFor dump) ≡ 1 + length (configurationsIn dump)
+  pieces-count : length (piecesFor dump) ≡ 1 + length (configurationsIn dump)
   pieces-count = omega (arith, numbered-length 0 (configurations dump), length-map (configurationsIn dump) zeroedConfiguration)
 
   pub imported-length : splits dump ≡ true → length (imported dump) ≡ 4 + 8 * (1 + length (configurationsIn dump)) + length dump

@@ -33,7 +33,7 @@ streamed-none i = refl
 
 module _ (dump : List ℕ) (from : ℕ) where
   module _ (here : from < length dump) (p : splitting (drop from dump) ≡ true) (size : ℕ) (e : size ≡ sizeOf (drop from dump)) where
-    pub size-is : length (take size (drop from dump)) ≡ size
+    size-is : length (take size (drop from dump)) ≡ size
     size-is = length-take-le size (drop from dump) (rw length-drop (dump-fits dump from here size e p))
 
     pub stream-here : (i : ℕ) → streamed i (bodies (drop from dump)) ≡ headed 2 i size ++ (zeroedConfiguration (take size (drop from dump)) ++ streamed (i + 1) (bodies (drop (from + size) dump)))

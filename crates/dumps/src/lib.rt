@@ -5,7 +5,7 @@ use descriptors::walk::BEFORE_FIRST;
 ghost use mathlib.Core.Path.{_≡_};
 ghost use mathlib.Core.Bool.{true, _&&_};
 ghost use mathlib.Core.List.{map};
-ghost use Prim.Native.Nat.{_+_, _-_, _<_, _≤_};
+ghost use Prim.Native.Nat.{_+_, _<_, _≤_};
 ghost use lib.ListN.{length, set, drop};
 ghost use lib.Dec.{ltb};
 ghost use Rattle.octets.specs.Octets.{word};

@@ -1,22 +1,20 @@
 -- Chapter 9's checklist (specs/Checklist). No axiom.
-use Prim.Native.Nat.{ℕ, _+_, _*_, _/_, _%_, _≤_, _<_}
+use Prim.Native.Nat.{ℕ, _+_, _*_, _/_, _≤_, _<_}
 use native.Mathlib.Omega.{arith}
 use native.Mathlib.Nat.{add-zero}
 use mathlib.Core.Path.{_≡_, refl, sym, ap, _∙_}
 use mathlib.Core.Logic.{inl, inr}
 use mathlib.Core.List.{List, [], _∷_, List·Memᴰ, List·Memᴰ·head}
 use mathlib.Core.Bool.{Bool, true, false, _&&_, _||_, and-false, false≢true}
-use mathlib.Core.Option.{Option, some, none}
+use mathlib.Core.Option.{some, none}
 use lib.ListN.{length, take, getD, length-map}
 use lib.Dec.{eqb, leb}
-use borrow.Author.Tests.{le-leb, lt-leb, eq-eqb, ne-eqb, eqb-true, eqb-false, leb-true, leb-false}
-use Rattle.octets.specs.Sentences.{pick, _⇒_, every, any, member, isSome, isEmpty}
+use borrow.Author.Tests.{le-leb, lt-leb, eq-eqb, ne-eqb, eqb-true, leb-true}
+use Rattle.octets.specs.Sentences.{pick, every, any, member, isSome, isEmpty}
 use Rattle.octets.specs.Sentences as words
 use Rattle.octets.proofs.Sentences.{cases, both, joined, neither, every-member, member-any, first-some, none-first}
 use Rattle.octets.proofs.Counting.{none-some, at-beyond}
-use Rattle.descriptors.specs.declared.Setting.{Setting}
-use Rattle.descriptors.specs.declared.Endpoint.{Endpoint}
-use Rattle.descriptors.specs.Configuration.{Configuration, configurationOf, bConfigurationValue, hasInterface, hasSetting}
+use Rattle.descriptors.specs.Configuration.{Configuration, configurationOf, bConfigurationValue}
 use Rattle.sets.specs.declared.Entry.{Entry}
 use Rattle.sets.specs.Contents.{entries, entriesOf, bodyOf}
 use Rattle.sets.specs.Pieces.{piecesIn, piecesOf}
@@ -27,14 +25,14 @@ use Rattle.sets.specs.View.{View, accepted, hasValue, viewOf, wakes}
 use Rattle.sets.proofs.Groups.{one-device}
 use Rattle.set_writer.proofs.Accepted.{mapping}
 use Rattle.records.specs.declared.Device.{Device}
-use Rattle.records.specs.Device.{inDefault, inAddress, inConfigured, nothing, afterReset, settled, awake, withSuspended, withWaiting, withWakeup, withAddress, withConfiguration}
-use Rattle.records.specs.Current.{setAt, setFor, viewFor, viewAt, selected, endpointAt}
+use Rattle.records.specs.Device.{inDefault, inAddress, inConfigured, afterReset, settled, awake, withSuspended, withWaiting, withWakeup, withAddress, withConfiguration}
+use Rattle.records.specs.Current.{setAt, viewAt}
 use Rattle.records.proofs.InUse.{rowFor, bytesFor}
 use Rattle.requests.specs.declared.Setup.{Setup}
 use Rattle.requests.specs.declared.Row.{Row}
-use Rattle.requests.specs.Table.{requestTable, rowOf, inState, refusalAt, refusal}
+use Rattle.requests.specs.Table.{requestTable, rowOf, refusal}
 use Rattle.events.specs.declared.Answer.{Answer}
-use Rattle.events.specs.declared.Answer.the-variants.{OneByte, TwoBytes, Refused}
+use Rattle.events.specs.declared.Answer.the-variants.{OneByte, TwoBytes}
 use Rattle.events.specs.declared.Event.{Event}
 use Rattle.events.specs.declared.Event.the-variants.{Request, Suspend, Resume, Wake}
 use Rattle.events.specs.declared.facts.Located.the-variants.{Nowhere}
@@ -42,13 +40,13 @@ use Rattle.events.specs.Answer.{gives}
 use Rattle.events.specs.Answer as events
 use Rattle.events.specs.Requests as requests
 use Rattle.events.specs.Requests.{locate}
-use Rattle.events.specs.Step.{goodReset, step, answerSetup, request, asksTestMode}
+use Rattle.events.specs.Step.{goodReset, step, request, asksTestMode}
 use Rattle.events.specs.Step as steps
 use Rattle.laws.proofs.Recipients.{test-code}
 use Rattle.promises.specs.Sound.{sound}
-use Rattle.enumeration.specs.Script.{Seen, Line, line, reading, done, seenOf, Plays, Ready, ask, getDescriptor, setAddress, setConfiguration, setInterface, getInterface, setHalt, getEndpointStatus, busReset, statusEnd}
+use Rattle.enumeration.specs.Script.{Seen, line, reading, done, seenOf, Plays, Ready, ask, getDescriptor, setAddress, setConfiguration, setInterface, getInterface, setHalt, getEndpointStatus, busReset, statusEnd}
 use Rattle.enumeration.specs.Bodies.{configurationBody, stringBody}
-use Rattle.enumeration.specs.Checklist.{Stalls, Answers, Does, getConfiguration, getDeviceStatus, getInterfaceStatus, setWakeup, clearWakeup, Descriptors, Addresses, Configurations, Statuses, Halts, Wakeups, Interfaces, Others, Checklist}
+use Rattle.enumeration.specs.Checklist.{Stalls, Answers, getConfiguration, getDeviceStatus, getInterfaceStatus, setWakeup, clearWakeup, Descriptors, Addresses, Configurations, Statuses, Halts, Wakeups, Interfaces, Others, Checklist}
 use Rattle.enumeration.proofs.Asking.{raw, asked, other-code, other-kind, stated, lets, stops, gets}
 use Rattle.enumeration.proofs.Found.{rules, many, configurationEntry}
 use Rattle.enumeration.proofs.Located.{high-byte, low-byte}

@@ -169,7 +169,7 @@ module _ (b : Board) (octets : BytesOf b) (ok : accepted b ≡ true) where
     unfolding refusal request requests.setAddress words.first
     by-address = lets b ok at-reset (raw 0x00 0x05 a 0 0) (other-code (isSome (b .high)) (raw 0x00 0x05 a 0 0) refl) (rw (le-leb a 127 high, ne-eqb (a / 256) 3 (λ z. omega arith)) refl)
 
-    pub at-waits : Ready b waits
+    at-waits : Ready b waits
     at-waits = ready octets ok (setAddress a) at-reset by-address calm
 
     pub by-status : step b waits statusEnd ≡ events.done addressed

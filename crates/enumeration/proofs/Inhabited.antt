@@ -58,7 +58,7 @@ scriptS = refl
 abbrev pub used : Device
 used = withSuspended 1 (withPower 1 (withEndpoints zeros (2 ^ 17) (2 ^ 17) configured))
 
-pub usedReady : Ready S used
+usedReady : Ready S used
 unfolding computed
 usedReady = record { fit = refl; sized = record { sixteen = refl; halts-fit = omega arith; toggles-fit = omega arith }; calm = refl }
 

@@ -53,7 +53,7 @@ module _ (b : Board) (ok : accepted b ≡ true) (speed : ℕ) where
       let g = rules b ok speed in
       entries-ascend set (entries set) (neighbours-ascend precedes transitive (piecesIn set) (before-map set (entries set) ∙ ordered (rowFor (b .high) speed) set (g .frame) (g .contents) .sorted))
 
-  pub underKey : (e : Entry) → List·Memᴰ e (entries set) → first (isAt (e .kind) (e .index) (e .language)) (entries set) ≡ some e
+  underKey : (e : Entry) → List·Memᴰ e (entries set) → first (isAt (e .kind) (e .index) (e .language)) (entries set) ≡ some e
   underKey e m = looked-up set e (entries set) upwards m
 
   pub under : (e : Entry) (kind index language : ℕ) → List·Memᴰ e (entries set) → e .kind ≡ kind → e .index ≡ index → e .language ≡ language
@@ -99,7 +99,7 @@ module _ (b : Board) (ok : accepted b ≡ true) (speed : ℕ) where
     pub body : pieceBody set 3 index language ≡ bodyOf set entry
     pub short : length (pieceBody set 3 index language) ≤ 254
 
-  pub stringAt : (index language : ℕ) → any (isString index language) (piecesOf 3 (piecesIn set)) ≡ true → StringAt index language
+  stringAt : (index language : ℕ) → any (isString index language) (piecesOf 3 (piecesIn set)) ≡ true → StringAt index language
   stringAt index language there = go (first (isAt 3 index language) (entries set)) refl
     where
       body-is : pieceBody set 3 index language ≡ bodyFound (Option·map (pieceFor set) (first (isAt 3 index language) (entries set)))

@@ -3,14 +3,13 @@ use Prim.Native.Nat.{ℕ, _/_, _%_, _≤_}
 use native.Mathlib.Omega.{arith}
 use mathlib.Core.Path.{_≡_, refl, sym, ap, _∙_}
 use mathlib.Core.Logic.{_⊎_, inl, inr}
-use mathlib.Core.List.{List, [], _∷_, List·Memᴰ}
+use mathlib.Core.List.{List·Memᴰ}
 use mathlib.Core.Bool.{true, false, _&&_, not, false≢true}
 use mathlib.Core.Option.{Option, some, none}
 use lib.ListN.{getD}
 use lib.Seq.{getD-set-same, getD-set-other}
 use lib.Dec.{eqb, leb}
 use borrow.Author.Tests.{le-leb, eq-eqb, ne-eqb, eqb-true, eqb-false, not-true, leb-true}
-use Rattle.octets.specs.Bit.{bit}
 use Rattle.octets.specs.Sentences.{isSome}
 use Rattle.octets.specs.Sentences as words
 use Rattle.octets.proofs.Sentences.{cases, both, joined, if-then, member-any, only-member, first-any, first-some, pairs-members}

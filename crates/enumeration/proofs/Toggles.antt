@@ -1,5 +1,5 @@
 -- Toggles never drift (specs/Toggles). No axiom.
-use Prim.Native.Nat.{ℕ, _+_, _*_, _-_, _≤_, _<_}
+use Prim.Native.Nat.{ℕ, _+_, _*_, _-_, _<_}
 use native.Mathlib.Omega.{arith}
 use mathlib.Core.Path.{_≡_, refl, sym, ap, subst, _∙_}
 use mathlib.Core.Logic.{_⊎_, inl, inr}
@@ -9,35 +9,33 @@ use mathlib.Core.Option.{Option, some, none}
 use lib.ListN.{getD, set}
 use lib.Seq.{getD-set-same, getD-set-other}
 use lib.Dec.{eqb, leb}
-use borrow.Author.Tests.{eqb-true, eqb-false, eq-eqb, ne-eqb, leb-true, leb-false, le-leb}
+use borrow.Author.Tests.{eqb-true, eqb-false, eq-eqb, leb-true, le-leb}
 use Rattle.octets.specs.Bit.{bit, flipBit}
 use Rattle.octets.specs.Sentences.{pick, any, every, only, isSome}
-use Rattle.octets.proofs.Sentences.{cases, both, joined, either, or-left, or-right, every-member, any-member, member-any, none-any, first-some, only-member, member-only}
+use Rattle.octets.proofs.Sentences.{cases, both, joined, or-right, every-member, any-member, member-any, none-any, first-some, only-member, member-only}
 use Rattle.octets.proofs.Bits.{flip-same, flip-other, clear-same, clear-other, bit-zero}
 use Rattle.descriptors.specs.declared.Setting.{Setting}
 use Rattle.descriptors.specs.declared.Endpoint.{Endpoint}
-use Rattle.descriptors.specs.Configuration.{Configuration, hasInterface, hasSetting, isCurrent, canHalt, bitOf, cleared, ofEither}
+use Rattle.descriptors.specs.Configuration.{hasInterface, hasSetting, isCurrent, canHalt, bitOf, cleared, ofEither}
 use Rattle.descriptors.proofs.EndpointBits.{atBit, cleared-digit}
 use Rattle.sets.specs.Opening.{Board, BytesOf}
 use Rattle.sets.specs.View.{View, accepted, unconfigured, byValue, hasValue, wakes}
 use Rattle.sets.specs.Sound.{SoundConfiguration}
 use Rattle.records.specs.declared.Device.{Device}
-use Rattle.records.specs.Device.{inDefault, inAddress, inConfigured, nothing, atHighSpeed, fresh, afterReset, testWaiting, testWaits, inTestMode, enterTestMode, awake, settled, withAddress, withEndpoints, Sized}
+use Rattle.records.specs.Device.{inDefault, inAddress, inConfigured, nothing, atHighSpeed, fresh, afterReset, testWaits, inTestMode, enterTestMode, awake, settled, withAddress, withEndpoints, Sized}
 use Rattle.records.specs.Current.{setAt, viewFor, viewAt, selected, currentEndpoints, endpointAt}
 use Rattle.records.specs.Fits.{fitsOn}
 use Rattle.requests.specs.declared.Setup.{Setup}
 use Rattle.requests.specs.Table.{recipient, requestTable}
-use Rattle.events.specs.declared.Answer.{Answer}
 use Rattle.events.specs.declared.Event.{Event}
 use Rattle.events.specs.declared.Event.the-variants.{Request, Malformed, StatusEnd, BusReset, Halt, PacketPassed, Power, Suspend, Resume, Wake}
 use Rattle.events.specs.declared.Outcome.{Outcome}
 use Rattle.events.specs.declared.facts.Located.{Located}
 use Rattle.events.specs.declared.facts.Located.the-variants.{Body, Serial, Nowhere}
 use Rattle.events.specs.Answer.{numberOf, done}
-use Rattle.events.specs.Requests.{byRecipient, isEndpointZero, deviceFeature, namesTestMode, testSelector, setDeviceFeature, interfaceFeature, endpointFeature, endpointStatus, haltFeature, clearHalt, setHalt, locate, describe, withSetting, getStatus, clearFeature, setFeature, setAddress, getDescriptor, getConfiguration, setConfiguration, getInterface, setInterface}
+use Rattle.events.specs.Requests.{isEndpointZero, deviceFeature, namesTestMode, testSelector, interfaceFeature, endpointStatus, haltFeature, clearHalt, setHalt, locate, describe, withSetting, getStatus, clearFeature, setFeature, setAddress, getDescriptor, getConfiguration, setConfiguration, getInterface, setInterface}
 use Rattle.events.specs.Step.{request, asksTestMode, refusalFor, answerSetup, statusEnd, goodReset, haltAt, halt, passAt, packetPassed, respond, step}
 use Rattle.order.specs.Run.{log}
-use Rattle.laws.proofs.Fitting.{fitting}
 use Rattle.laws.proofs.Homes.{at-home, cleared-other}
 use Rattle.laws.proofs.Keeping.{soundSelected}
 use Rattle.laws.proofs.Outcomes.{chosen}
@@ -46,7 +44,7 @@ use Rattle.promises.specs.Keeps.{freshFit, stepFits}
 use Rattle.promises.specs.Rearranged.{nextOf, after}
 use Rattle.promises.specs.Sound.{sound}
 use Rattle.promises.specs.TestMode.{onlyPowerOn}
-use Rattle.enumeration.specs.Script.{Line, sees, Ready}
+use Rattle.enumeration.specs.Script.{sees, Ready}
 use Rattle.enumeration.proofs.Playing.{ready}
 use Rattle.enumeration.proofs.Enumerates.{calm-speed}
 use Rattle.enumeration.specs.Toggles.{Book, newBook, inSetting, notesSetup, notesEvent, notes, keeps, Agrees, bookAfter, NeverDriftFromOpening, NeverDriftFromReset}

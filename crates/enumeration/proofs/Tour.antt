@@ -32,7 +32,7 @@ use Rattle.enumeration.proofs.Enumerates.{enumerates, enumeratedReady}
 use Rattle.enumeration.proofs.Settings.{everySetting, selectingReady}
 
 -- ---- from every record in Configured that fits and is in no test mode; no setting changes which configuration is selected
-pub visits : (b : Board) → BytesOf b → accepted b ≡ true → {d : Device} → Ready b d → d .state ≡ inConfigured
+visits : (b : Board) → BytesOf b → accepted b ≡ true → {d : Device} → Ready b d → d .state ≡ inConfigured
     → (ss : List Setting) → ((s : Setting) → List·Memᴰ s ss → List·Memᴰ s (selected (viewAt b d) d .settings)) → Plays b d (visiting ss) (afterVisiting b d ss)
 visits b octets ok r c [] all = played
 visits b octets ok {d} r c (s ∷ ss) all =
@@ -51,7 +51,7 @@ module _ (b : Board) (octets : BytesOf b) (ok : accepted b ≡ true) (speed : �
   distinct-turn x y p = ap not (ne-eqb (bConfigurationValue y) (bConfigurationValue x) (λ z. eqb-false (bConfigurationValue x) (bConfigurationValue y) (not-true _ p) (sym z)))
 
   -- the configuration with the value of a body is that body's: values are distinct
-  pub byItsValue : byValue (record { 0 = bConfigurationValue body }) (viewFor b speed .configurations) ≡ configurationOf body
+  byItsValue : byValue (record { 0 = bConfigurationValue body }) (viewFor b speed .configurations) ≡ configurationOf body
   unfolding viewOf configurationOf
   byItsValue = go (first (λ (c : Configuration). eqb (c .value) (bConfigurationValue body)) (map configurationOf (bodies 2 set))) refl
     where

@@ -6,7 +6,7 @@ use mathlib.Core.List.{List, [], _∷_, List·Memᴰ}
 use mathlib.Core.Bool.{true, false, _||_}
 use mathlib.Core.Option.{some, none}
 use lib.ListN.{take, getD}
-use lib.Dec.{eqb, leb}
+use lib.Dec.{eqb}
 use Rattle.octets.specs.Sentences.{pick, any, member, isSome, isEmpty}
 use Rattle.descriptors.specs.declared.Setting.{Setting}
 use Rattle.descriptors.specs.declared.Endpoint.{Endpoint}
@@ -27,7 +27,7 @@ use Rattle.events.specs.declared.Event.{Event}
 use Rattle.events.specs.declared.Event.the-variants.{Request, Suspend, Resume, Wake}
 use Rattle.events.specs.Requests.{isEndpointZero}
 use Rattle.events.specs.Step.{goodReset, asksTestMode}
-use Rattle.enumeration.specs.Script.{Seen, Line, line, reading, done, Plays, Ready, ask, getDescriptor, setAddress, setConfiguration, setInterface, getInterface, setHalt, clearHalt, getEndpointStatus, busReset, statusEnd}
+use Rattle.enumeration.specs.Script.{line, reading, done, Plays, Ready, ask, getDescriptor, setAddress, setConfiguration, setInterface, getInterface, setHalt, getEndpointStatus, busReset, statusEnd}
 use Rattle.enumeration.specs.Bodies.{configurationBody, pieceBody, stringBody}
 use Rattle.enumeration.specs.Enumeration.{otherSpeed}
 use Rattle.enumeration.specs.Works.{Chosen, Mended}

@@ -1,19 +1,17 @@
 -- n ports are n devices (specs/AtPorts). No axiom.
-use Prim.Native.Nat.{ℕ, _≤_, _<_}
-use mathlib.Core.Path.{_≡_, refl, sym, ap, _∙_}
+use Prim.Native.Nat.{ℕ}
+use mathlib.Core.Path.{_≡_, refl, _∙_}
 use mathlib.Core.List.{List}
-use mathlib.Core.Bool.{false}
 use lib.ListN.{length, take}
-use Rattle.sets.specs.Opening.{Board, BytesOf, lent}
+use Rattle.sets.specs.Opening.{Board, lent}
 use Rattle.records.specs.declared.Device.{Device}
-use Rattle.records.specs.Device.{inTestMode, Sized}
-use Rattle.records.specs.Image.{deviceOf, imageOf}
+use Rattle.records.specs.Image.{imageOf}
 use Rattle.records.proofs.Image.{device-image}
 use Rattle.board.specs.Exports.{Spots, recordAt}
 use Rattle.board.specs.Runs.{Given, handed, recordEvent, byRecordEvent}
 use Rattle.board.specs.Records.{onImage, asImages}
 use Rattle.board.specs.Ports.{PortCall, RowRuns, ended, called, callsAt, givenAt, portRun, atPort, sameLength}
-use Rattle.host_runs.specs.AtPorts.{PortSince, OwnDevice, PortsAreDevices, NeverLockedOutAtPorts, ReadsGivenAtPorts, ReplacedAtPorts}
+use Rattle.host_runs.specs.AtPorts.{PortsAreDevices, NeverLockedOutAtPorts, ReadsGivenAtPorts, ReplacedAtPorts}
 use Rattle.host_runs.proofs.NeverLockedOut.{neverLockedOut}
 use Rattle.host_runs.proofs.Given.{bytes-so, readsGiven}
 use Rattle.host_runs.proofs.Replaced.{replacedByPage}

@@ -32,8 +32,7 @@ use Rattle.promises.specs.Rearranged.{nextOf, after}
 use Rattle.order.specs.Run.{answers, log}
 use Rattle.enumeration.specs.Script.{Seen, seenOf, sees, Line, does, Plays}
 use Rattle.board.specs.Exports.{Spot, Spots, padded, AnswersSetup}
-use Rattle.board.specs.Runs.{Happening, Call, setup, tell, recordEvent, eventOf, happened, Given, Meets, bySetup, byHappening, byRecordEvent, Runs, ends, calls, gives, met}
-use Rattle.board.specs.Runs.{statusEnd as endOfStatus, busReset as toFull, suspend, resume, wake as wakeUp, busResetTo, halt as haltOf, packetPassed as passedAt, power as supply}
+use Rattle.board.specs.Runs.{Happening, Call, setup, tell, recordEvent, eventOf, happened, Given, Meets, bySetup, byHappening, byRecordEvent, Runs, ends, calls, gives, met, statusEnd as endOfStatus, busReset as toFull, suspend, resume, wake as wakeUp, busResetTo, halt as haltOf, packetPassed as passedAt, power as supply}
 use Rattle.board.specs.Transfers.{reply, asSetup, transfer}
 use Rattle.host_runs.specs.Calls.{seenGiven, Cut, Arrives, ArriveAs, InPackets, Played, callOf, callsOf}
 
@@ -146,7 +145,7 @@ module _ (b : Board) (lie : Spots) (bytes : BytesOf b) (ok : accepted b ≡ true
       record { seen = heard; arrives = in-packets r script heard; leaves = t ∙ ap (λ (es : List Event). imageOf (after b d es)) same ∙ ap imageOf (p .ends) }
 
 -- ---- the calls of a script are its events
-pub isCalled : (e : Event) → eventOf (callOf e) ≡ e
+isCalled : (e : Event) → eventOf (callOf e) ≡ e
 isCalled (Request s) = ap Request (rw (two-bytes (s .wValue), two-bytes (s .wIndex), two-bytes (s .wLength)) refl)
 isCalled Malformed = refl
 isCalled StatusEnd = refl

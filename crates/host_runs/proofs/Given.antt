@@ -1,13 +1,13 @@
 -- What the host reads is what the maker gave, and what it collects is what hk_export writes (specs/Given). No axiom.
 use Prim.Native.Nat.{ℕ, _≤_}
 use native.Mathlib.Omega.{arith}
-use mathlib.Core.Path.{_≡_, refl, sym, ap, subst, _∙_}
+use mathlib.Core.Path.{_≡_, refl, sym, ap, _∙_}
 use mathlib.Core.List.{List, [], _∷_, _++_, map, List·Memᴰ}
 use mathlib.Core.Bool.{true, false}
 use lib.ListN.{length, take}
 use lib.Dec.{eqb}
 use Rattle.octets.specs.Octets.{Bytes}
-use Rattle.octets.specs.Sentences.{pick, upTo}
+use Rattle.octets.specs.Sentences.{upTo}
 use Rattle.octets.proofs.Sentences.{cases}
 use Rattle.octets.proofs.Counting.{told}
 use Rattle.descriptors.specs.Configuration.{wTotalLength}
@@ -24,10 +24,8 @@ use Rattle.records.specs.declared.Device.{Device}
 use Rattle.records.specs.Device.{inTestMode, settled}
 use Rattle.records.specs.Image.{deviceOf}
 use Rattle.records.specs.Current.{setFor}
-use Rattle.events.specs.Answer.{gives}
 use Rattle.dumps.specs.Dump.{flat, exported}
-use Rattle.order.specs.Run.{All}
-use Rattle.enumeration.specs.Script.{Line, line, sees, reading, Plays, Ready, getDescriptor}
+use Rattle.enumeration.specs.Script.{Line, sees, Plays, Ready, getDescriptor}
 use Rattle.enumeration.specs.Bodies.{configurationBody}
 use Rattle.enumeration.proofs.Playing.{Stays, ready, each-alone, all-below, all-map}
 use Rattle.enumeration.proofs.Found.{got, eighteen, many, wholeLength, twoByteLength}
@@ -35,7 +33,7 @@ use Rattle.enumeration.proofs.Reading.{seesReads, nextReads, whole, readsDevice
 use Rattle.enumeration.proofs.Boards.{noTestMode}
 use Rattle.enumeration.proofs.EveryPiece.{everyPiece}
 use Rattle.board.specs.Exports.{Spots}
-use Rattle.board.specs.Makers.{Writes, Dumps}
+use Rattle.board.specs.Makers.{Writes}
 use Rattle.board.specs.Runs.{met}
 use Rattle.host_runs.specs.Calls.{seenGiven, CalledSince}
 use Rattle.host_runs.specs.Given.{ReadFrom, ReadsGiven, ReadsGivenTwo, wholeLine, collecting, CollectsWhatIsExported}

@@ -36,7 +36,7 @@ use Rattle.enumeration.specs.Bodies.{configurationBody}
 use Rattle.enumeration.specs.Enumeration.{enumeration, enumerationByTransfers, enumerated}
 use Rattle.enumeration.specs.Works.{selecting, halting, afterSelecting, afterHalting}
 use Rattle.enumeration.specs.Unasked.{asksForTest}
-use Rattle.board.specs.Exports.{Opens, Spot, Spots, numbered, AnswersPortEvent, recordAt}
+use Rattle.board.specs.Exports.{Opens, Spot, Spots, numbered, AnswersPortEvent}
 use Rattle.board.specs.Makers.{Writes}
 use Rattle.board.specs.Runs.{Call, Given, setup, tell, recordEvent, eventOf, number, handed, Runs, gives, leaves, meets, runs, ends, halt}
 use Rattle.board.specs.Unnoticed.{kept, keptOf, Alike}

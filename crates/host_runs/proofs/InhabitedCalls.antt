@@ -1,18 +1,13 @@
 -- Theorems of board at work where an opening is computed already: hk_record_event beside the other way, and one driver that does not notice the other (L9); each export that takes an
 -- event on a SuperSpeed set (L13).
 use Prim.Native.Nat.{ℕ}
-use native.Mathlib.Omega.{arith}
 use mathlib.Core.Path.{_≡_, refl}
 use mathlib.Core.List.{List, [], _∷_, _++_}
 use mathlib.Core.Bool.{false}
-use lib.ListN.{length, replicate}
 use Rattle.sets.specs.Opening.{lentTwo}
 use Rattle.records.specs.declared.Device.{Device}
 use Rattle.records.specs.Device.{fresh}
 use Rattle.records.specs.Image.{deviceOf, imageOf}
-use Rattle.events.specs.declared.Event.{Event}
-use Rattle.events.specs.Answer.{numberOf, bytesOf, partOf}
-use Rattle.events.specs.Step.{step, event}
 use Rattle.laws.specs.Parts.{Same, rest}
 use Rattle.promises.specs.Examples.{computed, bytes, T}
 use Rattle.promises.specs.Inhabited.{bytesT, configured, configuredSized}

@@ -4,7 +4,6 @@ use native.Mathlib.Omega.{arith}
 use mathlib.Core.Path.{_≡_, refl}
 use mathlib.Core.List.{List, [], _∷_, _++_}
 use mathlib.Core.Bool.{false}
-use lib.ListN.{replicate}
 use Rattle.sets.specs.Opening.{Board}
 use Rattle.records.specs.declared.Device.{Device}
 use Rattle.records.specs.Device.{fresh}
@@ -16,10 +15,10 @@ use Rattle.promises.specs.InhabitedPairs.{twins, bytesTwins}
 use Rattle.promises.specs.Refusal.{freshImage}
 use Rattle.promises.specs.Struck.{PageRun}
 use Rattle.board.specs.Exports.{Opens, Spots, recordAt}
-use Rattle.board.specs.Runs.{Call, Given, setup, tell, recordEvent, eventOf, handed, runs, leaves, statusEnd, halt, packetPassed}
+use Rattle.board.specs.Runs.{Call, Given, setup, tell, recordEvent, eventOf, runs, leaves, halt, packetPassed}
 use Rattle.board.specs.Unnoticed.{kept, keptOf, Alike, QuietRun}
 use Rattle.board.specs.Records.{asImages}
-use Rattle.board.specs.InhabitedRuns.{start, configuring, setSpot, lie}
+use Rattle.board.specs.InhabitedRuns.{start, configuring, lie}
 use Rattle.board.specs.InhabitedTwo.{lieTwo}
 use Rattle.board.specs.InhabitedPorts.{opened, freshSized}
 use Rattle.board.specs.InhabitedPorts as ports

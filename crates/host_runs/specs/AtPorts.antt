@@ -18,12 +18,12 @@ use Rattle.records.specs.Image.{deviceOf, imageOf}
 use Rattle.records.specs.Current.{setFor}
 use Rattle.events.specs.Step.{goodReset}
 use Rattle.promises.specs.Struck.{PageRun}
-use Rattle.enumeration.specs.Script.{Line, does, reading, getDescriptor}
+use Rattle.enumeration.specs.Script.{does, reading, getDescriptor}
 use Rattle.enumeration.specs.Bodies.{configurationBody}
 use Rattle.enumeration.specs.Enumeration.{enumeration, enumerated}
 use Rattle.board.specs.Exports.{Opens, Spot, Spots, recordAt, numbered, AnswersPortEvent}
 use Rattle.board.specs.Makers.{Writes}
-use Rattle.board.specs.Runs.{Call, eventOf, Given, handed, leaves}
+use Rattle.board.specs.Runs.{eventOf, Given, handed, leaves}
 use Rattle.board.specs.Records.{asImages}
 use Rattle.board.specs.Unnoticed.{kept, keptOf, Alike}
 use Rattle.board.specs.Ports.{PortCall, RowRuns, callsAt, portRun}

@@ -14,8 +14,7 @@ use Rattle.events.specs.declared.Event.the-variants.{Request, Malformed, Status
 use Rattle.packets.specs.Packets.{packetCount}
 use Rattle.enumeration.specs.Script.{Seen, Line, does}
 use Rattle.board.specs.Exports.{Opens, Spot, Spots, CutsPacket}
-use Rattle.board.specs.Runs.{Call, setup, tell, recordEvent, eventOf, Given, number, handed, Runs, ends, calls}
-use Rattle.board.specs.Runs.{statusEnd as endOfStatus, suspend, resume, wake as wakeUp, busResetTo, halt as haltOf, packetPassed as passedAt, power as supply}
+use Rattle.board.specs.Runs.{Call, setup, tell, recordEvent, eventOf, Given, number, handed, Runs, ends, calls, statusEnd as endOfStatus, suspend, resume, wake as wakeUp, busResetTo, halt as haltOf, packetPassed as passedAt, power as supply}
 use Rattle.board.specs.Transfers.{reply, packetSize}
 
 -- ---- what a host sees of what a call gave: its number, and the reply: the bytes that count, or the part

@@ -2,7 +2,7 @@
 -- everything that is there works. Proved in proofs/NeverLockedOut.
 use Prim.Native.Nat.{ℕ, _≤_, _<_}
 use mathlib.Core.Path.{_≡_}
-use mathlib.Core.List.{List, _++_, List·Memᴰ}
+use mathlib.Core.List.{List, List·Memᴰ}
 use mathlib.Core.Bool.{true, false}
 use Rattle.octets.specs.Octets.{Bytes}
 use Rattle.octets.specs.Sentences.{any, isSome}
@@ -11,14 +11,13 @@ use Rattle.descriptors.specs.declared.Endpoint.{Endpoint}
 use Rattle.descriptors.specs.Configuration.{canHalt, bConfigurationValue}
 use Rattle.sets.specs.Device.{deviceBody, bNumConfigurations}
 use Rattle.sets.specs.Opening.{Board, BytesOf, lent}
-use Rattle.records.specs.declared.Device.{Device}
 use Rattle.records.specs.Device.{inConfigured, inTestMode}
 use Rattle.records.specs.Image.{deviceOf}
 use Rattle.records.specs.Current.{setFor, viewAt, selected, currentEndpoints}
 use Rattle.events.specs.Step.{goodReset}
 use Rattle.enumeration.specs.Script.{Line}
 use Rattle.enumeration.specs.Bodies.{configurationBody}
-use Rattle.enumeration.specs.Enumeration.{enumeration, enumerationByTransfers, enumerated}
+use Rattle.enumeration.specs.Enumeration.{enumeration, enumerated}
 use Rattle.enumeration.specs.Unasked.{asksForTest}
 use Rattle.enumeration.specs.Works.{selecting, halting, afterSelecting, afterHalting}
 use Rattle.board.specs.Exports.{Spots}

@@ -2,7 +2,7 @@
 use Prim.Native.Nat.{ℕ, _+_, _*_, _≤_, _<_}
 use native.Mathlib.Omega.{arith}
 use mathlib.Core.Path.{_≡_, refl, sym, ap, _∙_}
-use mathlib.Core.Bool.{Bool, true, false, _&&_, _||_, not, false≢true}
+use mathlib.Core.Bool.{Bool, true, false, _&&_, not, false≢true}
 use mathlib.Core.List.{List}
 use mathlib.Core.Option.{Option, some, none}
 use lib.ListN.{length, getD, set}
@@ -30,7 +30,7 @@ use Rattle.events.specs.declared.Event.the-variants.{Request, Malformed, Status
 use Rattle.events.specs.Answer.{gives, done, refused}
 use Rattle.events.specs.Requests.{byRecipient, getStatus, endpointStatus, isEndpointZero, digit, deviceFeature, namesTestMode, testSelector, setTestMode, interfaceFeature, haltFeature, endpointFeature, clearHalt, setHalt, clearFeature, setFeature, setAddress, locate, describe, getDescriptor, getConfiguration, setConfiguration, getInterface, withSetting, setInterface}
 use Rattle.events.specs.Step.{request, refusalFor, answerSetup, statusEnd, goodReset, busReset, haltAt, halt, passAt, packetPassed, power, wake, respond}
-use Rattle.events.specs.Concerns.{setupConcerns, Subject, theDevice, subjectOf, eventConcerns}
+use Rattle.events.specs.Concerns.{setupConcerns, theDevice, subjectOf, eventConcerns}
 use Rattle.sets.specs.Sound.{SoundConfiguration}
 use Rattle.laws.specs.Parts.{home, Shared, shared, SameIn, rest, withCommon}
 use Rattle.laws.proofs.Homes.{AllIn, all-in, found-home, found-alike, set-both, clear-both, flip-both, cleared-both}

@@ -15,7 +15,7 @@ use Rattle.octets.proofs.Bits.{set-other, clear-other, flip-other, set-below, c
 use Rattle.descriptors.specs.declared.Endpoint.{Endpoint}
 use Rattle.descriptors.specs.Configuration.{hasSetting, canHalt, bitOf}
 use Rattle.sets.specs.Opening.{Board}
-use Rattle.sets.specs.View.{View, viewOf, wakes}
+use Rattle.sets.specs.View.{View, wakes}
 use Rattle.records.specs.declared.Device.{Device}
 use Rattle.records.specs.Device.{inDefault, inAddress, inConfigured, nothing, atFullSpeed, atHighSpeed, zeros, fresh, afterReset, testWaiting, testWaits, testEntered, inTestMode, enterTestMode, settled, withWaiting, withWakeup, withPower, withSuspended, awake, withAddress, withConfiguration, withEndpoints, Sized}
 use Rattle.records.specs.Current.{setFor, setAt, viewFor, viewAt, selected, currentEndpoints}

@@ -116,7 +116,7 @@ module _ (c : Configuration) (S : SoundConfiguration c) where
       ap (λ o. orNobody (Option·map (λ x. x .interface) o)) p ∙ same-interface f e n m a
 
   -- an endpoint's address is listed by its interface
-  pub lists : (e : Endpoint) → List·Memᴰ e (c .endpoints) → listedBy c (e .address) ≡ some (e .interface)
+  lists : (e : Endpoint) → List·Memᴰ e (c .endpoints) → listedBy c (e .address) ≡ some (e .interface)
   lists e m =
       let (f, p) = first-there (λ x. eqb (x .address) (e .address)) (c .endpoints) m (eq-eqb (e .address) _ refl) in
       let (n, q) = first-some (λ x. eqb (x .address) (e .address)) (c .endpoints) p in

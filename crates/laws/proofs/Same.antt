@@ -23,7 +23,7 @@ module _ (v : View) where
   moved : {a b : Shared} {k : ℕ} (e : ℕ) → a ≡ b → home v b e ≡ k → home v a e ≡ k
   moved e f p = ap (λ c. home v c e) f ∙ p
 
-  pub turn : (k : ℕ) (r s : Device) → SameIn v k r s → SameIn v k s r
+  turn : (k : ℕ) (r s : Device) → SameIn v k r s → SameIn v k s r
   turn k r s h = record {
     firm = sym (h .firm);
     alternate = sym (h .alternate);
@@ -31,7 +31,7 @@ module _ (v : View) where
     toggles = λ e p. sym (h .toggles e (moved e (h .firm) p));
   }
 
-  pub join : (k : ℕ) (r s t : Device) → SameIn v k r s → SameIn v k s t → SameIn v k r t
+  join : (k : ℕ) (r s t : Device) → SameIn v k r s → SameIn v k s t → SameIn v k r t
   join k r s t h i = record {
     firm = h .firm ∙ i .firm;
     alternate = h .alternate ∙ i .alternate;

@@ -113,7 +113,7 @@ bodies-length set f start end (e ∷ es) p = go (f e) (bodies-length set f (star
     go true h = rw length-take (omega arith)
     go false h = omega arith
 
-pub accepted-length : (limits : Limits) (b : Board) → Groups limits b → length (acceptedLines (b .set)) ≤ room
+accepted-length : (limits : Limits) (b : Board) → Groups limits b → length (acceptedLines (b .set)) ≤ room
 unfolding goodFrame goodContents
 accepted-length limits b g =
     let set = b .set in

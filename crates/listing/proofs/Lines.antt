@@ -1,12 +1,12 @@
 -- The lines of a configuration, descriptor by descriptor, and the fields of a line, one by one. No axiom.
-use Prim.Native.Nat.{ℕ, _+_, _*_, _≤_, _<_}
+use Prim.Native.Nat.{ℕ, _+_, _≤_, _<_}
 use native.Mathlib.Omega.{arith}
 use mathlib.Core.Path.{_≡_, refl, sym, ap, _∙_}
 use mathlib.Core.List.{List, [], _∷_, _++_, map, flatMap, append-assoc}
-use mathlib.Core.Bool.{Bool, true, false, _&&_}
+use mathlib.Core.Bool.{Bool, true, false}
 use lib.ListN.{length, drop, getD, drop-of-length-le}
 use Rattle.octets.specs.Octets.{byte}
-use Rattle.octets.specs.Sentences.{pick, _⇒_, every, only, pairs, isEmpty}
+use Rattle.octets.specs.Sentences.{pick, every, pairs, isEmpty}
 use Rattle.octets.proofs.Sentences.{cases, both, conjunct}
 use Rattle.descriptors.specs.declared.limits.Limits.{Limits}
 use Rattle.descriptors.specs.Cut.{cut, descriptorsOf, wellCut}
@@ -15,10 +15,10 @@ use Rattle.descriptors.specs.Interfaces.{grouped, begunBy, settingOf, endpoints
 use Rattle.descriptors.specs.Configuration.{bNumInterfaces, bConfigurationValue, goodConfiguration, behind, groupsOf}
 use Rattle.descriptors.specs.Walk.{before, standOf}
 use Rattle.sets.specs.declared.Entry.{Entry}
-use Rattle.sets.specs.Contents.{entryOf, entries, bodyOf, bodies, isKind, count}
-use Rattle.sets.proofs.Entries.{rest, rest-start, next-entry, no-entry, every-cons}
+use Rattle.sets.specs.Contents.{bodyOf}
+use Rattle.sets.proofs.Entries.{restOf}
 use Rattle.listing.specs.Listing.{decimal, fields, line, endpointLine, interfaceLines, configurationLines}
-use Rattle.listing.specs.Written.{interfaceLine, telling, descriptorLines, entryLines, goodListed}
+use Rattle.listing.specs.Written.{interfaceLine, telling, descriptorLines}
 use Rattle.descriptors.specs.declared.walk.Stand.{Stand}
 use Rattle.descriptors.proofs.GoodBody.{GoodDescriptors, good-cut, good-body}
 use Rattle.descriptors.proofs.Walks.{collected-flat}
@@ -41,7 +41,7 @@ pub no-field : (xs : List ℕ) (i : ℕ) → length xs ≤ i → fields (drop i 
 no-field xs i h = ap fields (drop-of-length-le xs h) ∙ fields-none
 
 -- ---- the descriptors of a configuration
-pub flat-cons : {A : Type 0} (f : A → List ℕ) (x : A) (xs : List A) → flatMap f (x ∷ xs) ≡ f x ++ flatMap f xs
+flat-cons : {A : Type 0} (f : A → List ℕ) (x : A) (xs : List A) → flatMap f (x ∷ xs) ≡ f x ++ flatMap f xs
 unfolding flatMap
 flat-cons f x xs = refl
 
@@ -69,7 +69,7 @@ by-descriptor (d ∷ ds) = go (isInterface d) (isEndpoint d) refl refl (by-descr
     go false true p q rest = rw (p, q, append-assoc) (ap (λ (l : List ℕ). endpointLine d ++ l) rest)
     go false false p q rest = rw (p, q) rest
 
-pub differ : false ≡ true → ⊥
+differ : false ≡ true → ⊥
 differ p = let z : _≡_ {A = ℕ} 0 1 = ap (λ (b : Bool). pick b 1 0) p in omega arith
 
 none-loose : (ds : List (List ℕ)) → isEmpty ds ≡ true → flatMap endpointLine ds ≡ []
@@ -104,42 +104,14 @@ pub configuration-lines : (limits : Limits) (body : List ℕ) → goodConfigurat
 configuration-lines limits body p =
     ap (λ (l : List ℕ). headLine body ++ l) (in-order body (good-cut limits body p) (nothing-loose limits (length body) (descriptorsOf (cut body)) (good-body limits body p)))
 
--- ---- the configurations of a set, entry by entry
-by-entry : (set : List ℕ) (es : List Entry) → flatMap configurationLines (map (bodyOf set) (only (isKind 2) es)) ≡ flatMap (entryLines set) es
-unfolding flatMap only
-by-entry set [] = refl
-by-entry set (e ∷ es) = go (isKind 2 e) (by-entry set es)
-  where
-    go : (b : Bool) → flatMap configurationLines (map (bodyOf set) (only (isKind 2) es)) ≡ flatMap (entryLines set) es
-        → flatMap configurationLines (map (bodyOf set) (pick b (e ∷ only (isKind 2) es) (only (isKind 2) es))) ≡ pick b (configurationLines (bodyOf set e)) [] ++ flatMap (entryLines set) es
-    go true p = ap (λ (l : List ℕ). configurationLines (bodyOf set e) ++ l) p
-    go false p = p
+-- ---- the configurations of a set that are left at an entry, where that is the next of them
+abbrev pub bodiesFrom : List ℕ → ℕ → List (List ℕ)
+bodiesFrom set i = map (bodyOf set) (restOf 2 set i)
 
-pub entry-lines : (set : List ℕ) → flatMap configurationLines (bodies 2 set) ≡ flatMap (entryLines set) (rest set 0)
-entry-lines set = by-entry set (entries set) ∙ ap (flatMap (entryLines set)) (rest-start set)
+module _ (set : List ℕ) (i : ℕ) {e : Entry} {es : List Entry} (q : restOf 2 set i ≡ e ∷ es) where
+  pub next-lines : flatMap configurationLines (bodiesFrom set i) ≡ configurationLines (bodyOf set e) ++ flatMap configurationLines (map (bodyOf set) es)
+  next-lines = ap (λ xs. flatMap configurationLines (map (bodyOf set) xs)) q ∙ flat-cons configurationLines (bodyOf set e) (map (bodyOf set) es)
 
-good-by-entry : (l : Limits) (set : List ℕ) (es : List Entry) → every (goodConfiguration l) (map (bodyOf set) (only (isKind 2) es)) ≡ every (goodListed l set) es
-unfolding every only
-good-by-entry l set [] = refl
-good-by-entry l set (e ∷ es) = go (isKind 2 e) (good-by-entry l set es)
-  where
-    go : (b : Bool) → every (goodConfiguration l) (map (bodyOf set) (only (isKind 2) es)) ≡ every (goodListed l set) es
-        → every (goodConfiguration l) (map (bodyOf set) (pick b (e ∷ only (isKind 2) es) (only (isKind 2) es))) ≡ ((b ⇒ goodConfiguration l (bodyOf set e)) && every (goodListed l set) es)
-    go true p = ap (λ (b : Bool). goodConfiguration l (bodyOf set e) && b) p
-    go false p = p
-
-pub entries-good : (l : Limits) (set : List ℕ) → every (goodConfiguration l) (bodies 2 set) ≡ true → every (goodListed l set) (rest set 0) ≡ true
-entries-good l set p = sym (good-by-entry l set (entries set) ∙ ap (every (goodListed l set)) (rest-start set)) ∙ p
-
--- a turn of the loop over them, where e is the i-th, and its end
-module _ (set : List ℕ) (n : ℕ) (p : n ≡ count set) (i : ℕ) where
-  pub next-entry-lines : i < n → (e : Entry) → e ≡ entryOf (drop (4 + 8 * i) set) → flatMap (entryLines set) (rest set i) ≡ entryLines set e ++ flatMap (entryLines set) (rest set (i + 1))
-  next-entry-lines h e q = ap (flatMap (entryLines set)) (next-entry set n p i h e q) ∙ flat-cons (entryLines set) e (rest set (i + 1))
-
-  pub next-good : (l : Limits) → i < n → (e : Entry) → e ≡ entryOf (drop (4 + 8 * i) set) → every (goodListed l set) (rest set i) ≡ true → (goodListed l set e ≡ true) × (every (goodListed l set) (rest set (i + 1)) ≡ true)
-  next-good l h e q g =
-      both (goodListed l set e) (every (goodListed l set) (rest set (i + 1)))
-      (sym (every-cons (goodListed l set) e (rest set (i + 1))) ∙ ap (every (goodListed l set)) (sym (next-entry set n p i h e q)) ∙ g)
-
-  pub no-entry-lines : n ≤ i → flatMap (entryLines set) (rest set i) ≡ []
-  no-entry-lines h = ap (flatMap (entryLines set)) (no-entry set n p i h) ∙ flat-none (entryLines set)
+  pub next-good : (l : Limits) → every (goodConfiguration l) (bodiesFrom set i) ≡ true → (goodConfiguration l (bodyOf set e) ≡ true) × (every (goodConfiguration l) (map (bodyOf set) es) ≡ true)
+  unfolding every
+  next-good l g = both (goodConfiguration l (bodyOf set e)) (every (goodConfiguration l) (map (bodyOf set) es)) (rw q at g)

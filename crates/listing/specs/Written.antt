@@ -1,19 +1,14 @@
 -- Working definitions for the contracts of what writes lines into a buffer; no promise cites them.
 use Prim.Native.Nat.{ℕ, _+_, _/_, _%_}
 use mathlib.Core.List.{List, [], _∷_}
-use mathlib.Core.Bool.{Bool}
 use lib.Dec.{leb}
 use Rattle.octets.specs.Octets.{byte}
-use Rattle.octets.specs.Sentences.{pick, _⇒_}
+use Rattle.octets.specs.Sentences.{pick}
 use Rattle.descriptors.specs.declared.Setting.{Setting}
 use Rattle.descriptors.specs.declared.walk.Stand.{Stand}
-use Rattle.descriptors.specs.Configuration.{goodConfiguration}
-use Rattle.descriptors.specs.declared.limits.Limits.{Limits}
-use Rattle.sets.specs.declared.Entry.{Entry}
-use Rattle.sets.specs.Contents.{isKind, bodyOf}
 use Rattle.descriptors.specs.Descriptor.{isInterface, isEndpoint, bNumEndpoints}
 use Rattle.descriptors.specs.Walk.{settingAt, before, collected}
-use Rattle.listing.specs.Listing.{line, endpointLine, configurationLines}
+use Rattle.listing.specs.Listing.{line, endpointLine}
 
 -- a digit before the last: a number has it from this power of ten on
 abbrev pub lead : ℕ → ℕ → List ℕ
@@ -32,10 +27,3 @@ telling at stand d = lineAt stand d
 
 abbrev pub descriptorLines : List ℕ → List ℕ
 descriptorLines body = collected telling body before (byte body 0)
-
--- the lines of one entry of a set, where it is a configuration's; and that it is a good one at a speed
-abbrev pub entryLines : List ℕ → Entry → List ℕ
-entryLines set e = pick (isKind 2 e) (configurationLines (bodyOf set e)) []
-
-abbrev pub goodListed : Limits → List ℕ → Entry → Bool
-goodListed limits set e = isKind 2 e ⇒ goodConfiguration limits (bodyOf set e)

@@ -5,7 +5,6 @@ use descriptors::types;
 use descriptors::walk;
 use descriptors::walk::BEFORE_FIRST;
 use descriptors::walk::Stand;
-use sets::Entry;
 use sets::contents::body_of;
 use sets::contents::count_of;
 use sets::contents::entry_at;
@@ -24,7 +23,7 @@ ghost use Rattle.sets.specs.Opening.{lent};
 ghost use Rattle.buffers.specs.Written.{Room, Wrote};
 ghost use Rattle.listing.specs.Listing.{decimal, fields, line, endpointLine, configurationLines, acceptedLines};
 ghost use Rattle.listing.specs.Listed.{room, Listed};
-ghost use Rattle.listing.specs.Written.{lead, interfaceLine, lineAt, descriptorLines, entryLines, goodListed};
+ghost use Rattle.listing.specs.Written.{lead, interfaceLine, lineAt, descriptorLines};
 
 // The length of a buffer in which the text of any set has room.
 pub const ROOM: usize = 49152;
@@ -145,18 +144,6 @@ fn put_configuration(out: &mut [u8], at: usize, body: &[u8]) -> usize
     put_descriptors(out, next, body)
 }
 
-// The lines of an entry: a configuration's, and none for any other.
-fn put_entry(out: &mut [u8], at: usize, set: &[u8], e: Entry) -> usize
-    requires { ⌜ ((l : Limits) × (goodListed l (now set) e ≡ true)) ⌝ }
-    requires { ⌜ Room (now out) at (entryLines (now set) e) ⌝ }
-    ensures { λ r. ⌜ Wrote (now (out .entry)) at (entryLines (now (set .entry)) e) (now (out .exit)) r ⌝ }
-{
-    if e.kind == types::CONFIGURATION {
-        return put_configuration(out, at, body_of(set, e));
-    }
-    at
-}
-
 // The lines of all configurations, in the set's order.
 fn put_configurations(out: &mut [u8], at: usize, set: &[u8]) -> usize
     requires { ⌜ ((l : Limits) × (every (goodConfiguration l) (bodies 2 (now set)) ≡ true)) ⌝ }
@@ -167,8 +154,11 @@ fn put_configurations(out: &mut [u8], at: usize, set: &[u8]) -> usize
     let mut next = at;
     let mut i: u8 = 0;
     while i < count {
-        next = put_entry(out, next, set, entry_at(set, i));
+        let e = entry_at(set, i);
         i += 1;
+        if e.kind == types::CONFIGURATION {
+            next = put_configuration(out, next, body_of(set, e));
+        }
     }
     next
 }

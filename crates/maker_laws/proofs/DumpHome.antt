@@ -73,7 +73,7 @@ module _ (set serial : List ℕ) (opened : opensAs fullSpeed set serial ≡ true
   pub configurations-many : length (contents.bodies 2 set) ≡ length (piecesOf 2 (piecesIn set))
   configurations-many = ap length (bodies-of set 2) ∙ length-map (piecesOf 2 (piecesIn set)) bodyIs
 
-  pub some-configuration : 1 ≤ length (contents.bodies 2 set)
+  some-configuration : 1 ≤ length (contents.bodies 2 set)
   some-configuration =
       let n = bNumConfigurations (deviceBody set) in
       omega (arith, leb-true 1 n (conjunct 5 deviceRules (device .1)), eqb-true n _ (conjunct 7 deviceRules (device .1)), configurations-many)
@@ -97,7 +97,7 @@ module _ (set serial : List ℕ) (opened : opensAs fullSpeed set serial ≡ true
   pub exported-configurations : configurationsIn (exported set) ≡ contents.bodies 2 set
   exported-configurations = joined-configurations (deviceBody set) (contents.bodies 2 set) device-long some-configuration sized-body
 
-  pub own-pieces : own set ≡ devicePiece (deviceBody set) ∷ numbered 0 (contents.bodies 2 set)
+  own-pieces : own set ≡ devicePiece (deviceBody set) ∷ numbered 0 (contents.bodies 2 set)
   own-pieces =
       ap (λ (ps : List Piece). ps ++ piecesOf 2 (piecesIn set)) (device .0)
       ∙ ap (λ (ps : List Piece). devicePiece (deviceBody set) ∷ ps)

@@ -57,7 +57,7 @@ module _ (d : List ℕ) (bs : List (List ℕ)) where
   abbrev pub made : List ℕ
   made = laid ps
 
-  pub ps-total : pieces.laidLength ps ≡ 4 + 8 * (1 + length bs) + length (d ++ flat bs)
+  ps-total : pieces.laidLength ps ≡ 4 + 8 * (1 + length bs) + length (d ++ flat bs)
   unfolding bodyBytes
   ps-total = omega (arith, numbered-length 0 bs, ap (λ (l : List ℕ). length (d ++ l)) (numbered-flat 0 bs))
 

@@ -14,7 +14,6 @@ use Rattle.sets.specs.Contents.{entries, isKind, before, total, bodiesAt, endTo
 use Rattle.sets.specs.Strings.{references}
 use Rattle.octets.specs.Octets.{Bytes}
 use Rattle.sets.proofs.Entries.{every-cons}
-use Rattle.sets.specs.Opening.{lent}
 use Rattle.sets.specs.Pieces.{Piece, pieceFor, piecesIn}
 use Rattle.set_writer.specs.Writer.{laid, opensAs}
 use Rattle.sets.proofs.Pieces.{of-kind}

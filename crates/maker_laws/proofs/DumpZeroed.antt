@@ -19,8 +19,7 @@ use Rattle.descriptors.specs.Cut.{descriptor, broken, cut, cutAfter, descriptor
 use Rattle.descriptors.specs.Descriptor.{isInterface, isEndpoint, iInterface, goodDescriptor}
 use Rattle.descriptors.specs.Interfaces.{Group, Groups, grouped, settingOf, endpointOf, endpointsOf, counted, goodInterfaces}
 use Rattle.descriptors.specs.Companion.{goodCompanions}
-use Rattle.descriptors.specs.Configuration.{bConfigurationValue, iConfiguration, configurationReferences, behind, goodHead, goodDescriptors, goodConfiguration}
-use Rattle.descriptors.specs.Configuration.{isConfiguration, headLongEnough, totalIsSize, bitSevenOne, lowBitsZero, powerWithin, countsInterface, atMost16Interfaces}
+use Rattle.descriptors.specs.Configuration.{bConfigurationValue, iConfiguration, configurationReferences, behind, goodHead, goodDescriptors, goodConfiguration, isConfiguration, headLongEnough, totalIsSize, bitSevenOne, lowBitsZero, powerWithin, countsInterface, atMost16Interfaces}
 use Rattle.descriptors.proofs.GoodBody.{GoodDescriptors, good-cut, good-body}
 use Rattle.descriptors.proofs.CheckReferences.{ofInterface, references-all}
 use Rattle.sets.specs.Device.{iManufacturer, iProduct, iSerialNumber, goodDevice}
@@ -36,7 +35,7 @@ zero-there [] p = refl
 zero-there (x ∷ l) zero = refl
 zero-there (x ∷ l) (suc p) = zero-there l p
 
-pub blanked-byte : (ps l : List ℕ) (k : ℕ) → byte (blanked ps l) k ≡ pick (member k ps) 0 (byte l k)
+blanked-byte : (ps l : List ℕ) (k : ℕ) → byte (blanked ps l) k ≡ pick (member k ps) 0 (byte l k)
 unfolding blanked any
 blanked-byte [] l k = refl
 blanked-byte (p ∷ ps) l k = blanked-byte ps (set l p 0) k ∙ cases (eqb k p) (λ e. rw e (zeros (member k ps) (rw (eqb-true k p e) (zero-there l p)))) (λ e. rw (e, getD-set-other l p k 0 0 (eqb-false k p e)))

@@ -20,7 +20,7 @@ use Rattle.sets.specs.Pieces.{Piece, pieceFor, piecesIn, kindOf}
 use Rattle.sets.proofs.Pieces.{map-only}
 use Rattle.set_writer.specs.Writer.{laid}
 use Rattle.set_writer.proofs.ReadBack.{read-back}
-use Rattle.trimming.specs.Trim.{referenced, referencedString, zeroStays, kept, keptPieces, trimmed, zeroFilled, Trims}
+use Rattle.trimming.specs.Trim.{referenced, referencedString, zeroStays, keptPieces, trimmed, zeroFilled, Trims}
 use Rattle.trimming.specs.Asked.{bodyIn, bodyUnder, left}
 use Rattle.set_writer.proofs.InPieces.{only-only, any-only, first-only, Alike, same-device, same-references}
 
@@ -49,7 +49,7 @@ module _ (set : List ℕ) where
   pub not-string : (t : ℕ) → eqb t 3 ≡ false → (p : Piece) → kindOf t p ≡ true → keptPiece set p ≡ true
   not-string t h p k = rw (eqb-true (p .kind) t k, h)
 
-  pub named-kept : (p : Piece) → stringNamed set p ≡ true → keptPiece set p ≡ true
+  named-kept : (p : Piece) → stringNamed set p ≡ true → keptPiece set p ≡ true
   named-kept p h =
       let (a, n) = both (kindOf 3 p && leb 1 (p .index)) (referenced set (p .index)) h in
       let i = leb-true 1 (p .index) (both (kindOf 3 p) (leb 1 (p .index)) a .1) in
@@ -66,7 +66,7 @@ module _ (set : List ℕ) where
   }
 
   -- ---- trimming again
-  pub named-again : (j : ℕ) → referenced (trimmed set) j ≡ referenced set j
+  named-again : (j : ℕ) → referenced (trimmed set) j ≡ referenced set j
   named-again j = ap (member j) (same-references alike)
 
   pub zero-pieces : any (referencedString set) (entries set) ≡ any (stringNamed set) (piecesIn set)
@@ -80,10 +80,10 @@ named-still set =
     ∙ any-only (stringNamed set) (keptPiece set) (named-kept set) (piecesIn set)
     ∙ sym (zero-pieces set)
 
-pub zero-again : (set : List ℕ) → zeroStays (trimmed set) ≡ zeroStays set
+zero-again : (set : List ℕ) → zeroStays (trimmed set) ≡ zeroStays set
 zero-again set = rw (named-still set, same-device (alike set))
 
-pub left-again : (set : List ℕ) (kind index : ℕ) → left (trimmed set) kind index ≡ left set kind index
+left-again : (set : List ℕ) (kind index : ℕ) → left (trimmed set) kind index ≡ left set kind index
 left-again set kind index = rw (zero-again set, named-again set index)
 
 -- "trimming those again changes nothing"

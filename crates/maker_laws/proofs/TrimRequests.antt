@@ -16,7 +16,7 @@ use Rattle.octets.proofs.Sentences.{cases, never, both, joined, neither, or-lef
 use Rattle.descriptors.specs.Configuration.{Configuration}
 use Rattle.descriptors.specs.Limits.{fullSpeed}
 use Rattle.sets.specs.declared.Entry.{Entry}
-use Rattle.sets.specs.Contents.{entries, entriesOf, bodyOf, isKind}
+use Rattle.sets.specs.Contents.{entries, entriesOf, bodies, bodyOf, isKind}
 use Rattle.sets.specs.Device.{deviceBody, iManufacturer, iProduct, iSerialNumber}
 use Rattle.sets.specs.Strings.{languages}
 use Rattle.sets.specs.Opening.{lent, opening}
@@ -41,7 +41,7 @@ use Rattle.events.specs.Requests.{isEntry, bodyAt, byIndex, languageFor, locate
 use Rattle.events.specs.Step.{request, refusalFor, answerSetup, halt, packetPassed, respond, step, Reply, replyOf, event}
 use Rattle.set_writer.proofs.InPieces.{same-bodies}
 use Rattle.trimming.specs.Trim.{referenced, referencedString, zeroStays, kept, trimmed}
-use Rattle.trimming.specs.Keeping.{deviceNames, entryNames}
+use Rattle.trimming.specs.Keeping.{namedIn}
 use Rattle.trimming.proofs.Naming.{named-by}
 use Rattle.trimming.specs.Asked.{bodyIn, bodyUnder, left}
 use Rattle.laws.proofs.Outcomes.{Answered, reads, fromSet, fromSerial, changes, refusedWith, inTest, Responded, answers, leaves, becomes, refuses, responded}
@@ -288,7 +288,7 @@ module _ (set serial : List ℕ) where
         (λ p. let (l, e) = both (leb 1 index) (eqb index (iSerialNumber (deviceBody set))) p in
         let i : eqb index 0 ≡ false = ne-eqb index 0 (λ z. omega (arith, leb-true 1 index l)) in
         let d = deviceBody set in
-        let r : referenced set index ≡ true = named-by set index ∙ or-left (any (entryNames set index) (entries set)) (or-right (eqb index (iManufacturer d)) (or-right (eqb index (iProduct d)) e)) in
+        let r : referenced set index ≡ true = named-by set index ∙ or-left (any (namedIn index) (bodies 2 set)) (or-right (eqb index (iManufacturer d)) (or-right (eqb index (iProduct d)) e)) in
         never r (rw i at h))
         (λ p. p)
 

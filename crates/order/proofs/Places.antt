@@ -321,7 +321,7 @@ module _ {E : Type 0} {who : E → ℕ} where
   pub own-places : (xs ys : List E) → Permuted who xs ys → (k : ℕ) → own who k xs ≡ own who k ys
   own-places xs ys w = own-shuffle (shuffle-of who xs ys w)
 
-  pub places-of : {xs ys : List E} → Shuffle who xs ys → Permuted who xs ys
+  places-of : {xs ys : List E} → Shuffle who xs ys → Permuted who xs ys
   places-of stay = stay-places
   places-of (same e p) = same-places e (places-of p)
   places-of (swap e f n) = swap-places e f n

@@ -93,7 +93,7 @@ module _ (b : Board) (r : Records) (e : Told) (p : Pending b r) where
   by-wire Refuse q = quiet-wire (ap (eventsBy b r e) q)
 
   -- "the address byte changes only at a taken in status in after a SET_ADDRESS that was answered with 0 and no SETUP or reset since, or at a reset"
-  pub readdresses : Readdresses b r (onWire e)
+  readdresses : Readdresses b r (onWire e)
   readdresses = by-wire (e .wire) refl
 
 -- ---- what is kept
@@ -250,18 +250,18 @@ module _ (b : Board) (r : Records) (e : Told) where
   by-wire-kept l p Accept q = on-transfer (ap quiet q) (ap (drops b r e) q) (long l ∙ ap (heardAs b r e) q) p
   by-wire-kept l p Refuse q = on-transfer (ap quiet q) (ap (drops b r e) q) (long l ∙ ap (heardAs b r e) q) p
 
-  pub pendingKept : Pending b r → Pending b (leaves b r e)
+  pendingKept : Pending b r → Pending b (leaves b r e)
   pendingKept p = cases (eqb (length (r .pipe)) 16) (λ l. by-wire-kept l p (e .wire) refl) (λ z. short z p)
 
 -- ---- the other events
 module _ (b : Board) (r : Records) (x : Other) where
-  pub besideKept : Pending b r → Pending b (leavesBy b r (beside x))
+  besideKept : Pending b r → Pending b (leavesBy b r (beside x))
   besideKept (none l) = none (rw (otherSame b (r .image) x .waiting) l)
   besideKept (rests p) = rests p
   besideKept (inStatus p a) = inStatus p (subst (λ n. Addressed b n (leavesBy b r (beside x))) (sym (otherSame b (r .image) x .waiting)) (waits r (beside x) refl a))
 
 -- ---- a run: from a pipe at rest, whatever the device record, at every event of every run
-pub pendingIn : (b : Board) (r : Records) (es : List Happening) → Pending b r → Pending b (after b r es)
+pendingIn : (b : Board) (r : Records) (es : List Happening) → Pending b r → Pending b (after b r es)
 pendingIn b r [] p = p
 pendingIn b r (onWire e ∷ es) p = pendingIn b (leaves b r e) es (pendingKept b r e p)
 pendingIn b r (beside x ∷ es) p = pendingIn b (leavesBy b r (beside x)) es (besideKept b r x p)

@@ -26,7 +26,8 @@ use Rattle.pipes.proofs.Inverse.{transfer-image}
 use Rattle.pipe_runs.specs.Runs.{Happening, onWire}
 use Rattle.pipe_runs.specs.Packets.{packetAt, packetOf, Within, Begins}
 use Rattle.pipe_runs.proofs.Courses.{Fit, Lies, Course, cuttable, piece-bytes, course}
-use Rattle.pipe_runs.proofs.Cutting.{least, some-packet}
+use Rattle.promises.specs.Packets.{least}
+use Rattle.pipe_runs.proofs.Cutting.{some-packet}
 use Rattle.pipe_runs.proofs.Replies.{begins-so}
 
 module _ (b : Board) (r : Records) (reply : List ℕ) (octets : Bytes (r .pipe)) (fitting : fitsIn (lengthsOf b (r .image) reply) (r .pipe) ≡ true)

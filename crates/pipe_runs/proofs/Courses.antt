@@ -71,7 +71,7 @@ within zero (suc at) size l h = absurd (omega arith)
 within (suc n) (suc at) size [] h = refl
 within (suc n) (suc at) size (x ∷ l) h = within n at size l (omega arith)
 
-pub part-part : (block : List ℕ) (offset n at size : ℕ) → at + size ≤ n → part (part block offset n) at size ≡ part block (offset + at) size
+part-part : (block : List ℕ) (offset n at size : ℕ) → at + size ≤ n → part (part block offset n) at size ≡ part block (offset + at) size
 part-part block offset n at size h = within n at size (drop offset block) h ∙ rw drop-drop
 
 -- packet k of the reply, as a part of its block
@@ -434,7 +434,7 @@ module _ (b : Board) (reply : List ℕ) where
         ap (λ (x : Heard). pick (eqb (x .order) send) ((x .bytes ++ blocks (e .reply) (sent (lengthsOf b image (e .reply)) (x .order) (transferOf (x .left .pipe)))) ∷ []) [] ++ sentIn b (x .left) es) w
         ∙ ap (λ (z : List ℕ). pick (eqb (h .order) send) ((h .bytes ++ blocks z (sent (lengthsOf b image z) (h .order) (transferOf (h .left .pipe)))) ∷ []) [] ++ sentIn b (h .left) es) (q .1)
 
-    pub sends-piece : (u : Transfer) → Fit (lens image) u → leb 1 (u .block) ≡ true → sent (lens image) send (transferOf (imageOf u)) ≡ pieceOf u
+    sends-piece : (u : Transfer) → Fit (lens image) u → leb 1 (u .block) ≡ true → sent (lens image) send (transferOf (imageOf u)) ≡ pieceOf u
     unfolding sent
     sends-piece u g c = ap (sent (lens image) send) (transfer-image u (g .sized)) ∙ rw (eq-eqb (u .stage) dataIn (g .stage), c, g .fit)
 

@@ -2,7 +2,6 @@
 use Prim.Native.Nat.{ℕ, zero, suc, _+_, _-_, _*_, _/_, _≤_, _<_, min}
 use native.Mathlib.Omega.{arith}
 use native.Mathlib.Nat.{suc-mul, zero-mul}
-use native.Mathlib.Decide.{decLe}
 use mathlib.Core.Path.{_≡_, refl, sym, ap, _∙_}
 use mathlib.Core.Bool.{Bool, true, false}
 use mathlib.Core.List.{List, [], _∷_, flatMap, map}
@@ -15,22 +14,12 @@ use Rattle.octets.specs.Sentences.{pick, from, upTo}
 use Rattle.packets.specs.declared.Packet.{Packet}
 use Rattle.packets.specs.Packets.{packetCount, canCut, packet}
 use Rattle.packets.proofs.Sizes.{by-size}
-use Rattle.promises.specs.Packets.{joined, whole-reply}
+use Rattle.promises.specs.Packets.{joined, least, whole-reply}
 use Rattle.pipe_runs.specs.Packets.{packetOf, packetsOf}
 
 -- ---- a packet below the count is the next p bytes, or what is left
-pub least : (p : ℕ) (l : List ℕ) → take (min p (length l)) l ≡ take p l
-least p l = go (decLe p (length l))
-  where
-    go : Dec (p ≤ length l) → take (min p (length l)) l ≡ take p l
-    go (yes h) = let e : min p (length l) ≡ p = omega arith in rw e
-    go (no n) =
-        let e : min p (length l) ≡ length l = omega arith in
-        let m : length l ≤ p = omega arith in
-        rw e (take-all (length l) l (omega arith) ∙ sym (take-all p l m))
-
 module _ (bytes : List ℕ) (w p : ℕ) (can : canCut (length bytes) w p ≡ true) where
-  pub packet-is : (k : ℕ) → k < packetsOf bytes w p → packetOf bytes w p k ≡ take p (drop (k * p) bytes)
+  packet-is : (k : ℕ) → k < packetsOf bytes w p → packetOf bytes w p k ≡ take p (drop (k * p) bytes)
   unfolding packet
   packet-is k l =
       let here : packet (length bytes) w p k ≡ record { number = 0; offset = k * p; length = min p (length bytes - k * p) } = rw (can, lt-ltb k (packetCount (length bytes) w p) l) in

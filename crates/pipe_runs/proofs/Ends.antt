@@ -82,14 +82,14 @@ module _ (n : ℕ) (t : Transfer) where
 -- ---- the rest of this page: a transfer that ends at an event, on a board
 -- so at an event at which a transfer ends the pipe becomes idle
 module _ (b : Board) (r : Records) (e : Told) (ends : endsAt b r e ≡ true) where
-  pub record-fits : fitsIn (lengthsOf b (r .image) (e .reply)) (r .pipe) ≡ true
+  record-fits : fitsIn (lengthsOf b (r .image) (e .reply)) (r .pipe) ≡ true
   record-fits = go (fitsIn (lengthsOf b (r .image) (e .reply)) (r .pipe)) ends
     where
       go : (t : Bool) → pick t (turned (length (e .reply)) (e .wire) (transferOf (r .pipe)) .ended) false ≡ true → t ≡ true
       go true p = refl
       go false p = p
 
-  pub turn-ended : turned (length (e .reply)) (e .wire) (transferOf (r .pipe)) .ended ≡ true
+  turn-ended : turned (length (e .reply)) (e .wire) (transferOf (r .pipe)) .ended ≡ true
   turn-ended = rw record-fits at ends
 
   pub endsHow : EndsBy (transferOf (r .pipe)) (e .wire)

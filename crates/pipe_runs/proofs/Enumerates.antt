@@ -147,7 +147,7 @@ module _ (b : Board) (octets : BytesOf b) (ok : accepted b ≡ true) where
         let one : heard b r (wire (Reset speed)) ≡ restarts (r .pipe) (event b (r .image) (BusReset speed)) = rw (eq-eqb (length (r .pipe)) 16 long) in
         one ∙ ap (restarts (r .pipe)) now
 
-    pub playsOnWire : PlaysOnWire b r (enumerationOnWire b speed a i) (atRest (enumerated speed a value d))
+    playsOnWire : PlaysOnWire b r (enumerationOnWire b speed a i) (atRest (enumerated speed a value d))
     playsOnWire =
         let at-reset = enumeration.at-reset b octets ok d from speed good a low high i there in
         let at-addressed = enumeration.at-addressed b octets ok d from speed good a low high i there in
@@ -160,7 +160,7 @@ module _ (b : Board) (octets : BytesOf b) (ok : accepted b ≡ true) where
         (oneTransfer b octets ok at-addressed (raw 0x00 0x09 value 0 0) (other-code (isSome (b .high)) (raw 0x00 0x09 value 0 0) refl)
         (enumeration.by-configuration b octets ok d from speed good a low high i there) refl (enumeration.still-end b octets ok at-end refl) refl [] _ playedOut))))
 
-    pub readsWhole : All (ReadsWhole (sizeFor b speed)) (deviceLines (deviceBody (setFor b speed)) ++ readLines b speed)
+    readsWhole : All (ReadsWhole (sizeFor b speed)) (deviceLines (deviceBody (setFor b speed)) ++ readLines b speed)
     readsWhole =
         let at-reset = enumeration.at-reset b octets ok d from speed good a low high i there in
         let at-addressed = enumeration.at-addressed b octets ok d from speed good a low high i there in

@@ -114,7 +114,7 @@ abbrev breaksIn : List Happening
 breaksIn = runs (device ∷ wire Taken ∷ setAddress ∷ [])
 
 -- 2: its library events, and so its device record
-pub eventsS : eventsIn S powerOn (breaksIn ++ onWire (wire Taken) ∷ []) ≡ setup 0x8006000100004000 ∷ setup 0x0005050000000000 ∷ StatusEnd ∷ []
+eventsS : eventsIn S powerOn (breaksIn ++ onWire (wire Taken) ∷ []) ≡ setup 0x8006000100004000 ∷ setup 0x0005050000000000 ∷ StatusEnd ∷ []
 unfolding computed heard transferOf imageOf fits turned taken
 eventsS = refl
 

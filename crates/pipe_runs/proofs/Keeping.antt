@@ -57,10 +57,6 @@ module _ (l : Lengths) (n : ℕ) (t : Transfer) (z : Sized t) (f : fits l t ≡ 
   at : (s k : ℕ) → t .stage ≡ s → eqb s k ≡ false → t .stage ≡ k → ⊥
   at s k p q r = eqb-false s k q (sym p ∙ r)
 
-  -- in another stage than data out and asking (its bytes), nothing is asked of what was moved
-  free : (s m : ℕ) → (eqb s dataOut || eqb s askingBytes) ≡ false → goodMoved (withStage s (withMoved m t)) ≡ true
-  free s m q = rw q
-
   taken-becomes : Becomes n t (taken t)
   unfolding taken
   taken-becomes =

@@ -18,8 +18,7 @@ use Rattle.records.specs.Image.{deviceOf}
 use Rattle.records.specs.Image as records
 use Rattle.requests.specs.declared.Setup.{Setup}
 use Rattle.requests.specs.declared.Row.{Row}
-use Rattle.requests.specs.Table.{setupOf}
-use Rattle.requests.specs.Table.{largestIndex, refusal}
+use Rattle.requests.specs.Table.{setupOf, largestIndex, refusal}
 use Rattle.events.specs.declared.Answer.{Answer}
 use Rattle.events.specs.declared.Event.the-variants.{Request, StatusEnd}
 use Rattle.events.specs.declared.Outcome.{Outcome}

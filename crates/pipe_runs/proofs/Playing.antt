@@ -4,7 +4,6 @@ use native.Mathlib.Omega.{arith}
 use mathlib.Core.Path.{_≡_, refl, ap, _∙_}
 use mathlib.Core.Bool.{Bool, true, false}
 use mathlib.Core.List.{List, [], _∷_, _++_, map}
-use lib.ListN.{length}
 use lib.Dec.{eqb, leb, ltb}
 use borrow.Author.Tests.{eq-eqb, lt-ltb, ltb-true}
 use Rattle.octets.specs.Sentences.{pick, from}
@@ -57,7 +56,7 @@ pub record Ending (b : Board) (image left : List ℕ) : Type 0 where
   pub leaves-it : event b image StatusEnd .image ≡ left
 
 -- a transfer that has ended, at whatever event
-pub over : {b : Board} {image left : List ℕ} {rest : List WireLine} {last : Records} (w : Wire) (t : Transfer) → Ending b image left
+over : {b : Board} {image left : List ℕ} {rest : List WireLine} {last : Records} (w : Wire) (t : Transfer) → Ending b image left
     → heard b (record { image = image; pipe = imageOf t }) (wire w) ≡ moves b image ends → PlaysOnWire b (record { image = left; pipe = imageOf idle }) rest last
     → PlaysOnWire b (record { image = image; pipe = imageOf t }) ((wire w, isOver) ∷ rest) last
 over {b} {image} {left} w t e h p =

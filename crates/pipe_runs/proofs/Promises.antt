@@ -45,7 +45,7 @@ use Rattle.pipe_runs.proofs.Keeps as keeps
 pub nothingElseMoves : NothingElseMoves
 nothingElseMoves b r es = moving.nothingElseMoves b r es
 
-pub numbersAreTheLibrarys : NumbersAreTheLibrarys
+numbersAreTheLibrarys : NumbersAreTheLibrarys
 numbersAreTheLibrarys b r e f = counting.numbersAreTheLibrarys b r e f
 
 pub orderDoesNotCount : OrderDoesNotCount
@@ -69,7 +69,7 @@ oncePerTransfer b r e z = record { how = ending.endsHow b r e z; told = ending.t
 pub neverForADropped : NeverForADropped
 neverForADropped b r e z = counting.neverForADropped b r e z
 
-pub atMostOnePerSetup : AtMostOnePerSetup
+atMostOnePerSetup : AtMostOnePerSetup
 atMostOnePerSetup b r p es = counting.atMostOnePerSetup b r p es
 
 -- ---- 6
@@ -81,7 +81,7 @@ silent : (hs : List Heard) → All Rests hs → All SendsNothing hs
 silent [] p = tt
 silent (h ∷ hs) (p, ps) = (record { sends = p .sendsNothing; receives = p .receivesNothing; awaits = p .awaitsNothing }, silent hs ps)
 
-pub restSendsNothing : RestSendsNothing
+restSendsNothing : RestSendsNothing
 restSendsNothing b r p es q = silent (heardIn b r es) (restsIn b r es p q .0)
 
 pub refusedSendsNothing : RefusedSendsNothing
@@ -98,10 +98,10 @@ module _ (b : Board) (octets : BytesOf b) (ok : accepted b ≡ true) where
   fresh-fits : FitImage b (powerOn .image)
   fresh-fits = imageFits b octets ok fresh (freshFit b octets ok)
 
-  pub fitsInRun : (es : List Happening) → FitImage b (after b powerOn es .image)
+  fitsInRun : (es : List Happening) → FitImage b (after b powerOn es .image)
   fitsInRun es = rw (nothingElseMoves b powerOn es) (fits-after (powerOn .image) (eventsIn b powerOn es) fresh-fits)
 
-pub longKept : (b : Board) (r : Records) (e : Told) → length (r .pipe) ≡ 16 → length (leaves b r e .pipe) ≡ 16
+longKept : (b : Board) (r : Records) (e : Told) → length (r .pipe) ≡ 16 → length (leaves b r e .pipe) ≡ 16
 unfolding heard
 longKept b r e long = chosen (λ (h : Heard). length (h .left .pipe) ≡ 16) (eqb (length (r .pipe)) 16) (λ _. by (e .wire)) (λ _. long)
   where
@@ -125,24 +125,24 @@ longKept b r e long = chosen (λ (h : Heard). length (h .left .pipe) ≡ 16) (eq
     by Accept = turned-so
     by Refuse = turned-so
 
-pub longInRun : (b : Board) (r : Records) (es : List Happening) → length (r .pipe) ≡ 16 → length (after b r es .pipe) ≡ 16
+longInRun : (b : Board) (r : Records) (es : List Happening) → length (r .pipe) ≡ 16 → length (after b r es .pipe) ≡ 16
 longInRun b r [] long = long
 longInRun b r (beside x ∷ es) long = longInRun b (leavesBy b r (beside x)) es long
 longInRun b r (onWire e ∷ es) long = longInRun b (leaves b r e) es (longKept b r e long)
 
 -- ---- 8
-pub enumeratesAnyhow : EnumeratesAnyhow
+enumeratesAnyhow : EnumeratesAnyhow
 enumeratesAnyhow b octets ok r start calm speed good a low high i there = enumerates.enumeratesAnyhow b octets ok r start calm speed good a low high i there
 
 pub enumeratesByPackets : EnumeratesByPackets
 enumeratesByPackets b octets ok r (ran es) calm speed good a low high i there =
     enumeratesAnyhow b octets ok (after b powerOn es) (fitsInRun b octets ok es, longInRun b powerOn es (image-length idle)) calm speed good a low high i there
 
-pub takesEachPacket : TakesEachPacket
+takesEachPacket : TakesEachPacket
 takesEachPacket b speed address i = keeps.takesEachPacket b speed address i
 
 -- ---- no 8
-pub alwaysFits : AlwaysFits
+alwaysFits : AlwaysFits
 alwaysFits b r rests es lent e now = keeping.alwaysFits b r rests es lent e now
 
 module _ (b : Board) where

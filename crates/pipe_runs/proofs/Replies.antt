@@ -15,8 +15,7 @@ use Rattle.records.specs.Current.{setFor}
 use Rattle.requests.specs.Table.{setupOf}
 use Rattle.events.specs.declared.Answer.{Answer}
 use Rattle.events.specs.declared.Answer.the-variants.{Done, OneByte, TwoBytes, SetPart, SerialPart, Refused}
-use Rattle.events.specs.Answer.{bytesOf, partOf}
-use Rattle.events.specs.Answer.{InsideAt}
+use Rattle.events.specs.Answer.{bytesOf, partOf, InsideAt}
 use Rattle.events.specs.Step.{Reply, setupEvent, event}
 use Rattle.order.specs.Run.{All}
 use Rattle.packets.specs.Packets.{canCut}

@@ -59,7 +59,7 @@ malformed-rests n with7 bytes image pipe t p = rests-with (λ e. omega arith) (�
 malformed-rests n with8 bytes image pipe t p = rests-with (λ e. omega arith) (λ e. omega arith) (λ e. omega arith) isStalled
 malformed-rests n with9 bytes image pipe t p = rests-with (λ e. omega arith) (λ e. omega arith) (λ e. omega arith) p
 
-pub idle-fits : (l : Lengths) → fitsIn l (imageOf idle) ≡ true
+idle-fits : (l : Lengths) → fitsIn l (imageOf idle) ≡ true
 unfolding transferOf imageOf fits
 idle-fits l = refl
 

@@ -36,7 +36,7 @@ not-nine d s = go (inTestMode d && true)
     go true = refl
     go false = refl
 
-pub neverNine : (b : Board) (image setup : List ℕ) → length setup ≡ 8 → answeredWith b image setup ≡ 9 → ⊥
+neverNine : (b : Board) (image setup : List ℕ) → length setup ≡ 8 → answeredWith b image setup ≡ 9 → ⊥
 neverNine b image setup long nine = false≢true (sym refuse ∙ allow)
   where
     s : Setup

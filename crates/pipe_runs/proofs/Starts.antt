@@ -2,53 +2,31 @@
 -- length are numbers of two bytes. No axiom.
 use Prim.Native.Nat.{ℕ, _+_, _/_, _≤_, _<_}
 use native.Mathlib.Omega.{arith}
-use native.Mathlib.Nat.{zero-add}
-use mathlib.Core.Path.{_≡_, refl, sym}
+use mathlib.Core.Path.{_≡_, refl}
 use mathlib.Core.Bool.{true, _||_}
-use mathlib.Core.List.{List, [], _∷_}
-use lib.ListN.{length}
+use mathlib.Core.List.{List}
 use lib.Dec.{eqb, leb}
-use borrow.Author.Tests.{eqb-true, leb-true, le-leb}
+use borrow.Author.Tests.{le-leb}
 use Rattle.octets.specs.Octets.{byte, Bytes}
-use Rattle.octets.proofs.Sentences.{both, conjunct}
-use Rattle.sets.specs.Contents.{total, count, bodiesAt, goodFrame}
+use Rattle.octets.proofs.Sentences.{both}
 use Rattle.sets.specs.Opening.{Board}
-use Rattle.sets.specs.View.{openingOf, accepted}
-use Rattle.sets.proofs.Groups.{groups}
+use Rattle.sets.specs.View.{accepted}
 use Rattle.records.specs.Image.{deviceOf}
-use Rattle.records.specs.Current.{setFor, boardFor}
-use Rattle.records.proofs.InUse.{rowFor, opensFor}
 use Rattle.requests.specs.Table.{setupOf}
 use Rattle.events.specs.declared.Answer.{Answer}
 use Rattle.events.specs.declared.Answer.the-variants.{Done, OneByte, TwoBytes, SetPart, SerialPart, Refused}
 use Rattle.events.specs.declared.Event.{Event}
-use Rattle.events.specs.Answer.{numberOf, bytesOf, partOf}
-use Rattle.events.specs.Answer.{InsideAt}
+use Rattle.events.specs.Answer.{numberOf, partOf, InsideAt}
 use Rattle.events.specs.Step.{setupEvent, event}
 use Rattle.promises.specs.Refusals.{eventInside}
 use Rattle.promises.specs.Replies.{sizeCuts, eventWithin, doneAccepted}
 use Rattle.pipes.specs.Transfer.{blockLength, fits}
 use Rattle.pipes.specs.Turns.{replyAt, started}
 use Rattle.pipes.specs.Pipe.{lengthsOf, packetSize}
+use Rattle.pipes.proofs.Replies.{short-set, reply-length, reply-place}
 use Rattle.pipe_runs.proofs.Courses.{Fit}
 
--- "at most 16,384" bytes
-short-set : (b : Board) (speed : ℕ) → accepted b ≡ true → length (setFor b speed) ≤ 16384
-unfolding goodFrame
-short-set b speed ok =
-    let set = setFor b speed in
-    let g = groups (rowFor (b .high) speed) (boardFor b speed) (opensFor b speed (eqb-true (openingOf b) 0 ok)) in
-    leb-true (length set) 16384 (conjunct 1 (leb 4 (length set) ∷ leb (length set) 16384 ∷ eqb (total set) (length set) ∷ leb 1 (count set) ∷ leb (count set) 64 ∷ eqb (byte set 3) 0 ∷ leb (bodiesAt set) (total set) ∷ []) (g .frame))
-
 -- ---- an answer's reply
-reply-length : (a : Answer) → replyAt a .length ≡ length (bytesOf a) + partOf a .length
-reply-length Done = refl
-reply-length (OneByte x) = refl
-reply-length (TwoBytes x y) = refl
-reply-length (SetPart offset size) = sym (zero-add size)
-reply-length (SerialPart size) = sym (zero-add size)
-reply-length (Refused n) = refl
-
 reply-inside : (b : Board) (image reply : List ℕ) (a : Answer) → InsideAt b (deviceOf image .speed) (partOf a)
     → replyAt a .offset + replyAt a .length ≤ blockLength (lengthsOf b image reply) (replyAt a .block)
 reply-inside b image reply Done h = omega arith
@@ -66,27 +44,19 @@ reply-block (SetPart offset size) = refl
 reply-block (SerialPart size) = refl
 reply-block (Refused n) = refl
 
-reply-place : (b : Board) (speed : ℕ) (a : Answer) → InsideAt b speed (partOf a) → (numberOf a ≡ 0 → length (setFor b speed) ≤ 16384) → replyAt a .offset < 65536
-reply-place b speed Done h s = omega arith
-reply-place b speed (OneByte x) h s = omega arith
-reply-place b speed (TwoBytes x y) h s = omega arith
-reply-place b speed (SetPart offset size) h s = let z = s refl in omega arith
-reply-place b speed (SerialPart size) h s = omega arith
-reply-place b speed (Refused n) h s = omega arith
-
 -- ---- of an event's answer
 module _ (b : Board) (image : List ℕ) (e : Event) where
-  pub placeSmall : replyAt (event b image e .answer) .offset < 65536
+  placeSmall : replyAt (event b image e .answer) .offset < 65536
   placeSmall = reply-place b (deviceOf image .speed) (event b image e .answer) (eventInside b image e) (λ z. short-set b (deviceOf image .speed) (doneAccepted b image e z))
 
 module _ (b : Board) (image setup : List ℕ) where
   abbrev answer : Answer
   answer = event b image (setupEvent setup) .answer
 
-  pub lengthWithin : replyAt answer .length ≤ setupOf setup .wLength
+  lengthWithin : replyAt answer .length ≤ setupOf setup .wLength
   lengthWithin = rw (reply-length answer) (eventWithin b image setup)
 
-  pub lengthSmall : Bytes setup → replyAt answer .length < 65536
+  lengthSmall : Bytes setup → replyAt answer .length < 65536
   lengthSmall bytes = omega (arith, lengthWithin, bytes 6, bytes 7)
 
   -- the transfer that it starts

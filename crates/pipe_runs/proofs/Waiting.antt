@@ -23,8 +23,7 @@ use Rattle.records.specs.Image.{deviceOf, imageOf}
 use Rattle.records.specs.Current.{selected, endpointAt, viewAt}
 use Rattle.records.specs.Fits.{fitsOn}
 use Rattle.requests.specs.declared.Setup.{Setup}
-use Rattle.requests.specs.Table.{recipient}
-use Rattle.requests.specs.Table.{refusal}
+use Rattle.requests.specs.Table.{recipient, refusal}
 use Rattle.events.specs.declared.Answer.{Answer}
 use Rattle.events.specs.declared.Answer.the-variants.{Refused}
 use Rattle.events.specs.declared.Event.{Event}

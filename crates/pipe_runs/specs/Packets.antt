@@ -11,8 +11,7 @@ use Rattle.sets.specs.Opening.{Board}
 use Rattle.records.specs.Image.{deviceOf}
 use Rattle.records.specs.Current.{setFor}
 use Rattle.events.specs.declared.Answer.{Answer}
-use Rattle.events.specs.Answer.{bytesOf, partOf}
-use Rattle.events.specs.Answer.{bytesAt}
+use Rattle.events.specs.Answer.{bytesOf, partOf, bytesAt}
 use Rattle.events.specs.Step.{setupEvent, event}
 use Rattle.packets.specs.Packets.{packetCount, packet}
 use Rattle.pipes.specs.Transfer.{send, await}

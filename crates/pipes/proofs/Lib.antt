@@ -4,3 +4,4 @@ pub mod Fitting
 pub mod Looking
 pub mod Settling
 pub mod Ending
+pub mod Replies

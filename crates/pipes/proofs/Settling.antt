@@ -1,8 +1,8 @@
 -- What the library's answer settles, and what is handed over, in clean contexts: for the proofs of src/response.rt. No axiom.
-use Prim.Native.Nat.{ℕ, _+_, _≤_}
+use Prim.Native.Nat.{ℕ, _≤_}
 use native.Mathlib.Omega.{arith}
-use mathlib.Core.Path.{_≡_, refl, sym, ap, subst, _∙_}
-use mathlib.Core.Bool.{Bool, true, false, _&&_}
+use mathlib.Core.Path.{_≡_, refl, sym, ap, _∙_}
+use mathlib.Core.Bool.{Bool, true, false}
 use mathlib.Core.List.{List, [], _∷_}
 use lib.ListN.{length}
 use lib.Dec.{eqb, leb}
@@ -12,17 +12,15 @@ use Rattle.octets.proofs.Sentences.{conjunct}
 use Rattle.requests.specs.declared.Setup.{Setup}
 use Rattle.events.specs.declared.Answer.{Answer}
 use Rattle.events.specs.Answer.{numberOf}
-use Rattle.packets.specs.Packets.{packet}
 use Rattle.packets.proofs.Sizes.{inside}
 use Rattle.pipes.specs.declared.Lengths.{Lengths}
-use Rattle.pipes.specs.declared.Piece.{Piece}
 use Rattle.pipes.specs.declared.Transfer.{Transfer}
 use Rattle.pipes.specs.declared.Wire.{Wire}
 use Rattle.pipes.specs.declared.response.Response.{Response}
 use Rattle.pipes.specs.Transfer.{dataIn, send, blockLength, fits}
-use Rattle.pipes.specs.Sending.{pieceOf, noPiece, sends, sent, inBlock, Inside, bytesIn}
+use Rattle.pipes.specs.Sending.{pieceOf, noPiece, sends, sent, inBlock, Inside}
 use Rattle.pipes.specs.Pipe.{lengthsIn, orderBegun, pipeBegun, turnBegun, pipeReset}
-use Rattle.pipes.specs.Hearing.{HandsPiece, isSetup, bare, withBytes, responds, settles}
+use Rattle.pipes.specs.Hearing.{isSetup, bare, withBytes, responds, settles}
 use Rattle.pipes.proofs.Fitting.{reply-inside}
 
 module _ (size : ℕ) (w : Wire) (s : Setup) (a : Answer) (pipe : List ℕ) {r : Response} {left : List ℕ} where
@@ -67,11 +65,3 @@ sent-inside first used serial reply order t = go (sends lens order t) refl
         let f = reply-inside lens t (conjunct 3 row z) in
         let g = inside (t .length) (t .asked) (t .size) (t .moved) in
         block (t .block) _ (conjunct 2 row z) (omega arith)
-
--- ---- a part handed over is that of an equal piece
-pub hands-piece : (first used serial reply : List ℕ) (firstAt usedAt serialAt replyAt : ℕ × ℕ) (q p : Piece) {shown : List ℕ} {at : ℕ × ℕ} → q ≡ p
-    → shown ≡ bytesIn first used serial reply q → at .0 ≡ inBlock (firstAt .0) (usedAt .0) (serialAt .0) (replyAt .0) (q .block)
-    → at .1 ≡ inBlock (firstAt .1) (usedAt .1) (serialAt .1) (replyAt .1) (q .block) + q .offset
-    → HandsPiece first used serial reply firstAt usedAt serialAt replyAt p shown at
-hands-piece first used serial reply firstAt usedAt serialAt replyAt q p {shown} {at} e s b o =
-    subst (λ (x : Piece). HandsPiece first used serial reply firstAt usedAt serialAt replyAt x shown at) e (record { shows = s; block = b; offset = o })

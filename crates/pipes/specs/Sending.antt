@@ -1,7 +1,7 @@
 -- What goes out and what may come in, by the order and the transfer after an event (docs/PIPE.md, "What is handed over").
 use Prim.Native.Nat.{ℕ, _+_, _≤_}
 use mathlib.Core.Bool.{Bool, _&&_}
-use mathlib.Core.List.{List, []}
+use mathlib.Core.List.{List}
 use lib.ListN.{length}
 use lib.Dec.{eqb, leb}
 use Rattle.octets.specs.Octets.{part}

@@ -5,6 +5,7 @@ use crate::Wire;
 use crate::begun;
 use crate::idle;
 use crate::image;
+use crate::numbers;
 use crate::orders;
 use crate::reply_at;
 use crate::started;
@@ -35,14 +36,14 @@ pub fn wire_of(kind: u8, value: u16) -> Wire
     ensures { λ r. ⌜ r ≡ wireOf kind value ⌝ }
 {
     match kind {
-        0 => Wire::Setup,
-        1 => Wire::Taken,
-        2 => Wire::Received(value),
-        3 => Wire::Reset(speed_of(value)),
-        4 => Wire::Reply,
-        5 => Wire::Room(value),
-        6 => Wire::Accept,
-        7 => Wire::Refuse,
+        numbers::SETUP => Wire::Setup,
+        numbers::TAKEN => Wire::Taken,
+        numbers::RECEIVED => Wire::Received(value),
+        numbers::RESET => Wire::Reset(speed_of(value)),
+        numbers::REPLY => Wire::Reply,
+        numbers::ROOM => Wire::Room(value),
+        numbers::ACCEPT => Wire::Accept,
+        numbers::REFUSE => Wire::Refuse,
         _ => Wire::Unknown,
     }
 }

@@ -1,8 +1,8 @@
 // What an event gets, and how it is handed to C.
 use crate::Lengths;
+use crate::Transfer;
 use crate::Wire;
 use crate::hearing;
-use crate::image;
 use crate::orders;
 use crate::sending;
 use events::Answer;
@@ -12,11 +12,8 @@ ghost use mathlib.Core.Path.{_≡_};
 ghost use mathlib.Core.Bool.{true};
 ghost use Prim.Native.Nat.{_<_, _≤_};
 ghost use lib.ListN.{length};
-ghost use Rattle.octets.specs.Octets.{byte};
 ghost use Rattle.sets.specs.Device.{deviceBody, bMaxPacketSize0};
-ghost use Rattle.events.specs.Answer.{numberOf, bytesOf};
 ghost use Rattle.pipes.specs.Turns.{replyAt};
-ghost use Rattle.pipes.specs.Image.{transferOf};
 ghost use Rattle.pipes.specs.Sending.{roomFor, sent};
 ghost use Rattle.pipes.specs.Pipe.{lengthsIn};
 ghost use Rattle.pipes.specs.Hearing.{HandsPiece, isSetup, bare, withBytes, responds, settles, outBytes};
@@ -75,30 +72,10 @@ pub fn settle(set: &[u8], pipe: &mut [u8], wire: Wire, setup: Setup, answer: Ans
     plain(number, orders::NOTHING)
 }
 
-// What an event gets is handed to C: its number is the result, the rest is written. The part lies in the set in use, the serial block or the
-// application's reply; one that is not handed back in the first set.
-pub fn hand_over<'a>(
-    first: &'a [u8],
-    used: &'a [u8],
-    serial: &'a [u8],
-    reply: &'a [u8],
-    pipe: &[u8],
-    response: Response,
-    out: &mut [u8; 6],
-    part: &mut &'a [u8],
-) -> u8
-    ensures number { λ r. ⌜ r ≡ response .number ⌝ }
-    ensures out { λ _. ⌜ now (out .exit) ≡ outBytes response (roomFor (response .order) (transferOf (now (pipe .entry)))) ⌝ }
-    ensures part { λ _. ⌜ HandsPiece (now (first .entry)) (now (used .entry)) (now (serial .entry)) (now (reply .entry)) ((first .entry) .ptr) ((used .entry) .ptr) ((serial .entry) .ptr) ((reply .entry) .ptr)
-        (sent (lengthsIn (now (used .entry)) (now (serial .entry)) (now (reply .entry))) (response .order) (transferOf (now (pipe .entry)))) (now (now (part .exit))) ((now (part .exit)) .ptr) ⌝ }
+// The six bytes that are handed to C; `next` is the transfer that the event left.
+pub fn write_out(response: Response, next: Transfer, out: &mut [u8; 6])
+    ensures { λ _. ⌜ now (out .exit) ≡ outBytes response (roomFor (response .order) next) ⌝ }
 {
-    let next = image::read(pipe);
-    let lengths = Lengths {
-        set: used.len(),
-        serial: serial.len(),
-        reply: reply.len(),
-    };
-    let piece = sending::sent(lengths, response.order, next);
     let room = sending::room_for(response.order, next);
     *out = [
         response.order,
@@ -108,6 +85,25 @@ pub fn hand_over<'a>(
         (room % 256) as u8,
         (room / 256 % 256) as u8,
     ];
-    *part = sending::part_of(first, used, serial, reply, piece);
-    response.number
+}
+
+// The part that is handed to C: it lies in the set in use, the serial block or the application's reply; one that is not handed back in the first set.
+pub fn part_sent<'a>(
+    first: &'a [u8],
+    used: &'a [u8],
+    serial: &'a [u8],
+    reply: &'a [u8],
+    order: u8,
+    next: Transfer,
+) -> &'a [u8]
+    ensures { λ r. ⌜ HandsPiece (now (first .entry)) (now (used .entry)) (now (serial .entry)) (now (reply .entry)) ((first .entry) .ptr) ((used .entry) .ptr) ((serial .entry) .ptr) ((reply .entry) .ptr)
+        (sent (lengthsIn (now (used .entry)) (now (serial .entry)) (now (reply .entry))) order next) (now r) (r .ptr) ⌝ }
+{
+    let lengths = Lengths {
+        set: used.len(),
+        serial: serial.len(),
+        reply: reply.len(),
+    };
+    let piece = sending::sent(lengths, order, next);
+    sending::part_of(first, used, serial, reply, piece)
 }

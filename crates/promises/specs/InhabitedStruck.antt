@@ -1,6 +1,5 @@
 -- Request L9's premises hold of something, and none can be left out, from power-on: the titrator T, with every kind of event in the run; the pair, with a test mode
 -- that waits; a run in which a struck setup drops it, and one in which a struck packet ends the sleep.
-use Prim.Native.Nat.{ℕ}
 use mathlib.Core.Path.{_≡_, refl}
 use mathlib.Core.List.{List, [], _∷_, _++_}
 use mathlib.Core.Bool.{false, false≢true}

@@ -1,6 +1,6 @@
 -- What no setup changes: any reading of the record that stays under the changes which requests make (wakeup, what waits, the configuration, and an
 -- interface's setting, halts and toggles) is after a setup what it is of the settled record. No axiom.
-use Prim.Native.Nat.{ℕ, _/_}
+use Prim.Native.Nat.{ℕ}
 use mathlib.Core.Path.{_≡_, refl}
 use mathlib.Core.List.{List}
 use mathlib.Core.Bool.{_&&_}

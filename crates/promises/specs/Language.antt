@@ -1,16 +1,16 @@
 -- The language of a string, sentence by sentence (L6), for every accepted board and every record that fits: GET_DESCRIPTOR of a string index from 1 on, in any
 -- language. No axiom.
-use Prim.Native.Nat.{ℕ, suc, _+_, _*_, _/_, _%_, _≤_, _<_, min}
+use Prim.Native.Nat.{ℕ, _+_, _*_, _/_, _%_, _≤_, min}
 use native.Mathlib.Omega.{arith}
-use mathlib.Core.Path.{_≡_, refl, sym, ap, _∙_}
+use mathlib.Core.Path.{_≡_, refl, sym, _∙_}
 use mathlib.Core.List.{List, [], _∷_, flatMap}
-use mathlib.Core.Option.{Option, some, none}
+use mathlib.Core.Option.{some, none}
 use mathlib.Core.Bool.{true, false, _&&_, _||_, not, and-false}
 use lib.ListN.{length, getD}
-use lib.Dec.{eqb, leb}
+use lib.Dec.{eqb}
 use borrow.Author.Tests.{eqb-true, eq-eqb, ne-eqb, leb-true, le-leb}
-use Rattle.octets.specs.Sentences.{pick, _⇒_, every, any, first, isSome, member, neighbours, isEmpty}
-use Rattle.octets.proofs.Sentences.{cases, both, or-left, or-right, if-then, conjunct}
+use Rattle.octets.specs.Sentences.{every, any, first, isSome, member, neighbours, isEmpty}
+use Rattle.octets.proofs.Sentences.{cases, or-left, or-right, if-then, conjunct}
 use Rattle.sets.specs.declared.Entry.{Entry}
 use Rattle.sets.specs.Device.{deviceBodyOf, iManufacturer, iProduct, iSerialNumber}
 use Rattle.descriptors.specs.Configuration.{configurationReferences}
@@ -30,7 +30,7 @@ use Rattle.events.specs.declared.Answer.the-variants.{SetPart, SerialPart}
 use Rattle.events.specs.declared.Event.{Event}
 use Rattle.events.specs.declared.Event.the-variants.{Request}
 use Rattle.events.specs.Answer.{gives, refused}
-use Rattle.events.specs.Requests.{namesTestMode, isEntry, bodyAt, languageFor, locateString, locate, describe, getDescriptor}
+use Rattle.events.specs.Requests.{namesTestMode, isEntry, languageFor, locateString, locate, describe, getDescriptor}
 use Rattle.events.specs.Step.{request, asksTestMode, answerSetup, respond, step}
 use Rattle.laws.proofs.Fitting.{fitting}
 use Rattle.promises.specs.Examples.{computed, T}

@@ -1,15 +1,15 @@
 -- "A board that lends one set keeps every old answer" (L7): over one set opening is document 01's, and the step is the step from before, byte for byte, for every
 -- set, serial block, record, image and event. No axiom.
-use Prim.Native.Nat.{ℕ, _/_, _%_, _≤_, _<_}
+use Prim.Native.Nat.{ℕ, _/_, _%_, _≤_}
 use native.Mathlib.Omega.{arith}
 use mathlib.Core.Path.{_≡_, refl, sym, ap, _∙_}
 use mathlib.Core.Logic.{_⊎_, inl, inr}
 use mathlib.Core.List.{List, [], _∷_, List·Memᴰ}
 use mathlib.Core.Option.{none}
-use mathlib.Core.Bool.{Bool, true, false, _&&_, _||_, not, false≢true}
+use mathlib.Core.Bool.{Bool, true, false, _&&_, _||_, not}
 use lib.ListN.{length}
 use lib.Dec.{eqb, leb}
-use borrow.Author.Tests.{eqb-true, eq-eqb, eqb-false, leb-true, le-leb, lt-leb}
+use borrow.Author.Tests.{eqb-true, leb-true, lt-leb}
 use Rattle.octets.specs.Sentences.{pick, _⇒_, every, first, member, neighbours, pairs}
 use Rattle.octets.proofs.Sentences.{cases, never, both, joined, either, or-left, or-right, conjunct, same-test, every-member, every-alike, none-first}
 use Rattle.descriptors.specs.Limits.{fullSpeed, named}
@@ -27,16 +27,14 @@ use Rattle.sets.specs.Opening.{lent, goodDevices, numberedFrom, valueNonzero, d
 use Rattle.sets.specs.View.{View, viewOf, accepted, hasValue, wakes}
 use Rattle.sets.proofs.Groups.{groups}
 use Rattle.records.specs.declared.Device.{Device}
-use Rattle.records.specs.Device.{inDefault, inAddress, inConfigured, nothing, testWaiting, testWaits, inTestMode, afterReset, settled, fresh}
+use Rattle.records.specs.Device.{inDefault, inAddress, inConfigured, nothing, testWaits, inTestMode, afterReset, settled, fresh}
 use Rattle.records.specs.Current.{selected, currentEndpoints}
 use Rattle.records.specs.Fits.{inRange, goodWaiting, goodState, goodAlternates, standsAt, fits}
 use Rattle.records.specs.Image.{deviceOf, imageOf}
 use Rattle.requests.specs.declared.Setup.{Setup}
 use Rattle.events.specs.declared.Event.{Event}
 use Rattle.events.specs.declared.Event.the-variants.{Request, Malformed, StatusEnd, BusReset, Halt, PacketPassed, Power, Suspend, Resume, Wake}
-use Rattle.events.specs.declared.facts.Located.{Located}
 use Rattle.events.specs.declared.facts.Located.the-variants.{Nowhere}
-use Rattle.events.specs.declared.Outcome.{Outcome}
 use Rattle.events.specs.Answer.{done, refused}
 use Rattle.events.specs.Requests.{isEntry, bodyAt, byIndex, locate, describe, setFeature, getDescriptor}
 use Rattle.events.specs.Step.{request, answerSetup, statusEnd, respond, step, event, opened}

@@ -95,7 +95,7 @@ covers r w p h =
     r w p h
 
 -- as much of l as a packet takes
-least : (p : ℕ) (l : List ℕ) → take (min p (length l)) l ≡ take p l
+pub least : (p : ℕ) (l : List ℕ) → take (min p (length l)) l ≡ take p l
 least p l = go (decLe p (length l))
   where
     go : Dec (p ≤ length l) → take (min p (length l)) l ≡ take p l

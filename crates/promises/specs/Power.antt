@@ -6,7 +6,7 @@ use mathlib.Core.List.{List}
 use mathlib.Core.Option.{Option, some, none}
 use mathlib.Core.Bool.{Bool, true, false, _&&_, not, false≢true}
 use lib.ListN.{set}
-use lib.Dec.{eqb, leb}
+use lib.Dec.{eqb}
 use borrow.Author.Tests.{le-leb, lt-leb}
 use Rattle.octets.specs.Bit.{bit}
 use Rattle.octets.specs.Sentences.{first, isSome}
@@ -29,7 +29,7 @@ use Rattle.events.specs.declared.Outcome.{Outcome}
 use Rattle.events.specs.Answer.{gives, done, refused}
 use Rattle.events.specs.Requests.{getStatus}
 use Rattle.events.specs.Concerns.{concerns, concernsOn}
-use Rattle.events.specs.Step.{request, answerSetup, statusEnd, goodReset, haltAt, halt, passAt, packetPassed, respond, step, Reply, replyOf, event}
+use Rattle.events.specs.Step.{request, answerSetup, statusEnd, goodReset, haltAt, halt, passAt, packetPassed, respond, step, replyOf, event}
 use Rattle.laws.proofs.Fitting.{fitting}
 use Rattle.laws.proofs.Outcomes.{chosen}
 use Rattle.promises.specs.Examples.{computed, S}

@@ -3,7 +3,7 @@ use Prim.Native.Nat.{ℕ}
 use mathlib.Core.Path.{_≡_, refl, sym, ap, _∙_}
 use mathlib.Core.Logic.{_⊎_, inl, inr}
 use mathlib.Core.Option.{Option, some, none}
-use mathlib.Core.Bool.{Bool, true, false, _&&_, not}
+use mathlib.Core.Bool.{true, _&&_, not}
 use lib.Dec.{eqb, leb}
 use native.Mathlib.Omega.{arith}
 use borrow.Author.Tests.{eqb-true, eq-eqb}
@@ -23,7 +23,7 @@ use Rattle.events.specs.declared.Event.{Event}
 use Rattle.events.specs.declared.Event.the-variants.{Request, Malformed, StatusEnd, BusReset, Halt, PacketPassed, Power, Suspend, Resume, Wake}
 use Rattle.events.specs.declared.Outcome.{Outcome}
 use Rattle.events.specs.Answer.{numberOf, done, refused}
-use Rattle.events.specs.Step.{answerSetup, statusEnd, goodReset, haltAt, halt, passAt, packetPassed, respond, step}
+use Rattle.events.specs.Step.{statusEnd, goodReset, haltAt, halt, passAt, packetPassed, respond, step}
 use Rattle.laws.proofs.Outcomes.{chosen}
 use Rattle.promises.specs.Examples.{computed, T}
 use Rattle.promises.specs.Inhabited.{acceptedT, configured}

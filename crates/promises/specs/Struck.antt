@@ -9,7 +9,7 @@ use mathlib.Core.List.{List, [], _∷_}
 use mathlib.Core.Option.{Option, some, none}
 use mathlib.Core.Bool.{Bool, true, false, _&&_, _||_, not, false≢true}
 use lib.Dec.{eqb, leb}
-use borrow.Author.Tests.{eqb-true, eq-eqb, leb-true, lt-leb}
+use borrow.Author.Tests.{eqb-true, eq-eqb, leb-true}
 use Rattle.octets.specs.Bit.{bit}
 use Rattle.octets.specs.Sentences.{pick, _⇒_, any, every}
 use Rattle.octets.proofs.Sentences.{cases, never, both, joined, or-left, or-right, if-then, conjunct, every-member}
@@ -18,19 +18,18 @@ use Rattle.descriptors.specs.Configuration.{hasInterface, hasSetting, canHalt, 
 use Rattle.sets.specs.Opening.{Board, BytesOf}
 use Rattle.sets.specs.View.{View, accepted, wakes}
 use Rattle.records.specs.declared.Device.{Device}
-use Rattle.records.specs.Device.{nothing, atHighSpeed, fresh, testWaiting, testWaits, inTestMode, settled, Sized}
+use Rattle.records.specs.Device.{nothing, atHighSpeed, fresh, testWaits, inTestMode, settled}
 use Rattle.records.specs.Current.{viewAt, selected, endpointAt}
 use Rattle.records.specs.Fits.{fitsOn}
 use Rattle.requests.specs.declared.Setup.{Setup}
 use Rattle.requests.specs.Table.{recipient, largestIndex}
-use Rattle.events.specs.declared.Answer.{Answer}
 use Rattle.events.specs.declared.Event.{Event}
 use Rattle.events.specs.declared.Event.the-variants.{Request, Malformed, StatusEnd, BusReset, Halt, PacketPassed, Power, Suspend, Resume, Wake}
 use Rattle.events.specs.declared.facts.Located.{Located}
 use Rattle.events.specs.declared.facts.Located.the-variants.{Body, Serial, Nowhere}
 use Rattle.events.specs.declared.Outcome.{Outcome}
-use Rattle.events.specs.Answer.{numberOf, gives, done, refused}
-use Rattle.events.specs.Requests.{byRecipient, isEndpointZero, deviceFeature, namesTestMode, testSelector, setTestMode, interfaceFeature, endpointFeature, endpointStatus, haltFeature, clearHalt, setHalt, locate, describe, getStatus, clearFeature, setFeature, setAddress, getDescriptor, getConfiguration, setConfiguration, getInterface, setInterface}
+use Rattle.events.specs.Answer.{numberOf, done, refused}
+use Rattle.events.specs.Requests.{byRecipient, isEndpointZero, deviceFeature, namesTestMode, testSelector, interfaceFeature, endpointFeature, endpointStatus, haltFeature, clearHalt, setHalt, locate, describe, getStatus, clearFeature, setFeature, setAddress, getDescriptor, getConfiguration, setConfiguration, getInterface, setInterface}
 use Rattle.events.specs.Step.{request, asksTestMode, refusalFor, answerSetup, statusEnd, goodReset, haltAt, halt, passAt, packetPassed, respond, step}
 use Rattle.order.specs.Strike.{FairRun}
 use Rattle.laws.specs.Parts.{Good, drops}

@@ -4,9 +4,9 @@ use native.Mathlib.Omega.{arith}
 use mathlib.Core.Path.{_≡_, refl, sym, ap, _∙_}
 use mathlib.Core.Logic.{_⊎_, inl, inr}
 use mathlib.Core.Option.{Option, some, none}
-use mathlib.Core.Bool.{Bool, true, false, _&&_, _||_, not, false≢true}
+use mathlib.Core.Bool.{true, _&&_, _||_, not, false≢true}
 use lib.Dec.{eqb, leb}
-use borrow.Author.Tests.{eqb-true, eq-eqb, ne-eqb, leb-true, le-leb}
+use borrow.Author.Tests.{eqb-true, eq-eqb, ne-eqb, leb-true}
 use Rattle.octets.specs.Bit.{bit}
 use Rattle.octets.proofs.Sentences.{cases, both, either}
 use Rattle.descriptors.specs.declared.Endpoint.{Endpoint}
@@ -14,7 +14,7 @@ use Rattle.descriptors.specs.Configuration.{canHalt, bitOf}
 use Rattle.sets.specs.Opening.{Board}
 use Rattle.sets.specs.View.{View, accepted}
 use Rattle.records.specs.declared.Device.{Device}
-use Rattle.records.specs.Device.{nothing, atHighSpeed, testWaiting, testWaits, inTestMode, enterTestMode, awake, withWaiting, withSpeed}
+use Rattle.records.specs.Device.{nothing, atHighSpeed, testWaits, inTestMode, enterTestMode, awake, withWaiting, withSpeed}
 use Rattle.records.specs.Current.{viewAt, endpointAt}
 use Rattle.records.specs.Fits.{fitsOn}
 use Rattle.requests.specs.declared.Setup.{Setup}

@@ -10,7 +10,7 @@ use lib.ListN.{length}
 use lib.Dec.{eqb, leb, ltb}
 use borrow.Author.Tests.{eqb-true, eq-eqb, not-false}
 use Rattle.octets.specs.Sentences.{pick, every, neighbours, first}
-use Rattle.octets.proofs.Sentences.{both, cases, never, conjunct, joined}
+use Rattle.octets.proofs.Sentences.{both, never, conjunct, joined}
 use Rattle.descriptors.specs.declared.limits.Limits.{Limits}
 use Rattle.descriptors.specs.Limits.{named}
 use Rattle.sets.specs.declared.Entry.{Entry}

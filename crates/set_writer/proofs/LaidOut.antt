@@ -23,7 +23,7 @@ use Rattle.set_writer.proofs.ReadBack.{entriesFor, entries-read}
 use Rattle.set_writer.proofs.Ascending.{Ascends}
 
 module _ (ps : List Piece) where
-  pub laid-entries : entries (laid ps) ≡ entriesFor (front ps) ps
+  laid-entries : entries (laid ps) ≡ entriesFor (front ps) ps
   unfolding laid
   laid-entries = entries-read (front ps) ps (bodyBytes ps)
 

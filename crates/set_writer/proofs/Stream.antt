@@ -41,26 +41,26 @@ one-less : (w b : ℕ) (bs : List ℕ) → drop (5 + w) bs ≡ drop (6 + w) (b �
 one-less w b bs = let e : suc (5 + w) ≡ 6 + w = omega arith in ap (λ (k : ℕ). drop k (b ∷ bs)) e
 
 -- where something is left
-pub ends-more : (bs : List ℕ) → 0 < length bs → sizeOf bs ≤ length bs → ends bs ≡ ends (drop (sizeOf bs) bs)
+ends-more : (bs : List ℕ) → 0 < length bs → sizeOf bs ≤ length bs → ends bs ≡ ends (drop (sizeOf bs) bs)
 unfolding endsAfter
 ends-more [] l h = absurd (omega arith)
 ends-more (b ∷ bs) l h = ends-skip (5 + word (b ∷ bs) 4) bs (omega arith) ∙ ap ends (one-less (word (b ∷ bs) 4) b bs)
 
-pub ends-broken : (bs : List ℕ) → 0 < length bs → length bs < sizeOf bs → ends bs ≡ false
+ends-broken : (bs : List ℕ) → 0 < length bs → length bs < sizeOf bs → ends bs ≡ false
 unfolding endsAfter
 ends-broken [] l h = absurd (omega arith)
 ends-broken (b ∷ bs) l h = ends-short (5 + word (b ∷ bs) 4) bs (omega arith)
 
-pub pieces-more : (bs : List ℕ) → 0 < length bs → pieces bs ≡ pieceOf bs ∷ pieces (drop (sizeOf bs) bs)
+pieces-more : (bs : List ℕ) → 0 < length bs → pieces bs ≡ pieceOf bs ∷ pieces (drop (sizeOf bs) bs)
 unfolding piecesAfter
 pieces-more [] l = absurd (omega arith)
 pieces-more (b ∷ bs) l = ap (λ (ps : List Piece). pieceOf (b ∷ bs) ∷ ps) (pieces-skip (5 + word (b ∷ bs) 4) bs ∙ ap pieces (one-less (word (b ∷ bs) 4) b bs))
 
-pub ends-none : ends [] ≡ true
+ends-none : ends [] ≡ true
 unfolding endsAfter
 ends-none = refl
 
-pub pieces-none : pieces [] ≡ []
+pieces-none : pieces [] ≡ []
 unfolding piecesAfter
 pieces-none = refl
 

@@ -45,14 +45,14 @@ pub lengths-more : {left : List Entry} {e : Entry} {es : List Entry} → left �
 unfolding lengths
 lengths-more q = rw q
 
-pub bodies-next : (set : List ℕ) {left : List Entry} {e : Entry} {es : List Entry} → left ≡ e ∷ es → bodiesWith set left ≡ bodyOf set e ++ bodiesWith set es
+bodies-next : (set : List ℕ) {left : List Entry} {e : Entry} {es : List Entry} → left ≡ e ∷ es → bodiesWith set left ≡ bodyOf set e ++ bodiesWith set es
 bodies-next set {e = e} {es} q = ap (bodiesWith set) q ∙ bodies-more (pieceFor set e) (map (pieceFor set) es)
 
 pub bodies-end : (set : List ℕ) {left : List Entry} → left ≡ [] → bodiesWith set left ≡ []
 bodies-end set q = ap (bodiesWith set) q ∙ bodies-none
 
 -- ---- end to end
-pub up : (start end : ℕ) (es : List Entry) → endToEnd start end es ≡ true → start ≤ end
+up : (start end : ℕ) (es : List Entry) → endToEnd start end es ≡ true → start ≤ end
 unfolding endToEnd
 up start end [] p = omega (arith, eqb-true start end p)
 up start end (e ∷ es) p = omega (arith, up (start + e .length) end es (both (eqb (e .offset) start) (endToEnd (start + e .length) end es) p .1))

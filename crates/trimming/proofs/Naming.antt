@@ -7,8 +7,8 @@ use lib.ListN.{length}
 use lib.Dec.{eqb, leb}
 use borrow.Author.Tests.{eqb-true, eqb-false, eq-eqb, ne-eqb}
 use Rattle.octets.specs.Octets.{byte}
-use Rattle.octets.specs.Sentences.{pick, _⇒_, every, any, only, member}
-use Rattle.octets.proofs.Sentences.{cases, any-append, any-map, any-only, any-alike, only-alike}
+use Rattle.octets.specs.Sentences.{pick, every, any, only, member}
+use Rattle.octets.proofs.Sentences.{cases, both, any-append, any-alike, only-alike}
 use Rattle.octets.specs.Table.{has, with}
 use Rattle.descriptors.specs.declared.walk.Stand.{Stand}
 use Rattle.descriptors.specs.Cut.{cut, wellCut}
@@ -25,8 +25,9 @@ use Rattle.sets.specs.Contents.{entries, bodies, bodyOf, isKind}
 use Rattle.sets.specs.Device.{deviceBody, iManufacturer, iProduct, iSerialNumber}
 use Rattle.sets.specs.Strings.{references}
 use Rattle.sets.proofs.Pieces.{bodies-of}
+use Rattle.sets.proofs.Entries.{restOf}
 use Rattle.trimming.specs.Trim.{referenced, referencedString, zeroStays, kept}
-use Rattle.trimming.specs.Keeping.{deviceNames, entryNames, tableNames, keepsBy}
+use Rattle.trimming.specs.Keeping.{deviceNames, namedIn, tableNames, keepsBy}
 
 turned : (m n : ℕ) → eqb m n ≡ eqb n m
 turned m n = cases (eqb n m) (λ p. eq-eqb m n (sym (eqb-true n m p)) ∙ sym p) (λ p. ne-eqb m n (λ e. eqb-false n m p (sym e)) ∙ sym p)
@@ -37,10 +38,10 @@ swap true true c = refl
 swap true false c = refl
 swap false b c = refl
 
-pub one-more : (table : List ℕ) (k j : ℕ) (rest : Bool) → k < 256 → length table ≡ 8 → (has (with table k) j || rest) ≡ (has table j || (eqb j k || rest))
+one-more : (table : List ℕ) (k j : ℕ) (rest : Bool) → k < 256 → length table ≡ 8 → (has (with table k) j || rest) ≡ (has table j || (eqb j k || rest))
 one-more table k j rest h p = rw (has-with table k h p j, turned k j) (swap (eqb j k) (has table j) rest)
 
-pub one-alone : (table : List ℕ) (k j : ℕ) → k < 256 → length table ≡ 8 → has (with table k) j ≡ (has table j || eqb j k)
+one-alone : (table : List ℕ) (k j : ℕ) → k < 256 → length table ≡ 8 → has (with table k) j ≡ (has table j || eqb j k)
 one-alone table k j h p = sym (or-false (has (with table k) j)) ∙ one-more table k j false h p ∙ rw or-false
 
 -- ---- a configuration's references, as the walk collects them: what is in the table or still to be collected
@@ -92,13 +93,13 @@ three true b c d = refl
 three false true c d = refl
 three false false c d = refl
 
-pub named-by : (set : List ℕ) (j : ℕ) → referenced set j ≡ (deviceNames (deviceBody set) j || any (entryNames set j) (entries set))
+pub named-by : (set : List ℕ) (j : ℕ) → referenced set j ≡ (deviceNames (deviceBody set) j || any (namedIn j) (bodies 2 set))
 unfolding references any
 named-by set j =
-    rw (← bodies-of set 2, any-flat (eqb j) configurationReferences (bodies 2 set), any-map (λ b. member j (configurationReferences b)) (bodyOf set), any-only (λ e. member j (configurationReferences (bodyOf set e))) (isKind 2) (entries set))
+    rw (← bodies-of set 2, any-flat (eqb j) configurationReferences (bodies 2 set))
     (three (eqb j (iManufacturer (deviceBody set))) (eqb j (iProduct (deviceBody set))) (eqb j (iSerialNumber (deviceBody set))) _)
 
-pub device-table : (j m p s : ℕ) → m < 256 → p < 256 → s < 256 → has (with (with (with (allOf 0) m) p) s) j ≡ (eqb j m || (eqb j p || eqb j s))
+device-table : (j m p s : ℕ) → m < 256 → p < 256 → s < 256 → has (with (with (with (allOf 0) m) p) s) j ≡ (eqb j m || (eqb j p || eqb j s))
 device-table j m p s hm hp hs =
     let t : List ℕ = allOf 0 in
     let a : length t ≡ 8 = refl in
@@ -110,16 +111,14 @@ pub device-known : (device : List ℕ) (j : ℕ) {m p s : ℕ} {t u v : List ℕ
     → t ≡ with (allOf 0) m → u ≡ with t p → v ≡ with u s → has v j ≡ deviceNames device j
 device-known device j {m} {p} {s} a b c hm hp hs d e f = ap (λ x. has x j) (f ∙ ap (λ x. with x s) (e ∙ ap (λ x. with x p) d)) ∙ device-table j m p s hm hp hs ∙ rw (a, b, c)
 
--- a configuration that is walked
-pub may-walk : (set : List ℕ) (e : Entry) (es : List Entry) → every (λ b. wellCut (cut b)) (map (bodyOf set) (only (isKind 2) (e ∷ es))) ≡ true
-    → ((isKind 2 e ⇒ wellCut (cut (bodyOf set e))) ≡ true) × (every (λ b. wellCut (cut b)) (map (bodyOf set) (only (isKind 2) es)) ≡ true)
-unfolding every only
-may-walk set e es = go (isKind 2 e)
-  where
-    go : (b : Bool) → every (λ b. wellCut (cut b)) (map (bodyOf set) (pick b (e ∷ only (isKind 2) es) (only (isKind 2) es))) ≡ true
-        → ((b ⇒ wellCut (cut (bodyOf set e))) ≡ true) × (every (λ b. wellCut (cut b)) (map (bodyOf set) (only (isKind 2) es)) ≡ true)
-    go true p = Rattle.octets.proofs.Sentences.both (wellCut (cut (bodyOf set e))) _ p
-    go false p = (refl, p)
+-- the configurations that are left at an entry, where that is the next of them: it can be walked, and so can the others
+abbrev pub bodiesFrom : List ℕ → ℕ → List (List ℕ)
+bodiesFrom set i = map (bodyOf set) (restOf 2 set i)
+
+pub may-walk : (set : List ℕ) (i : ℕ) {e : Entry} {es : List Entry} → restOf 2 set i ≡ e ∷ es → every (λ b. wellCut (cut b)) (bodiesFrom set i) ≡ true
+    → (wellCut (cut (bodyOf set e)) ≡ true) × (every (λ b. wellCut (cut b)) (map (bodyOf set) es) ≡ true)
+unfolding every
+may-walk set i {e} q p = both (wellCut (cut (bodyOf set e))) _ (rw q at p)
 
 -- ---- the table decides as the rule does
 module _ (set table : List ℕ) (h : (j : ℕ) → j < 256 → has table j ≡ referenced set j) (small : (e : Entry) → List·Memᴰ e (entries set) → e .index < 256) where

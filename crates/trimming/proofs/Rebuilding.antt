@@ -285,10 +285,10 @@ module _ (set rest : List ℕ) (g : Frame set) {size : ℕ} (s : size ≡ bodies
   here : byte (take size set) 2 ≡ count set
   here = front-count (take size set) (drop size set) (omega (arith, front-long)) ∙ ap count (sym split)
 
-  pub aside-count : count aside ≡ count set
+  aside-count : count aside ≡ count set
   aside-count = ap count e ∙ alike-count (take size set) rest (drop size set) (omega (arith, front-long)) ∙ ap count (sym split)
 
-  pub aside-entries : entries aside ≡ entries set
+  aside-entries : entries aside ≡ entries set
   aside-entries = ap entries e ∙ alike (take size set) rest (drop size set) (omega (arith, front-long, here)) ∙ ap entries (sym split)
 
 -- what was copied, as the code has it: the part from 0 on
@@ -303,7 +303,7 @@ module _ (set zeros : List ℕ) (g : Frame set) (p : ℕ) (c : p ≡ count set) 
   pub copied-entries : entries aside ≡ entries set
   copied-entries = aside-entries set _ g size-is copied
 
-  pub copied-count : count aside ≡ count set
+  copied-count : count aside ≡ count set
   copied-count = aside-count set _ g size-is copied
 
   pub prepared : (f : Entry → Bool) (n : ℕ) → endToEnd (bodiesAt set) (length set) (entries set) ≡ true → n ≡ length (only f (entries aside)) → Ready set f (entries aside) (bodiesAt aside) n

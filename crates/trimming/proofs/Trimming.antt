@@ -54,7 +54,7 @@ unfolding entriesFrom
 indices zero bytes h e m = absurd (List·Memᴰ·not-nil m)
 indices (suc n) bytes h e m = ⊎-elim (λ q. rw q (h 1)) (λ k. indices n (drop 8 bytes) (λ i. rw (getD-drop 8 bytes i 0) (h (8 + i))) e k) (List·Memᴰ·cases-cons m)
 
-pub index-small : (set : List ℕ) → Bytes set → (e : Entry) → List·Memᴰ e (entries set) → e .index < 256
+index-small : (set : List ℕ) → Bytes set → (e : Entry) → List·Memᴰ e (entries set) → e .index < 256
 index-small set h = indices (count set) (drop 4 set) (λ i. rw (getD-drop 4 set i 0) (h (4 + i)))
 
 -- ---- the two answers

@@ -10,14 +10,14 @@ use sets::contents::entry_at;
 ghost use mathlib.Core.Path.{_≡_};
 ghost use Prim.Native.Nat.{ℕ, _<_};
 ghost use mathlib.Core.Bool.{true, _||_};
-ghost use Rattle.octets.specs.Sentences.{pick, any, member, _⇒_};
+ghost use Rattle.octets.specs.Sentences.{pick, any, member};
 ghost use Rattle.octets.specs.Table.{has, with};
 ghost use Rattle.descriptors.specs.Cut.{cut, wellCut};
 ghost use Rattle.descriptors.specs.Descriptor.{isInterface, iInterface};
 ghost use Rattle.descriptors.specs.Configuration.{configurationReferences};
-ghost use Rattle.sets.specs.Contents.{entries, bodyOf, isKind};
+ghost use Rattle.sets.specs.Contents.{entries};
 ghost use Rattle.trimming.specs.Trim.{referenced};
-ghost use Rattle.trimming.specs.Keeping.{entryNames, tableNames, keepsBy, walkable};
+ghost use Rattle.trimming.specs.Keeping.{tableNames, keepsBy, walkable};
 
 // A table with the reference of a descriptor, where that is an interface's.
 fn with_interface(d: &[u8], names: [u32; 8]) -> [u32; 8]
@@ -49,18 +49,6 @@ fn with_configuration(body: &[u8], names: [u32; 8]) -> [u32; 8]
     table
 }
 
-// A table with the references of what an entry names, where that is a configuration.
-fn with_entry(set: &[u8], e: Entry, names: [u32; 8]) -> [u32; 8]
-    requires { ⌜ (isKind 2 e ⇒ wellCut (cut (bodyOf (now set) e))) ≡ true ⌝ }
-    ensures { λ r. ⌜ ((j : ℕ) → j < 256 → has r j ≡ (has names j || entryNames (now (set .entry)) j e)) ⌝ }
-{
-    if e.kind == types::CONFIGURATION {
-        let body = body_of(set, e);
-        return with_configuration(body, names);
-    }
-    names
-}
-
 // The table of all that is named.
 pub fn names_of(set: &[u8]) -> [u32; 8]
     requires { ⌜ walkable (now set) ≡ true ⌝ }
@@ -76,7 +64,9 @@ pub fn names_of(set: &[u8]) -> [u32; 8]
     while i < count {
         let e = entry_at(set, i);
         i += 1;
-        table = with_entry(set, e, table);
+        if e.kind == types::CONFIGURATION {
+            table = with_configuration(body_of(set, e), table);
+        }
     }
     table
 }

@@ -29,23 +29,11 @@ loop-again c =
       next (s .loop .inv .1) (_ ∷ []) _ (one-more (s .before .before .before .args .text .now) (s .loop .i) (c .before .before .before .before .before .loop-test .taken)) (c .before .before .put .ensures),
     )
 
-same-length : tie.Need-same-length Inv-loop μ-loop
-same-length c = same (c .before .loop .inv .1)
-
 returns : tie.Need-returns Inv-loop μ-loop
 returns c = done (c .before .loop .inv .1) (drop-of-length-le (c .before .before .before .before .args .text .now) (c .loop-test .left))
 
 pub put-bytes-spec : {M : Type 1} → statement M
 put-bytes-spec =
     tie.close
-    (tie.spec
-    Inv-loop
-    μ-loop
-    loop-holds
-    (λ c. search needs)
-    put-requires
-    (λ c. search needs)
-    (λ c. search needs)
-    loop-again
-    same-length
-    returns)
+    (tie.spec Inv-loop μ-loop loop-holds (λ c. search needs) put-requires (λ c. search needs) (λ c. search needs) loop-again
+    (λ c. same (c .before .loop .inv .1)) returns)

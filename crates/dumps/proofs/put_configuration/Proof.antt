@@ -20,9 +20,6 @@ Inv-loop out₀ from body behind last₀ at₀ out last at =
 abbrev μ-loop : tie.MeasureT-loop
 μ-loop out₀ from body behind last₀ at₀ out last at = length body - at
 
-loop-holds : tie.Need-loop-holds Inv-loop μ-loop
-loop-holds c = (refl, λ start goal b. b)
-
 returns : tie.Need-returns Inv-loop μ-loop
 returns c =
     let l = c .before .before .before .loop in
@@ -37,9 +34,6 @@ inside c =
     let e = c .before .advance .ensures .steps in
     let n = ap (λ (p : Pace). p .end) e in
     rw n (moved (c .before .before .before .before .before .before .before .before .before .before .before .before .before .before .args .body .now) (l .at) (standIn (l .last)) (c .before .before .loop-test .taken) (rw n at (c .if1 .left)) .inside)
-
-part-has-name-end : tie.Need-part-has-name-end Inv-loop μ-loop
-part-has-name-end c = inside c
 
 loop-less : tie.Need-loop-less Inv-loop μ-loop
 loop-less c = let w = c .before .before .before .before .before .before in omega (arith, inside w, w .if1 .left, w .before .before .loop-test .taken)
@@ -65,22 +59,6 @@ returns-2 c =
 pub put-configuration-spec : {M : Type 1} → statement M
 put-configuration-spec =
     tie.close
-    (tie.spec
-    Inv-loop
-    μ-loop
-    (λ c κs. search needs)
-    (λ c κs. search needs)
-    loop-holds
-    (λ c κs. search needs)
-    (λ c. search needs)
-    returns
-    (λ c. search needs)
-    (λ c. search needs)
-    part-has-name-end
-    (λ c κs. search needs)
-    (λ c. search needs)
-    (λ c κs. search needs)
-    loop-less
-    loop-again
-    (λ c. search needs)
-    returns-2)
+    (tie.spec Inv-loop μ-loop (λ c κs. search needs) (λ c κs. search needs) (λ c. (refl, λ start goal b. b)) (λ c κs. search needs) (λ c. search needs) returns
+    (λ c. search needs) (λ c. search needs) (λ c. inside c) (λ c κs. search needs) (λ c. search needs) (λ c κs. search needs) loop-less loop-again
+    (λ c. search needs) returns-2)

@@ -91,9 +91,6 @@ loop-again c =
       next g (zeroedConfiguration (take (c .before .before .before .before .before .before .before .before .before .before .size-at .result) (drop (s .from) dump))) _ refl (rw q at (c .before .before .put-configuration .ensures)),
     )
 
-same-length : tie.Need-same-length Inv-loop μ-loop
-same-length c = same (c .before .loop .inv .3)
-
 returns : tie.Need-returns Inv-loop μ-loop
 returns c =
     let s = c .before .loop in
@@ -102,18 +99,5 @@ returns c =
 pub put-configurations-spec : {M : Type 1} → statement M
 put-configurations-spec =
     tie.close
-    (tie.spec
-    Inv-loop
-    μ-loop
-    loop-holds
-    (λ c κs. search needs)
-    put-head-requires
-    (λ c κs. search needs)
-    (λ c κs. search needs)
-    put-configuration-requires
-    add-from
-    add-index
-    loop-less
-    loop-again
-    same-length
-    returns)
+    (tie.spec Inv-loop μ-loop loop-holds (λ c κs. search needs) put-head-requires (λ c κs. search needs) (λ c κs. search needs) put-configuration-requires
+    add-from add-index loop-less loop-again (λ c. same (c .before .loop .inv .3)) returns)

@@ -12,6 +12,4 @@ returns c =
     over (c .before .before .before .before .before .before .before .before .before .before .before .before .before .before .put-bytes .ensures .place) (one 16 true (c .before .before .blank3 .ensures) (one 15 true (c .before .before .before .before .before .before .blank2 .ensures) (one 14 true (c .before .before .before .before .before .before .before .before .before .before .blank .ensures) b)))
 
 pub put-device-spec : {M : Type 1} → statement M
-put-device-spec =
-    tie.close
-    (tie.spec (λ c κs. search needs) (λ c κs. search needs) (λ c κs. search needs) (λ c κs. search needs) (λ c. search needs) returns)
+put-device-spec = tie.close (tie.spec (λ c κs. search needs) (λ c κs. search needs) (λ c κs. search needs) (λ c κs. search needs) (λ c. search needs) returns)

@@ -45,12 +45,4 @@ returns c =
     g3 .onward _ _ (c .before .before .put-configurations .ensures)
 
 pub put-stream-spec : {M : Type 1} → statement M
-put-stream-spec =
-    tie.close
-    (tie.spec
-    put-head-requires
-    (λ c κs. search needs)
-    put-device-requires
-    put-configurations-requires
-    (λ c. search needs)
-    returns)
+put-stream-spec = tie.close (tie.spec put-head-requires (λ c κs. search needs) put-device-requires put-configurations-requires (λ c. search needs) returns)

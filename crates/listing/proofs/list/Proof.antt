@@ -20,14 +20,5 @@ returns-2 c = let s = c .before .before .before .before .before .before .before 
 pub list-spec : {M : Type 1} → statement M
 list-spec =
     tie.close
-    (tie.spec
-    (λ c κs. search needs)
-    (λ c. search needs)
-    (λ c. search needs)
-    (λ c. search needs)
-    put-line-requires
-    (λ c. search needs)
-    returns
-    put-accepted-requires
-    (λ c. search needs)
-    returns-2)
+    (tie.spec (λ c κs. search needs) (λ c. search needs) (λ c. search needs) (λ c. search needs) put-line-requires (λ c. search needs) returns
+    put-accepted-requires (λ c. search needs) returns-2)

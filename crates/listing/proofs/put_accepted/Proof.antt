@@ -36,12 +36,5 @@ returns c = wrote-both (headed (c .before .before .before .before .before .befor
 pub put-accepted-spec : {M : Type 1} → statement M
 put-accepted-spec =
     tie.close
-    (tie.spec
-    (λ c κs. search needs)
-    (λ c. search needs)
-    (λ c. search needs)
-    (λ c. search needs)
-    put-line-requires
-    put-configurations-requires
-    (λ c. search needs)
-    returns)
+    (tie.spec (λ c κs. search needs) (λ c. search needs) (λ c. search needs) (λ c. search needs) put-line-requires put-configurations-requires
+    (λ c. search needs) returns)

@@ -31,14 +31,5 @@ returns c = let s = c .before .before .before .before .before .before .before .b
 pub put-configuration-spec : {M : Type 1} → statement M
 put-configuration-spec =
     tie.close
-    (tie.spec
-    (λ c κs. search needs)
-    (λ c. search needs)
-    (λ c κs. search needs)
-    (λ c. search needs)
-    (λ c. search needs)
-    (λ c. search needs)
-    put-line-requires
-    put-descriptors-requires
-    (λ c. search needs)
-    returns)
+    (tie.spec (λ c κs. search needs) (λ c. search needs) (λ c κs. search needs) (λ c. search needs) (λ c. search needs) (λ c. search needs) put-line-requires
+    put-descriptors-requires (λ c. search needs) returns)

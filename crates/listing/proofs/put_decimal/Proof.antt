@@ -47,13 +47,5 @@ returns c = let x = c .before .before .before .before .before .before .before .b
 pub put-decimal-spec : {M : Type 1} → statement M
 put-decimal-spec =
     tie.close
-    (tie.spec
-    put-lead-requires
-    put-lead-requires-2
-    put-lead-requires-3
-    put-lead-requires-4
-    (λ c. search needs)
-    (λ c. search needs)
-    put-requires
-    (λ c. search needs)
-    returns)
+    (tie.spec put-lead-requires put-lead-requires-2 put-lead-requires-3 put-lead-requires-4 (λ c. search needs) (λ c. search needs) put-requires
+    (λ c. search needs) returns)

@@ -23,13 +23,4 @@ returns-3 c = rw (ne-eqb _ 4 (λ e. c .before .if1 .left (c .before .before .pee
 
 pub put-descriptor-spec : {M : Type 1} → statement M
 put-descriptor-spec =
-    tie.close
-    (tie.spec
-    (λ c κs. search needs)
-    put-interface-requires
-    (λ c. search needs)
-    returns
-    put-endpoint-requires
-    (λ c. search needs)
-    returns-2
-    returns-3)
+    tie.close (tie.spec (λ c κs. search needs) put-interface-requires (λ c. search needs) returns put-endpoint-requires (λ c. search needs) returns-2 returns-3)

@@ -24,9 +24,6 @@ loop-holds c =
     let b = at-first (c .before .before .before .args .body .now) _ (c .before .before .before .pre .0) (c .peek .ensures) in
     (b .place, rw (c .peek .ensures) (begun (c .before .before .before .args .out .now) _ _ (c .before .before .before .pre .1)))
 
-step-over-requires : tie.Need-step-over-requires Inv-loop μ-loop
-step-over-requires c κs = steps _ _ (c .before .loop .inv .0) (c .loop-test .taken)
-
 -- one descriptor on
 turned : (c : tie.After-step-over Inv-loop μ-loop) → Turn (c .before .before .before .before .before .before .args .body .now) (c .before .before .loop .from) (standIn (c .before .before .loop .last)) (paceOf (c .step-over .result))
 turned c = turn _ _ _ (c .before .before .loop .inv .0) (c .before .loop-test .taken) _ (c .step-over .ensures .steps)
@@ -43,15 +40,6 @@ lines c =
     collect-on telling _ _ _ (c .step-over .ensures .steps) (c .before .loop-test .taken) (turned c .on)
     ∙ ap (λ s. here c ++ collected telling (c .before .before .before .before .before .before .args .body .now) s (c .step-over .result .end)) (c .step-over .ensures .apart)
 
-sub-put-descriptor : tie.Need-sub-put-descriptor Inv-loop μ-loop
-sub-put-descriptor c = let t = turned (c .before) in omega (arith, t .on)
-
-part-put-descriptor-start : tie.Need-part-put-descriptor-start Inv-loop μ-loop
-part-put-descriptor-start c = let t = turned (c .before) in omega (arith, t .on)
-
-part-put-descriptor-end : tie.Need-part-put-descriptor-end Inv-loop μ-loop
-part-put-descriptor-end c = turned (c .before) .place .inside
-
 put-descriptor-requires : tie.Need-put-descriptor-requires Inv-loop μ-loop
 put-descriptor-requires c κs = let w = c .before .before in room-for (w .before .before .loop .inv .1) (here w) (behind w) (lines w)
 
@@ -63,27 +51,12 @@ loop-again c =
     let w = c .before .before .before .before .before in
     (turned w .place, next (w .before .before .loop .inv .1) (here w) (behind w) (lines w) (c .before .before .put-descriptor .ensures))
 
-same-length : tie.Need-same-length Inv-loop μ-loop
-same-length c = same (c .before .loop .inv .1)
-
 returns : tie.Need-returns Inv-loop μ-loop
 returns c = done (c .before .loop .inv .1) (collect-end telling (c .before .before .before .before .before .args .body .now) _ _ (c .loop-test .left))
 
 pub put-descriptors-spec : {M : Type 1} → statement M
 put-descriptors-spec =
     tie.close
-    (tie.spec
-    Inv-loop
-    μ-loop
-    (λ c κs. search needs)
-    (λ c. search needs)
-    loop-holds
-    step-over-requires
-    sub-put-descriptor
-    part-put-descriptor-start
-    part-put-descriptor-end
-    put-descriptor-requires
-    loop-less
-    loop-again
-    same-length
-    returns)
+    (tie.spec Inv-loop μ-loop (λ c κs. search needs) (λ c. search needs) loop-holds (λ c κs. steps _ _ (c .before .loop .inv .0) (c .loop-test .taken))
+    (λ c. let t = turned (c .before) in omega (arith, t .on)) (λ c. let t = turned (c .before) in omega (arith, t .on)) (λ c. turned (c .before) .place .inside)
+    put-descriptor-requires loop-less loop-again (λ c. same (c .before .loop .inv .1)) returns)

@@ -12,14 +12,5 @@ returns c = rw (c .before .before .before .before .before .before .before .befor
 pub put-endpoint-spec : {M : Type 1} → statement M
 put-endpoint-spec =
     tie.close
-    (tie.spec
-    (λ c κs. search needs)
-    (λ c. search needs)
-    (λ c κs. search needs)
-    (λ c. search needs)
-    (λ c κs. search needs)
-    (λ c. search needs)
-    (λ c. search needs)
-    put-line-requires
-    (λ c. search needs)
-    returns)
+    (tie.spec (λ c κs. search needs) (λ c. search needs) (λ c κs. search needs) (λ c. search needs) (λ c κs. search needs) (λ c. search needs)
+    (λ c. search needs) put-line-requires (λ c. search needs) returns)

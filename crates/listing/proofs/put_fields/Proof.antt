@@ -50,26 +50,8 @@ put-requires-2 c κs = let s = c .before .before in room-for (s .loop .inv .1) (
 ended : (c : tie.After-put2 Inv-loop μ-loop) → Going (c .before .before .before .before .before .before .args .out .now) (c .before .before .before .before .before .before .args .at) (fields (c .before .before .before .before .before .before .args .numbers .now)) (c .put2 .last .0) (c .put2 .result) []
 ended c = let s = c .before .before .before in next (s .loop .inv .1) (10 ∷ []) [] (no-field (s .before .before .before .args .numbers .now) (s .loop .i) (c .before .before .loop-test .left)) (c .put2 .ensures)
 
-same-length : tie.Need-same-length Inv-loop μ-loop
-same-length c = same (ended (c .before .before))
-
-returns : tie.Need-returns Inv-loop μ-loop
-returns c = done (ended (c .before .before)) refl
-
 pub put-fields-spec : {M : Type 1} → statement M
 put-fields-spec =
     tie.close
-    (tie.spec
-    Inv-loop
-    μ-loop
-    loop-holds
-    put-requires
-    (λ c. search needs)
-    (λ c. search needs)
-    put-decimal-requires
-    (λ c. search needs)
-    (λ c. search needs)
-    loop-again
-    put-requires-2
-    same-length
-    returns)
+    (tie.spec Inv-loop μ-loop loop-holds put-requires (λ c. search needs) (λ c. search needs) put-decimal-requires (λ c. search needs) (λ c. search needs)
+    loop-again put-requires-2 (λ c. same (ended (c .before .before))) (λ c. done (ended (c .before .before)) refl))

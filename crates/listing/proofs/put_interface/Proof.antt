@@ -12,13 +12,5 @@ returns c = rw (c .before .before .before .before .before .before .peek .ensures
 pub put-interface-spec : {M : Type 1} → statement M
 put-interface-spec =
     tie.close
-    (tie.spec
-    (λ c. search needs)
-    (λ c. search needs)
-    (λ c κs. search needs)
-    (λ c. search needs)
-    (λ c. search needs)
-    (λ c. search needs)
-    put-line-requires
-    (λ c. search needs)
-    returns)
+    (tie.spec (λ c. search needs) (λ c. search needs) (λ c κs. search needs) (λ c. search needs) (λ c. search needs) (λ c. search needs) put-line-requires
+    (λ c. search needs) returns)

@@ -11,9 +11,5 @@ put-requires c κs = rw (le-leb _ _ (c .before .if1 .taken)) at (c .before .befo
 returns : tie.Need-returns
 returns c = rw (le-leb _ _ (c .before .before .before .before .if1 .taken)) (c .before .before .put .ensures)
 
-returns-2 : tie.Need-returns-2
-returns-2 c = rw (lt-leb _ _ (c .if1 .left)) (wrote-nothing _ _)
-
 pub put-lead-spec : {M : Type 1} → statement M
-put-lead-spec =
-    tie.close (tie.spec (λ c. search needs) (λ c. search needs) (λ c. search needs) put-requires (λ c. search needs) returns returns-2)
+put-lead-spec = tie.close (tie.spec (λ c. search needs) (λ c. search needs) (λ c. search needs) put-requires (λ c. search needs) returns (λ c. rw (lt-leb _ _ (c .if1 .left)) (wrote-nothing _ _)))

@@ -23,6 +23,4 @@ returns : tie.Need-returns
 returns c = (rw (add-sub-cancel-left, c .before .before .packet-of .ensures), (search needs, rw (c .before .before .packet-of .ensures) (add-comm _ _)))
 
 pub cut-spec : {M : Type 1} → statement M
-cut-spec =
-    tie.close
-    (tie.spec (λ c κs. search needs) add-end (λ c. search needs) (λ c. search needs) part-result-end returns)
+cut-spec = tie.close (tie.spec (λ c κs. search needs) add-end (λ c. search needs) (λ c. search needs) part-result-end returns)

@@ -13,19 +13,11 @@ sub-result c = let a = c .before .args in omega (arith, bounded (a .reply) (a .a
 div-result : tie.Need-div-result
 div-result c = let a = c .before .args in omega (arith, bounded (a .reply) (a .asked) (a .size) (c .before .pre))
 
-returns : tie.Need-returns
-returns c = simp (eq-eqb _ _ (c .if1 .taken))
-
 div-result-2 : tie.Need-div-result-2
 div-result-2 c = let a = c .before .args in omega (arith, bounded (a .reply) (a .asked) (a .size) (c .before .pre))
 
 add-result-2 : tie.Need-add-result-2
 add-result-2 c = let a = c .before .args in omega (arith, not-longer (a .reply) (a .asked) (a .size) (c .before .pre), div-le-self (a .reply) (a .size))
 
-returns-2 : tie.Need-returns-2
-returns-2 c = simp (ne-eqb _ _ (c .if1 .left))
-
 pub packet-count-spec : {M : Type 1} → statement M
-packet-count-spec =
-    tie.close
-    (tie.spec (λ c. search needs) sub-result div-result returns div-result-2 add-result-2 returns-2)
+packet-count-spec = tie.close (tie.spec (λ c. search needs) sub-result div-result (λ c. simp (eq-eqb _ _ (c .if1 .taken))) div-result-2 add-result-2 (λ c. simp (ne-eqb _ _ (c .if1 .left))))

@@ -10,9 +10,6 @@ use borrow.Author.Needs.{needs}
 use Rattle.packets.proofs.packet_of.Statement.{statement}
 use Rattle.packets.proofs.packet_of.Tie as tie
 
-packet-count-requires : tie.Need-packet-count-requires
-packet-count-requires c κs = sym (c .before .can-cut .ensures) ∙ c .if1 .taken
-
 mul-offset : tie.Need-mul-offset
 mul-offset c =
     let a = c .before .before .before .before .args in
@@ -50,14 +47,4 @@ returns-4 : tie.Need-returns-4
 returns-4 c = is-refused _ _ _ _ (rw (sym (c .before .can-cut .ensures) ∙ c .if1 .left))
 
 pub packet-of-spec : {M : Type 1} → statement M
-packet-of-spec =
-    tie.close
-    (tie.spec
-    (λ c κs. search needs)
-    packet-count-requires
-    mul-offset
-    sub-left
-    returns
-    returns-2
-    returns-3
-    returns-4)
+packet-of-spec = tie.close (tie.spec (λ c κs. search needs) (λ c κs. sym (c .before .can-cut .ensures) ∙ c .if1 .taken) mul-offset sub-left returns returns-2 returns-3 returns-4)

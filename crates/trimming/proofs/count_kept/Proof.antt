@@ -2,7 +2,7 @@
 use Prim.Native.Nat.{_+_, _-_, _≤_}
 use native.Mathlib.Nat.{add-zero}
 use native.Mathlib.Omega.{arith}
-use mathlib.Core.List.{[], _∷_}
+use mathlib.Core.List.{_∷_}
 use mathlib.Core.Path.{_≡_, sym, ap, _∙_}
 use lib.ListN.{length}
 use borrow.Author.Needs.{needs}
@@ -20,17 +20,9 @@ Inv-loop contents names zero count n₀ i₀ n i = (n ≤ i) × (length (only (k
 abbrev μ-loop : tie.MeasureT-loop
 μ-loop contents names zero count n₀ i₀ n i = count - i
 
--- the entries from here on, where one is left and where none is
-turn : (c : tie.After-entry-at Inv-loop μ-loop)
-    → rest (c .before .before .before .before .before .args .contents .now) (c .before .before .loop .i)
-    ≡ c .entry-at .result ∷ rest (c .before .before .before .before .before .args .contents .now) (c .before .before .loop .i + 1)
-turn c =
-    next-entry (c .before .before .before .before .before .args .contents .now) (c .before .before .before .peek .result) (c .before .before .before .peek .ensures)
-    (c .before .before .loop .i) (c .before .loop-test .taken) (c .entry-at .result) (c .entry-at .ensures)
-
-end : (c : tie.After-loop Inv-loop μ-loop) → rest (c .before .before .before .before .args .contents .now) (c .before .loop .i) ≡ []
-end c =
-    no-entry (c .before .before .before .before .args .contents .now) (c .before .before .peek .result) (c .before .before .peek .ensures) (c .before .loop .i) (c .loop-test .left)
+-- the entries from here on, where one is left
+turn : (c : tie.After-entry-at Inv-loop μ-loop) → let set = c .before .before .before .before .before .args .contents .now in rest set (c .before .before .loop .i) ≡ c .entry-at .result ∷ rest set (c .before .before .loop .i + 1)
+turn c = next-entry (c .before .before .before .before .before .args .contents .now) _ (c .before .before .before .peek .ensures) _ (c .before .loop-test .taken) _ (c .entry-at .ensures)
 
 loop-holds : tie.Need-loop-holds Inv-loop μ-loop
 loop-holds c = let a = c .before .before .args in (omega arith, rw (← rest-start (a .contents .now)) (omega arith))
@@ -56,22 +48,10 @@ returns : tie.Need-returns Inv-loop μ-loop
 returns c =
     let a = c .before .before .before .before .args in
     let l = c .before .loop in
-    sym (l .inv .1 ∙ ap (λ es. l .n + length es) (none-left (keepsBy (a .names .now) (a .zero)) (end c)) ∙ add-zero (l .n))
+    sym (l .inv .1 ∙ ap (λ es. l .n + length es) (none-left (keepsBy (a .names .now) (a .zero)) (no-entry (a .contents .now) _ (c .before .before .peek .ensures) _ (c .loop-test .left))) ∙ add-zero (l .n))
 
 pub count-kept-spec : {M : Type 1} → statement M
 count-kept-spec =
     tie.close
-    (tie.spec
-    Inv-loop
-    μ-loop
-    (λ c κs. search needs)
-    loop-holds
-    (λ c κs. search needs)
-    (λ c. search needs)
-    (λ c κs. search needs)
-    add-n
-    (λ c. search needs)
-    loop-again
-    (λ c. search needs)
-    loop-again-2
-    returns)
+    (tie.spec Inv-loop μ-loop (λ c κs. search needs) loop-holds (λ c κs. search needs) (λ c. search needs) (λ c κs. search needs) add-n (λ c. search needs)
+    loop-again (λ c. search needs) loop-again-2 returns)

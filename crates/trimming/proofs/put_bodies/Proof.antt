@@ -2,7 +2,7 @@
 use Prim.Native.Nat.{_+_, _-_, _≤_}
 use native.Mathlib.Omega.{arith}
 use mathlib.Core.Bool.{true}
-use mathlib.Core.List.{[], _∷_}
+use mathlib.Core.List.{_∷_}
 use mathlib.Core.Path.{_≡_, refl, sym, _∙_}
 use lib.ListN.{length, drop}
 use borrow.Author.Needs.{needs}
@@ -27,17 +27,9 @@ Inv-loop out₀ at contents names zero count next₀ from₀ i₀ out next from 
 abbrev μ-loop : tie.MeasureT-loop
 μ-loop out₀ at contents names zero count next₀ from₀ i₀ out next from i = count - i
 
--- the entries from here on, where one is left and where none is
-turn : (c : tie.After-entry-at Inv-loop μ-loop)
-    → rest (c .before .before .before .before .before .before .args .contents .now) (c .before .before .loop .i)
-    ≡ c .entry-at .result ∷ rest (c .before .before .before .before .before .before .args .contents .now) (c .before .before .loop .i + 1)
-turn c =
-    next-entry (c .before .before .before .before .before .before .args .contents .now) (c .before .before .before .peek .result) (c .before .before .before .peek .ensures)
-    (c .before .before .loop .i) (c .before .loop-test .taken) (c .entry-at .result) (c .entry-at .ensures)
-
-end : (c : tie.After-loop Inv-loop μ-loop) → rest (c .before .before .before .before .before .args .contents .now) (c .before .loop .i) ≡ []
-end c =
-    no-entry (c .before .before .before .before .before .args .contents .now) (c .before .before .peek .result) (c .before .before .peek .ensures) (c .before .loop .i) (c .loop-test .left)
+-- the entries from here on, where one is left
+turn : (c : tie.After-entry-at Inv-loop μ-loop) → let set = c .before .before .before .before .before .before .args .contents .now in rest set (c .before .before .loop .i) ≡ c .entry-at .result ∷ rest set (c .before .before .loop .i + 1)
+turn c = next-entry (c .before .before .before .before .before .before .args .contents .now) _ (c .before .before .before .peek .ensures) _ (c .before .loop-test .taken) _ (c .entry-at .ensures)
 
 loop-holds : tie.Need-loop-holds Inv-loop μ-loop
 loop-holds c =
@@ -93,36 +85,15 @@ loop-again-2 c =
     let q = goes (keepsBy (a .names .now) (a .zero)) (turn s) (sym (c .before .keeps .ensures) ∙ c .if1 .left) in
     (omega (arith, l .inv .0), n .later, still (a .out .now) (l .out) (l .next) (l .from) (s .entry-at .result .length) (l .inv .2), rw q at (l .inv .3))
 
-same-length : tie.Need-same-length Inv-loop μ-loop
-same-length c = same (c .before .loop .inv .3)
-
 returns : tie.Need-returns Inv-loop μ-loop
 returns c =
     let a = c .before .before .before .before .before .args in
     let l = c .before .loop in
-    done (l .inv .3) (bodies-end (a .out .now) (none-left (keepsBy (a .names .now) (a .zero)) (end c)))
+    done (l .inv .3) (bodies-end (a .out .now) (none-left (keepsBy (a .names .now) (a .zero)) (no-entry (a .contents .now) _ (c .before .before .peek .ensures) _ (c .loop-test .left))))
 
 pub put-bodies-spec : {M : Type 1} → statement M
 put-bodies-spec =
     tie.close
-    (tie.spec
-    Inv-loop
-    μ-loop
-    (λ c κs. search needs)
-    (λ c. search needs)
-    (λ c. search needs)
-    (λ c. search needs)
-    loop-holds
-    (λ c κs. search needs)
-    (λ c. search needs)
-    add-from-2
-    (λ c. search needs)
-    (λ c κs. search needs)
-    moved-requires
-    add-next
-    (λ c. search needs)
-    loop-again
-    (λ c. search needs)
-    loop-again-2
-    same-length
-    returns)
+    (tie.spec Inv-loop μ-loop (λ c κs. search needs) (λ c. search needs) (λ c. search needs) (λ c. search needs) loop-holds (λ c κs. search needs)
+    (λ c. search needs) add-from-2 (λ c. search needs) (λ c κs. search needs) moved-requires add-next (λ c. search needs) loop-again (λ c. search needs)
+    loop-again-2 (λ c. same (c .before .loop .inv .3)) returns)

@@ -1,7 +1,7 @@
 -- `trimming::put_contents` meets its contract: the entries that are left. No axiom.
 use Prim.Native.Nat.{_+_, _-_, _<_}
 use native.Mathlib.Omega.{arith}
-use mathlib.Core.List.{[], _∷_}
+use mathlib.Core.List.{_∷_}
 use mathlib.Core.Path.{_≡_, sym, _∙_}
 use borrow.Author.Needs.{needs}
 use Rattle.octets.specs.Sentences.{only}
@@ -22,17 +22,9 @@ Inv-loop out₀ at start contents names zero count next₀ offset₀ i₀ out ne
 abbrev μ-loop : tie.MeasureT-loop
 μ-loop out₀ at start contents names zero count next₀ offset₀ i₀ out next offset i = count - i
 
--- the entries from here on, where one is left and where none is
-turn : (c : tie.After-entry-at Inv-loop μ-loop)
-    → rest (c .before .before .before .before .before .before .args .contents .now) (c .before .before .loop .i)
-    ≡ c .entry-at .result ∷ rest (c .before .before .before .before .before .before .args .contents .now) (c .before .before .loop .i + 1)
-turn c =
-    next-entry (c .before .before .before .before .before .before .args .contents .now) (c .before .before .before .peek .result) (c .before .before .before .peek .ensures)
-    (c .before .before .loop .i) (c .before .loop-test .taken) (c .entry-at .result) (c .entry-at .ensures)
-
-end : (c : tie.After-loop Inv-loop μ-loop) → rest (c .before .before .before .before .before .args .contents .now) (c .before .loop .i) ≡ []
-end c =
-    no-entry (c .before .before .before .before .before .args .contents .now) (c .before .before .peek .result) (c .before .before .peek .ensures) (c .before .loop .i) (c .loop-test .left)
+-- the entries from here on, where one is left
+turn : (c : tie.After-entry-at Inv-loop μ-loop) → let set = c .before .before .before .before .before .before .args .contents .now in rest set (c .before .before .loop .i) ≡ c .entry-at .result ∷ rest set (c .before .before .loop .i + 1)
+turn c = next-entry (c .before .before .before .before .before .before .args .contents .now) _ (c .before .before .before .peek .ensures) _ (c .before .loop-test .taken) _ (c .entry-at .ensures)
 
 loop-holds : tie.Need-loop-holds Inv-loop μ-loop
 loop-holds c =
@@ -71,32 +63,14 @@ loop-again-2 c =
     let q = goes (keepsBy (a .names .now) (a .zero)) (turn s) (sym (c .before .keeps .ensures) ∙ c .if1 .left) in
     (rw q at (l .inv .0), rw q at (l .inv .1))
 
-same-length : tie.Need-same-length Inv-loop μ-loop
-same-length c = same (c .before .loop .inv .1)
-
 returns : tie.Need-returns Inv-loop μ-loop
 returns c =
     let a = c .before .before .before .before .before .args in
     let l = c .before .loop in
-    done (l .inv .1) (contents-none (l .offset) (none-left (keepsBy (a .names .now) (a .zero)) (end c)))
+    done (l .inv .1) (contents-none (l .offset) (none-left (keepsBy (a .names .now) (a .zero)) (no-entry (a .contents .now) _ (c .before .before .peek .ensures) _ (c .loop-test .left))))
 
 pub put-contents-spec : {M : Type 1} → statement M
 put-contents-spec =
     tie.close
-    (tie.spec
-    Inv-loop
-    μ-loop
-    (λ c κs. search needs)
-    loop-holds
-    (λ c κs. search needs)
-    (λ c. search needs)
-    (λ c κs. search needs)
-    put-entry-requires
-    (λ c. search needs)
-    add-offset
-    (λ c. search needs)
-    loop-again
-    (λ c. search needs)
-    loop-again-2
-    same-length
-    returns)
+    (tie.spec Inv-loop μ-loop (λ c κs. search needs) loop-holds (λ c κs. search needs) (λ c. search needs) (λ c κs. search needs) put-entry-requires
+    (λ c. search needs) add-offset (λ c. search needs) loop-again (λ c. search needs) loop-again-2 (λ c. same (c .before .loop .inv .1)) returns)

@@ -35,21 +35,8 @@ loop-again c =
     let e = ap length (w .bytes) ∙ length-sets (l .out) (l .next) (0 ∷ []) in
     (omega (arith, w .place, e, c .before .before .before .before .loop-test .taken), rw (w .place, e) (next (l .inv .1) (0 ∷ []) _ (zeros-more _ (l .next) (c .before .before .before .before .loop-test .taken)) (rw (w .place) at w)))
 
-same-length : tie.Need-same-length Inv-loop μ-loop
-same-length c = same (c .before .loop .inv .1)
-
 returns : tie.Need-returns Inv-loop μ-loop
 returns c = let l = c .before .loop in done (l .inv .1) (zeros-none _ (l .next) (c .loop-test .left))
 
 pub put-zeros-spec : {M : Type 1} → statement M
-put-zeros-spec =
-    tie.close
-    (tie.spec
-    Inv-loop
-    μ-loop
-    loop-holds
-    put-requires
-    loop-less
-    loop-again
-    same-length
-    returns)
+put-zeros-spec = tie.close (tie.spec Inv-loop μ-loop loop-holds put-requires loop-less loop-again (λ c. same (c .before .loop .inv .1)) returns)

@@ -43,12 +43,6 @@ copy-requires c κs =
     let p = c .before .before .before .peek in
     omega (arith, g .few, p .ensures, length-take-le-any (4 + 8 * p .result - 0) (i .args .set .now))
 
-mul-start : tie.Need-mul-start
-mul-start c = let r = ready c in omega (arith, less r, r .few)
-
-add-start : tie.Need-add-start
-add-start c = let r = ready c in omega (arith, less r, r .few)
-
 put-contents-requires : tie.Need-put-contents-requires
 put-contents-requires c κs = let r = ready (c .before .before) in (contents-room r, contents-small r)
 
@@ -77,29 +71,7 @@ returns c =
 pub rebuild-spec : {M : Type 1} → statement M
 rebuild-spec =
     tie.close
-    (tie.spec
-    (λ c κs. search needs)
-    (λ c. search needs)
-    (λ c. search needs)
-    (λ c. search needs)
-    (λ c. search needs)
-    (λ c. search needs)
-    part-copy-end
-    (λ c. search needs)
-    copy-requires
-    (λ c. search needs)
-    (λ c κs. search needs)
-    mul-start
-    add-start
-    (λ c. search needs)
-    put-contents-requires
-    (λ c. search needs)
-    put-bodies-requires
-    put-zeros-requires
-    (λ c. search needs)
-    cast-t36
-    cast-t37
-    (λ c. search needs)
-    put-bytes-requires
-    (λ c. search needs)
-    returns)
+    (tie.spec (λ c κs. search needs) (λ c. search needs) (λ c. search needs) (λ c. search needs) (λ c. search needs) (λ c. search needs) part-copy-end
+    (λ c. search needs) copy-requires (λ c. search needs) (λ c κs. search needs) (λ c. let r = ready c in omega (arith, less r, r .few))
+    (λ c. let r = ready c in omega (arith, less r, r .few)) (λ c. search needs) put-contents-requires (λ c. search needs) put-bodies-requires put-zeros-requires
+    (λ c. search needs) cast-t36 cast-t37 (λ c. search needs) put-bytes-requires (λ c. search needs) returns)

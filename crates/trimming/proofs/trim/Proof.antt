@@ -29,13 +29,5 @@ returns-2 c =
 pub trim-spec : {M : Type 1} → statement M
 trim-spec =
     tie.close
-    (tie.spec
-    (λ c κs. search needs)
-    (λ c. search needs)
-    returns
-    names-of-requires
-    (λ c κs. search needs)
-    (λ c κs. search needs)
-    rebuild-requires
-    (λ c. search needs)
-    returns-2)
+    (tie.spec (λ c κs. search needs) (λ c. search needs) returns names-of-requires (λ c κs. search needs) (λ c κs. search needs) rebuild-requires
+    (λ c. search needs) returns-2)

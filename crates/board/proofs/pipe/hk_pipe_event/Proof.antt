@@ -18,6 +18,4 @@ returns c =
     (a .set .now) refl refl (wire .result) (wireOf (a .kind) (a .value)) (h .result) _ _ (wire .ensures) (h .ensures) (f .0) (f .1 .0) (f .1 .1)
 
 pub hk-pipe-event-spec : {M : Type 1} → statement M
-hk-pipe-event-spec =
-    tie.close
-    (tie.spec (λ c κs. search needs) (λ c κs. search needs) (λ c κs. search needs) (λ c. search needs) (λ c. search needs) returns)
+hk-pipe-event-spec = tie.close (tie.spec (λ c κs. search needs) (λ c κs. search needs) (λ c κs. search needs) (λ c. search needs) (λ c. search needs) returns)

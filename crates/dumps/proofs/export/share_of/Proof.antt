@@ -8,8 +8,5 @@ use Rattle.dumps.proofs.export.share_of.Tie as tie
 returns : tie.Need-returns
 returns c = (sym (rw (le-leb _ _ (c .before .if1 .taken))), search needs)
 
-returns-2 : tie.Need-returns-2
-returns-2 c = (sym (rw (lt-leb _ _ (c .if1 .left))), search needs)
-
 pub share-of-spec : {M : Type 1} → statement M
-share-of-spec = tie.close (tie.spec (λ c. search needs) returns returns-2)
+share-of-spec = tie.close (tie.spec (λ c. search needs) returns (λ c. (sym (rw (lt-leb _ _ (c .if1 .left))), search needs)))

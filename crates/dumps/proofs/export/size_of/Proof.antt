@@ -3,7 +3,6 @@ use Prim.Native.Nat.{_+_, _-_, _*_, _≤_}
 use native.Mathlib.Nat.{zero-add}
 use native.Mathlib.Omega.{arith}
 use mathlib.Core.Path.{_≡_, ap, _∙_}
-use mathlib.Core.List.{[], _∷_}
 use Rattle.sets.specs.Contents.{entries}
 use Rattle.sets.proofs.Entries.{rest, rest-start, next-entry, no-entry}
 use Rattle.dumps.specs.Export.{shares}
@@ -18,45 +17,20 @@ Inv-loop set count size₀ i₀ size i = (size ≤ 65536 * i) × (shares (entrie
 abbrev μ-loop : tie.MeasureT-loop
 μ-loop set count size₀ i₀ size i = count - i
 
--- the entries from here on, where one is left and where none is
-turn : (c : tie.After-entry-at Inv-loop μ-loop)
-    → rest (c .before .before .before .before .before .args .set .now) (c .before .before .loop .i)
-    ≡ c .entry-at .result ∷ rest (c .before .before .before .before .before .args .set .now) (c .before .before .loop .i + 1)
-turn c =
-    next-entry (c .before .before .before .before .before .args .set .now) (c .before .before .before .peek .result) (c .before .before .before .peek .ensures)
-    (c .before .before .loop .i) (c .before .loop-test .taken) (c .entry-at .result) (c .entry-at .ensures)
-
-end : (c : tie.After-loop Inv-loop μ-loop) → rest (c .before .before .before .before .args .set .now) (c .before .loop .i) ≡ []
-end c =
-    no-entry (c .before .before .before .before .args .set .now) (c .before .before .peek .result) (c .before .before .peek .ensures) (c .before .loop .i) (c .loop-test .left)
-
 loop-holds : tie.Need-loop-holds Inv-loop μ-loop
 loop-holds c = let a = c .before .before .args in (omega arith, rw zero-add (ap shares (rest-start (a .set .now))))
 
-add-size : tie.Need-add-size Inv-loop μ-loop
-add-size c = omega (arith, c .share-of .ensures .1)
-
 loop-again : tie.Need-loop-again Inv-loop μ-loop
-loop-again c = (
-  omega (arith, c .share-of .ensures .1),
-  omega (arith, c .before .before .before .loop .inv .1, c .share-of .ensures .0, ap shares (turn (c .before)) ∙ shares-more _ _),
-)
+loop-again c =
+    let l = c .before .before .before .loop in
+    let t = next-entry (c .before .before .before .before .before .before .args .set .now) _ (c .before .before .before .before .peek .ensures) _ (c .before .before .loop-test .taken) _ (c .before .entry-at .ensures) in
+    (omega (arith, c .share-of .ensures .1), omega (arith, l .inv .1, c .share-of .ensures .0, ap shares t ∙ shares-more _ _))
 
 returns : tie.Need-returns Inv-loop μ-loop
-returns c = omega (arith, c .before .loop .inv .1, ap shares (end c) ∙ shares-none)
+returns c = omega (arith, c .before .loop .inv .1, ap shares (no-entry (c .before .before .before .before .args .set .now) _ (c .before .before .peek .ensures) _ (c .loop-test .left)) ∙ shares-none)
 
 pub size-of-spec : {M : Type 1} → statement M
 size-of-spec =
     tie.close
-    (tie.spec
-    Inv-loop
-    μ-loop
-    (λ c κs. search needs)
-    loop-holds
-    (λ c κs. search needs)
-    (λ c κs. search needs)
-    add-size
-    (λ c. search needs)
-    (λ c. search needs)
-    loop-again
-    returns)
+    (tie.spec Inv-loop μ-loop (λ c κs. search needs) loop-holds (λ c κs. search needs) (λ c κs. search needs) (λ c. omega (arith, c .share-of .ensures .1))
+    (λ c. search needs) (λ c. search needs) loop-again returns)

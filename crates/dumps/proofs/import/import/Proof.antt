@@ -53,25 +53,6 @@ returns-4 c =
 pub import-spec : {M : Type 1} → statement M
 import-spec =
     tie.close
-    (tie.spec
-    (λ c κs. search needs)
-    (λ c. search needs)
-    (λ c κs. search needs)
-    (λ c. search needs)
-    (λ c κs. search needs)
-    returns
-    (λ c κs. search needs)
-    returns-2
-    (λ c. search needs)
-    put-stream-requires
-    (λ c. search needs)
-    (λ c. search needs)
-    part-write-end
-    (λ c. search needs)
-    (λ c. search needs)
-    (λ c. search needs)
-    (λ c κs. search needs)
-    (λ c κs. search needs)
-    returns-3
-    (λ c. search needs)
-    returns-4)
+    (tie.spec (λ c κs. search needs) (λ c. search needs) (λ c κs. search needs) (λ c. search needs) (λ c κs. search needs) returns (λ c κs. search needs)
+    returns-2 (λ c. search needs) put-stream-requires (λ c. search needs) (λ c. search needs) part-write-end (λ c. search needs) (λ c. search needs)
+    (λ c. search needs) (λ c κs. search needs) (λ c κs. search needs) returns-3 (λ c. search needs) returns-4)

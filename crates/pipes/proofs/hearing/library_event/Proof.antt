@@ -3,32 +3,10 @@ use borrow.Author.Needs.{needs}
 use Rattle.pipes.proofs.hearing.library_event.Statement.{statement}
 use Rattle.pipes.proofs.hearing.library_event.Tie as tie
 
-returns : tie.Need-returns
-returns c = rw (c .before .enum-told .given .1, c .setup-event .ensures)
-
-returns-4 : tie.Need-returns-4
-returns-4 c = rw (c .before .wire .given .1)
-
 pub library-event-spec : {M : Type 1} → statement M
 library-event-spec =
     tie.close
-    (tie.spec
-    (λ c. search needs)
-    (λ c κs. search needs)
-    (λ c. search needs)
-    (λ c. search needs)
-    (λ c. search needs)
-    (λ c. search needs)
-    (λ c. search needs)
-    (λ c. search needs)
-    (λ c. search needs)
-    (λ c. search needs)
-    returns
-    (λ c. search needs)
-    (λ c. search needs)
-    returns-4
-    (λ c. search needs)
-    (λ c. search needs)
-    (λ c. search needs)
-    (λ c. search needs)
+    (tie.spec (λ c. search needs) (λ c κs. search needs) (λ c. search needs) (λ c. search needs) (λ c. search needs) (λ c. search needs) (λ c. search needs)
+    (λ c. search needs) (λ c. search needs) (λ c. search needs) (λ c. rw (c .before .enum-told .given .1, c .setup-event .ensures)) (λ c. search needs)
+    (λ c. search needs) (λ c. rw (c .before .wire .given .1)) (λ c. search needs) (λ c. search needs) (λ c. search needs) (λ c. search needs)
     (λ c. search needs))

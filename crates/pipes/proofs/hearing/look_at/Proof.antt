@@ -21,13 +21,4 @@ returns-3 c =
     (m .0 ∙ sym (looked-moves (a .lengths) (a .wire) (a .pipe .now) e t), m .1 ∙ sym (pipe-looked-moves (a .lengths) (a .wire) (a .pipe .now) e t))
 
 pub look-at-spec : {M : Type 1} → statement M
-look-at-spec =
-    tie.close
-    (tie.spec
-    (λ c κs. search needs)
-    returns
-    (λ c κs. search needs)
-    returns-2
-    (λ c κs. search needs)
-    (λ c. search needs)
-    returns-3)
+look-at-spec = tie.close (tie.spec (λ c κs. search needs) returns (λ c κs. search needs) returns-2 (λ c κs. search needs) (λ c. search needs) returns-3)

@@ -1,6 +1,5 @@
 -- `pipes::hearing::move_on` meets its contract: by whether the pipe record fits. No axiom.
 use mathlib.Core.Path.{sym, _∙_}
-use Rattle.pipes.specs.Image.{transferOf}
 use Rattle.pipes.proofs.Fitting.{received-fits}
 use borrow.Author.Needs.{needs}
 use Rattle.pipes.proofs.hearing.move_on.Statement.{statement}
@@ -18,13 +17,5 @@ returns-2 c = let e = sym (c .before .before .fits-in .ensures) ∙ c .before .i
 pub move-on-spec : {M : Type 1} → statement M
 move-on-spec =
     tie.close
-    (tie.spec
-    (λ c κs. search needs)
-    (λ c κs. search needs)
-    turned-requires
-    (λ c κs. search needs)
-    (λ c. search needs)
-    returns
-    (λ c κs. search needs)
-    (λ c. search needs)
-    returns-2)
+    (tie.spec (λ c κs. search needs) (λ c κs. search needs) turned-requires (λ c κs. search needs) (λ c. search needs) returns (λ c κs. search needs)
+    (λ c. search needs) returns-2)

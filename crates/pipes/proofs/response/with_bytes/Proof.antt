@@ -3,8 +3,5 @@ use borrow.Author.Needs.{needs}
 use Rattle.pipes.proofs.response.with_bytes.Statement.{statement}
 use Rattle.pipes.proofs.response.with_bytes.Tie as tie
 
-returns : tie.Need-returns
-returns c = rw (c .number .ensures, c .before .bytes-of .ensures)
-
 pub with-bytes-spec : {M : Type 1} → statement M
-with-bytes-spec = tie.close (tie.spec (λ c κs. search needs) (λ c κs. search needs) returns)
+with-bytes-spec = tie.close (tie.spec (λ c κs. search needs) (λ c κs. search needs) (λ c. rw (c .number .ensures, c .before .bytes-of .ensures)))

@@ -41,9 +41,6 @@ loop-again c =
       next (s .loop .inv .1) (here stream places i .body) (bodyBytes (behind stream places i)) (bodies-left stream places i (c .before .before .before .before .before .before .loop-test .taken)) (rw (c .before .before .before .body-at .ensures) at (c .before .before .put-bytes .ensures)),
     )
 
-same-length : tie.Need-same-length Inv-loop μ-loop
-same-length c = same (c .before .loop .inv .1)
-
 returns : tie.Need-returns Inv-loop μ-loop
 returns c =
     let s = c .before in
@@ -56,16 +53,5 @@ returns c =
 pub put-bodies-spec : {M : Type 1} → statement M
 put-bodies-spec =
     tie.close
-    (tie.spec
-    Inv-loop
-    μ-loop
-    loop-holds
-    (λ c. search needs)
-    (λ c. search needs)
-    (λ c κs. search needs)
-    put-bytes-requires
-    (λ c. search needs)
-    (λ c. search needs)
-    loop-again
-    same-length
-    returns)
+    (tie.spec Inv-loop μ-loop loop-holds (λ c. search needs) (λ c. search needs) (λ c κs. search needs) put-bytes-requires (λ c. search needs)
+    (λ c. search needs) loop-again (λ c. same (c .before .loop .inv .1)) returns)

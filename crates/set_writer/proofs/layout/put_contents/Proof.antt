@@ -75,9 +75,6 @@ loop-again c =
       rw l (next (s .loop .inv .2) (entryBytes (here stream places i) (s .loop .offset)) _ (entries-left stream places i h (s .loop .offset)) (c .before .before .before .put-entry .ensures)),
     )
 
-same-length : tie.Need-same-length Inv-loop μ-loop
-same-length c = same (c .before .loop .inv .2)
-
 returns : tie.Need-returns Inv-loop μ-loop
 returns c =
     let s = c .before in
@@ -90,19 +87,5 @@ returns c =
 pub put-contents-spec : {M : Type 1} → statement M
 put-contents-spec =
     tie.close
-    (tie.spec
-    Inv-loop
-    μ-loop
-    mul-offset
-    add-offset
-    loop-holds
-    (λ c. search needs)
-    (λ c. search needs)
-    put-entry-requires
-    (λ c κs. search needs)
-    add-offset-2
-    (λ c. search needs)
-    (λ c. search needs)
-    loop-again
-    same-length
-    returns)
+    (tie.spec Inv-loop μ-loop mul-offset add-offset loop-holds (λ c. search needs) (λ c. search needs) put-entry-requires (λ c κs. search needs) add-offset-2
+    (λ c. search needs) (λ c. search needs) loop-again (λ c. same (c .before .loop .inv .2)) returns)

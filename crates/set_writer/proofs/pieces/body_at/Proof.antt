@@ -8,6 +8,4 @@ returns : tie.Need-returns
 returns c = c .head .ensures ∙ rw (c .before .tail2 .ensures, c .before .before .word .ensures, c .before .before .before .tail .ensures)
 
 pub body-at-spec : {M : Type 1} → statement M
-body-at-spec =
-    tie.close
-    (tie.spec (λ c κs. search needs) (λ c κs. search needs) (λ c. search needs) (λ c κs. search needs) (λ c κs. search needs) returns)
+body-at-spec = tie.close (tie.spec (λ c κs. search needs) (λ c κs. search needs) (λ c. search needs) (λ c κs. search needs) (λ c κs. search needs) returns)

@@ -19,17 +19,11 @@ Inv-loop stream n₀ at₀ n at =
 abbrev μ-loop : tie.MeasureT-loop
 μ-loop stream n₀ at₀ n at = length stream - at
 
-loop-holds : tie.Need-loop-holds Inv-loop μ-loop
-loop-holds c = (omega arith, omega arith, refl, omega arith)
-
 returns : tie.Need-returns Inv-loop μ-loop
 returns c =
     let s = c .before .before .before in
     let stream = s .before .before .args .stream .now in
     sym (rw (s .loop .inv .2 ∙ stream-broken stream (s .loop .at) (c .before .before .loop-test .taken) _ (c .before .size-at .ensures) (c .if1 .taken)))
-
-loop-less : tie.Need-loop-less Inv-loop μ-loop
-loop-less c = omega (arith, c .before .size-at .ensures)
 
 loop-again : tie.Need-loop-again Inv-loop μ-loop
 loop-again c =
@@ -54,15 +48,5 @@ returns-2 c =
 pub count-pieces-spec : {M : Type 1} → statement M
 count-pieces-spec =
     tie.close
-    (tie.spec
-    Inv-loop
-    μ-loop
-    loop-holds
-    (λ c κs. search needs)
-    (λ c. search needs)
-    returns
-    (λ c. omega arith)
-    (λ c. omega arith)
-    loop-less
-    loop-again
-    returns-2)
+    (tie.spec Inv-loop μ-loop (λ c. (omega arith, omega arith, refl, omega arith)) (λ c κs. search needs) (λ c. search needs) returns (λ c. omega arith)
+    (λ c. omega arith) (λ c. omega (arith, c .before .size-at .ensures)) loop-again returns-2)

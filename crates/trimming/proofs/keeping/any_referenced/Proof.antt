@@ -1,11 +1,10 @@
 -- `trimming::keeping::any_referenced` meets its contract: before the i-th entry there is none. No axiom.
-use Prim.Native.Nat.{_+_, _-_}
-use mathlib.Core.List.{[], _∷_}
+use Prim.Native.Nat.{_-_}
 use mathlib.Core.Path.{_≡_, sym, ap, _∙_}
 use borrow.Author.Needs.{needs}
 use Rattle.octets.specs.Sentences.{any}
 use Rattle.sets.specs.Contents.{entries}
-use Rattle.sets.proofs.Entries.{rest, rest-start, next-entry, no-entry, any-cons, any-empty}
+use Rattle.sets.proofs.Entries.{rest, rest-start, asked-next, asked-end, any-cons, any-empty}
 use Rattle.trimming.specs.Keeping.{tableNames}
 use Rattle.trimming.proofs.keeping.any_referenced.Statement.{statement}
 use Rattle.trimming.proofs.keeping.any_referenced.Tie as tie
@@ -16,18 +15,6 @@ Inv-loop set names count i₀ i = any (tableNames names) (entries set) ≡ any (
 abbrev μ-loop : tie.MeasureT-loop
 μ-loop set names count i₀ i = count - i
 
--- the entries from here on, where one is left and where none is
-turn : (c : tie.After-entry-at Inv-loop μ-loop)
-    → rest (c .before .before .before .before .before .args .set .now) (c .before .before .loop .i)
-    ≡ c .entry-at .result ∷ rest (c .before .before .before .before .before .args .set .now) (c .before .before .loop .i + 1)
-turn c =
-    next-entry (c .before .before .before .before .before .args .set .now) (c .before .before .before .peek .result) (c .before .before .before .peek .ensures)
-    (c .before .before .loop .i) (c .before .loop-test .taken) (c .entry-at .result) (c .entry-at .ensures)
-
-end : (c : tie.After-loop Inv-loop μ-loop) → rest (c .before .before .before .before .args .set .now) (c .before .loop .i) ≡ []
-end c =
-    no-entry (c .before .before .before .before .args .set .now) (c .before .before .peek .result) (c .before .before .peek .ensures) (c .before .loop .i) (c .loop-test .left)
-
 loop-holds : tie.Need-loop-holds Inv-loop μ-loop
 loop-holds c = let a = c .before .before .args in ap (any (tableNames (a .names .now))) (rest-start (a .set .now))
 
@@ -35,32 +22,21 @@ returns : tie.Need-returns Inv-loop μ-loop
 returns c =
     let s = c .before .before in
     let a = s .before .before .before .before .before .args in
-    sym (s .before .before .loop .inv ∙ ap (any (tableNames (a .names .now))) (turn s) ∙ any-cons (tableNames (a .names .now)) _ _ ∙ rw (sym (c .before .table-names .ensures) ∙ c .if1 .taken))
+    sym (asked-next (any (tableNames (a .names .now))) (a .set .now) _ (s .before .before .before .peek .ensures) _ (s .before .before .loop .inv) (s .before .loop-test .taken) _ (s .entry-at .ensures) ∙ any-cons (tableNames (a .names .now)) _ _ ∙ rw (sym (c .before .table-names .ensures) ∙ c .if1 .taken))
 
 loop-again : tie.Need-loop-again Inv-loop μ-loop
 loop-again c =
     let s = c .before .before in
     let a = s .before .before .before .before .before .args in
-    s .before .before .loop .inv ∙ ap (any (tableNames (a .names .now))) (turn s) ∙ any-cons (tableNames (a .names .now)) _ _ ∙ rw (sym (c .before .table-names .ensures) ∙ c .if1 .left)
+    asked-next (any (tableNames (a .names .now))) (a .set .now) _ (s .before .before .before .peek .ensures) _ (s .before .before .loop .inv) (s .before .loop-test .taken) _ (s .entry-at .ensures) ∙ any-cons (tableNames (a .names .now)) _ _ ∙ rw (sym (c .before .table-names .ensures) ∙ c .if1 .left)
 
 returns-2 : tie.Need-returns-2 Inv-loop μ-loop
 returns-2 c =
-    let s = c .before in
-    let a = s .before .before .before .args in
-    sym (s .loop .inv ∙ ap (any (tableNames (a .names .now))) (end c) ∙ any-empty (tableNames (a .names .now)))
+    let a = c .before .before .before .before .args in
+    sym (asked-end (any (tableNames (a .names .now))) (a .set .now) _ (c .before .before .peek .ensures) _ (c .before .loop .inv) (c .loop-test .left) ∙ any-empty (tableNames (a .names .now)))
 
 pub any-referenced-spec : {M : Type 1} → statement M
 any-referenced-spec =
     tie.close
-    (tie.spec
-    Inv-loop
-    μ-loop
-    (λ c κs. search needs)
-    loop-holds
-    (λ c κs. search needs)
-    (λ c. search needs)
-    (λ c κs. search needs)
-    returns
-    (λ c. search needs)
-    loop-again
-    returns-2)
+    (tie.spec Inv-loop μ-loop (λ c κs. search needs) loop-holds (λ c κs. search needs) (λ c. search needs) (λ c κs. search needs) returns (λ c. search needs)
+    loop-again returns-2)

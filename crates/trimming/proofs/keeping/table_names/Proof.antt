@@ -3,11 +3,5 @@ use borrow.Author.Needs.{needs}
 use Rattle.trimming.proofs.keeping.table_names.Statement.{statement}
 use Rattle.trimming.proofs.keeping.table_names.Tie as tie
 
-returns : tie.Need-returns
-returns c = rw (c .holds .ensures, c .before .if1 .taken)
-
-returns-2 : tie.Need-returns-2
-returns-2 c = rw (c .if1 .left)
-
 pub table-names-spec : {M : Type 1} → statement M
-table-names-spec = tie.close (tie.spec (λ c κs. search needs) returns returns-2)
+table-names-spec = tie.close (tie.spec (λ c κs. search needs) (λ c. rw (c .holds .ensures, c .before .if1 .taken)) (λ c. rw (c .if1 .left)))

@@ -5,7 +5,7 @@ use mathlib.Core.Bool.{_||_}
 use mathlib.Core.Path.{_≡_, refl, sym, ap, _∙_}
 use lib.ListN.{length}
 use Rattle.octets.specs.Sentences.{member}
-use Rattle.octets.specs.Table.{has, with}
+use Rattle.octets.specs.Table.{has}
 use Rattle.octets.proofs.Tables.{with-long}
 use Rattle.descriptors.specs.Walk.{before, standIn, paceOf, collected}
 use Rattle.descriptors.specs.Check.{referring}
@@ -29,21 +29,9 @@ loop-holds c =
     let e = c .before .before .before .before .before in
     (at-first (e .args .body .now) _ (e .pre) (c .peek2 .ensures) .place, rw (c .before .join .ensures) (with-long (e .args .names) _ (search needs)), λ j h. refl)
 
-step-over-requires : tie.Need-step-over-requires Inv-loop μ-loop
-step-over-requires c κs = steps _ _ (c .before .loop .inv .0) (c .loop-test .taken)
-
 -- one descriptor on
 turned : (c : tie.After-step-over Inv-loop μ-loop) → Turn (c .before .before .before .before .before .before .before .before .args .body .now) (c .before .before .loop .at) (standIn (c .before .before .loop .last)) (paceOf (c .step-over .result))
 turned c = turn _ _ _ (c .before .before .loop .inv .0) (c .before .loop-test .taken) _ (c .step-over .ensures .steps)
-
-sub-with-interface : tie.Need-sub-with-interface Inv-loop μ-loop
-sub-with-interface c = let t = turned c in omega (arith, t .on)
-
-part-with-interface-start : tie.Need-part-with-interface-start Inv-loop μ-loop
-part-with-interface-start c = let t = turned c in omega (arith, t .on)
-
-part-with-interface-end : tie.Need-part-with-interface-end Inv-loop μ-loop
-part-with-interface-end c = turned c .place .inside
 
 loop-less : tie.Need-loop-less Inv-loop μ-loop
 loop-less c = let t = turned (c .before .before) in omega (arith, t .on, t .place .inside)
@@ -75,19 +63,6 @@ returns c =
 pub with-configuration-spec : {M : Type 1} → statement M
 with-configuration-spec =
     tie.close
-    (tie.spec
-    Inv-loop
-    μ-loop
-    (λ c κs. search needs)
-    (λ c κs. search needs)
-    (λ c κs. search needs)
-    (λ c. search needs)
-    loop-holds
-    step-over-requires
-    sub-with-interface
-    part-with-interface-start
-    part-with-interface-end
-    (λ c κs. search needs)
-    loop-less
-    loop-again
-    returns)
+    (tie.spec Inv-loop μ-loop (λ c κs. search needs) (λ c κs. search needs) (λ c κs. search needs) (λ c. search needs) loop-holds
+    (λ c κs. steps _ _ (c .before .loop .inv .0) (c .loop-test .taken)) (λ c. let t = turned c in omega (arith, t .on))
+    (λ c. let t = turned c in omega (arith, t .on)) (λ c. turned c .place .inside) (λ c κs. search needs) loop-less loop-again returns)

@@ -11,5 +11,4 @@ returns-2 : tie.Need-returns-2
 returns-2 c = rw (← c .before .peek .ensures, ne-eqb (c .before .peek .result) 4 (c .if1 .left))
 
 pub with-interface-spec : {M : Type 1} → statement M
-with-interface-spec =
-    tie.close (tie.spec (λ c κs. search needs) (λ c κs. search needs) (λ c κs. search needs) returns returns-2)
+with-interface-spec = tie.close (tie.spec (λ c κs. search needs) (λ c κs. search needs) (λ c κs. search needs) returns returns-2)

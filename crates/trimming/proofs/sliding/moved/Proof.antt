@@ -85,4 +85,5 @@ returns c =
 pub moved-spec : {M : Type 1} → statement M
 moved-spec =
     tie.close
-    (tie.spec Inv-loop μ-loop loop-holds (λ c. search needs) slice-read-set (λ c. search needs) slice-write-set (λ c. search needs) (λ c. search needs) loop-again same-length returns)
+    (tie.spec Inv-loop μ-loop loop-holds (λ c. search needs) slice-read-set (λ c. search needs) slice-write-set (λ c. search needs) (λ c. search needs)
+    loop-again same-length returns)
