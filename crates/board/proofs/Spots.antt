@@ -4,7 +4,7 @@ use mathlib.Core.Path.{_≡_, refl}
 use mathlib.Core.Bool.{Bool, true, false}
 use Rattle.octets.specs.Sentences.{pick}
 use Rattle.events.specs.Answer.{Block, ofFirst, ofSet, ofSerial, Part, inBlock}
-use Rattle.board.specs.Exports.{Spot, spotOf}
+use Rattle.board.specs.Exports.{spotOf}
 use Rattle.board.specs.Handing.{spotIn}
 
 module _ (first used serial : ℕ × ℕ) where

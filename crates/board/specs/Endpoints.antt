@@ -5,7 +5,7 @@ use native.Mathlib.Nat.{add-zero}
 use native.Mathlib.Omega.{arith}
 use mathlib.Core.Path.{_≡_, refl, sym, ap, _∙_}
 use mathlib.Core.Logic.{_⊎_, inl, inr}
-use mathlib.Core.List.{List, [], _∷_, map, List·Memᴰ, List·Memᴰ·head, List·Memᴰ·tail}
+use mathlib.Core.List.{List, [], _∷_, map, List·Memᴰ}
 use mathlib.Core.Bool.{Bool, true, false, _&&_, _||_, not}
 use mathlib.Core.Option.{Option, some, none}
 use lib.ListN.{length, getD, getElem?, length-map}
@@ -32,7 +32,7 @@ use Rattle.records.specs.Device.{inConfigured}
 use Rattle.records.specs.Image.{deviceOf}
 use Rattle.records.specs.Current.{inUse, setFor, setAt, boardFor, viewAt, selected, currentEndpoints}
 use Rattle.records.proofs.InUse.{rowFor, opensFor, bytesFor}
-use Rattle.records.specs.Fits.{fits, fitsOn}
+use Rattle.records.specs.Fits.{fitsOn}
 use Rattle.events.specs.declared.Answer.the-variants.{SetPart, Refused}
 use Rattle.steps.specs.Endpoint.{selectedEntry, inSet, endpointsIn, endpointDescriptors, endpointPart, endpoint, endpointOn}
 use Rattle.steps.specs.Gathering.{selectedBody}

@@ -2,7 +2,7 @@
 -- the high-speed set, and test mode 4 entered, in which a setup gets 17.
 use Prim.Native.Nat.{ℕ}
 use mathlib.Core.Path.{_≡_, refl}
-use mathlib.Core.List.{List, [], _∷_, _++_}
+use mathlib.Core.List.{List, [], _∷_}
 use lib.ListN.{replicate}
 use Rattle.promises.specs.Examples.{bytes, computed}
 use Rattle.promises.specs.Pairs.{pair, bytesPair}

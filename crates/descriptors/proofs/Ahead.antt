@@ -1,6 +1,6 @@
 -- What a walk over a well-cut body has still ahead of it: the descriptors from a place on, and the settings and endpoints that they are
 -- made of, each where it stands. No axiom.
-use Prim.Native.Nat.{ℕ, _+_, _≤_, _<_}
+use Prim.Native.Nat.{ℕ, _≤_, _<_}
 use native.Mathlib.Nat.{lt-of-not-le}
 use native.Mathlib.Omega.{arith}
 use mathlib.Core.Path.{_≡_, refl, sym, ap, _∙_}

@@ -1,5 +1,5 @@
 -- Each test of the walk, by its shortest way, says what the rules say; and bits of words that are made of others. No axiom.
-use Prim.Native.Nat.{ℕ, zero, suc, _+_, _-_, _/_, _%_, _^_, _≤_, _<_}
+use Prim.Native.Nat.{ℕ, zero, suc, _+_, _/_, _%_, _^_, _≤_, _<_}
 use native.Mathlib.Omega.{arith}
 use native.Mathlib.Nat.{lt-of-not-le}
 use lib.Bits.{bitOr, or-shr, or-mod}

@@ -9,10 +9,10 @@ use borrow.Author.Tests.{eq-eqb}
 use Rattle.descriptors.specs.Limits.{fullSpeed}
 use Rattle.sets.specs.Opening.{Board, lent, opening}
 use Rattle.sets.specs.View.{accepted}
-use Rattle.events.specs.Step.{setupEvent, event}
+use Rattle.events.specs.Step.{setupEvent}
 use Rattle.order.specs.Run.{run, answers}
 use Rattle.trimming.specs.Trim.{trimmed}
-use Rattle.maker_laws.specs.TrimRequests.{asksDropped, SaysSame}
+use Rattle.maker_laws.specs.TrimRequests.{asksDropped}
 use Rattle.maker_laws.proofs.TrimAgain.{there}
 use Rattle.maker_laws.proofs.TrimRequests.{image-alike}
 use Rattle.maker_promises.specs.Trimmed.{opensAgain, sameEvent}

@@ -1,9 +1,8 @@
 -- Document 02, L1 and L6, over exported calls: hk_write gave 0. hk_open of the first `written` bytes gives 0, every piece is found there, and a string that GET_DESCRIPTOR gives in a
 -- listed language is a piece of that language, or the serial block. No axiom.
-use Prim.Native.Nat.{ℕ, _/_, _%_, _≤_, min}
+use Prim.Native.Nat.{ℕ, _/_, _%_, _≤_}
 use native.Mathlib.Omega.{arith}
 use mathlib.Core.Path.{_≡_, refl, sym, ap, _∙_}
-use mathlib.Core.Logic.{_⊎_, inl, inr}
 use mathlib.Core.Bool.{Bool, true, false, _&&_}
 use mathlib.Core.List.{List, List·Memᴰ}
 use mathlib.Core.Option.{Option, some, none}

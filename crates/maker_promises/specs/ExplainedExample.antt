@@ -1,11 +1,11 @@
 -- The rule that a maker is told, by computing: a wrong entry of string 0, each rule of the BOS and of companions, and pairs.
 use Prim.Native.Nat.{ℕ}
 use mathlib.Core.Path.{_≡_, refl}
-use mathlib.Core.List.{List, [], _∷_, map}
+use mathlib.Core.List.{List, [], _∷_}
 use lib.ListN.{set}
 use Rattle.descriptors.specs.Limits.{fullSpeed, superSpeed}
 use Rattle.sets.specs.Pieces.{Piece}
-use Rattle.sets.specs.Opening.{Board, lent}
+use Rattle.sets.specs.Opening.{lent}
 use Rattle.rules.specs.declared.Explained.{Explained}
 use Rattle.rules.specs.Frame.{contentsAsked}
 use Rattle.rules.specs.Configurations.{restFindings, companionsFrom, configurationsFrom}

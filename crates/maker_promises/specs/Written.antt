@@ -3,12 +3,12 @@
 use Prim.Native.Nat.{ℕ, _≤_}
 use native.Mathlib.Omega.{arith}
 use mathlib.Core.Path.{_≡_, refl, sym, ap, _∙_}
-use mathlib.Core.Bool.{Bool, true, _||_, not}
+use mathlib.Core.Bool.{Bool, true, not}
 use mathlib.Core.Option.{some}
 use mathlib.Core.List.{List, [], _∷_, List·Memᴰ}
 use lib.ListN.{length, take, drop, length-map}
-use lib.Dec.{eqb, leb, ltb}
-use borrow.Author.Tests.{eqb-true, leb-true, eq-eqb, ne-eqb, le-ltb}
+use lib.Dec.{eqb, leb}
+use borrow.Author.Tests.{leb-true, le-ltb}
 use Rattle.octets.specs.Octets.{byte, Bytes}
 use Rattle.octets.specs.Sentences.{pick, first}
 use Rattle.octets.proofs.Sentences.{cases, conjunct}

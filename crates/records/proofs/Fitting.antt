@@ -8,7 +8,7 @@ use mathlib.Core.List.{List, [], _∷_}
 use lib.Dec.{eqb, leb}
 use borrow.Author.Tests.{eqb-true, eqb-false, eq-eqb, leb-true}
 use Rattle.octets.specs.Bit.{bit}
-use Rattle.octets.specs.Sentences.{pick, _⇒_, any, only, below}
+use Rattle.octets.specs.Sentences.{pick, _⇒_, only, below}
 use Rattle.octets.proofs.Sentences.{cases, both, conjunct, if-then, any-none, none-first}
 use Rattle.descriptors.specs.Configuration.{Configuration, currentOf, canHalt}
 use Rattle.descriptors.specs.Lookup.{bitsOf}

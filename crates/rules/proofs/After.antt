@@ -7,7 +7,7 @@ use lib.Dec.{eqb}
 use Rattle.octets.specs.Sentences.{pick, every, first}
 use Rattle.octets.proofs.Sentences.{both}
 use Rattle.rules.specs.declared.Fault.{Fault}
-use Rattle.rules.specs.Findings.{Finding, asked}
+use Rattle.rules.specs.Findings.{Finding}
 use Rattle.rules.specs.Explained.{isBroken, faultOf}
 use Rattle.rules.specs.After.{orBroken, after}
 

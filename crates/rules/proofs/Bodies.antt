@@ -1,17 +1,17 @@
 -- Group 4 as the code's walk asks it, with bits for addresses, breaks first at the rule and the place that the list of rules says. No axiom.
-use Prim.Native.Nat.{ℕ, zero, suc, _+_, _-_}
+use Prim.Native.Nat.{ℕ, zero, suc, _+_}
 use native.Mathlib.Nat.{add-zero, le-refl}
 use native.Mathlib.Omega.{arith}
 use mathlib.Core.Path.{_≡_, refl, sym, ap, _∙_}
 use mathlib.Core.Logic.{inr}
 use mathlib.Core.List.{List, [], _∷_, _++_, map}
-use mathlib.Core.Bool.{Bool, true, false, _&&_, _||_, not, or-true}
+use mathlib.Core.Bool.{Bool, true, false, _&&_, not, or-true}
 use mathlib.Core.Option.{Option, some, none}
 use lib.ListN.{length, getD}
 use lib.Dec.{eqb, leb, ltb}
 use borrow.Author.Tests.{eqb-true, eqb-false, eq-eqb, leb-true, le-leb, ltb-true, lt-ltb}
 use Rattle.octets.specs.Bit.{bit, setBit}
-use Rattle.octets.specs.Sentences.{pick, _⇒_, every, first}
+use Rattle.octets.specs.Sentences.{pick, every, first}
 use Rattle.octets.proofs.Sentences.{cases, both, joined, same-test}
 use Rattle.octets.proofs.Bits.{set-same, set-other, bit-zero}
 use Rattle.descriptors.specs.declared.limits.Limits.{Limits}
@@ -22,16 +22,16 @@ use Rattle.descriptors.specs.Cut.{Cutting, whole, broken, descriptor, cut}
 use Rattle.descriptors.specs.Descriptor.{bDescriptorType, isInterface, isEndpoint, bNumEndpoints, bEndpointAddress, bmAttributes, wMaxPacketSize, bInterval, transferType, goodAddress, typeAllowed, endpointLongEnough, interfaceLongEnough}
 use Rattle.descriptors.specs.Interfaces.{Group, begunBy, settingOf, endpointOf, follows, alternateWithin, counted, apart}
 use Rattle.descriptors.specs.Configuration.{bNumInterfaces, bitOf}
-use Rattle.descriptors.specs.Walk.{settingAt, before, standOf}
-use Rattle.descriptors.specs.Check.{Progress, onceInSetting, inNoSecondInterface, fresh, onward, beginning}
+use Rattle.descriptors.specs.Walk.{before, standOf}
+use Rattle.descriptors.specs.Check.{Progress, onceInSetting, inNoSecondInterface, fresh, beginning}
 use Rattle.descriptors.specs.Check as check
 use Rattle.descriptors.proofs.CheckOrder.{at, passed, kinds}
-use Rattle.descriptors.proofs.CheckAddresses.{own-bit, Follows, follows-is, NotBefore, further, clear, at-interface, at-endpoint, own-clear}
+use Rattle.descriptors.proofs.CheckAddresses.{own-bit, follows-is, NotBefore, further, clear, at-interface, at-endpoint, own-clear}
 use Rattle.sets.specs.declared.Entry.{Entry}
 use Rattle.sets.specs.Contents.{bodyOf, isKind, entries}
 use Rattle.rules.specs.Findings.{Finding, asked, byteAt}
 use Rattle.rules.specs.Explained.{isBroken}
-use Rattle.rules.specs.Configurations.{isWhole, headFindings, headNumbers, numberFindings, sizeFindings, intervalFindings, distinctFrom, allCame, beginFindings, groupAfter, endpointsAfter, reachesLast, restFindings, cutFindings, bodyFindings, configurationFindings, configurationsFrom, configurationsFindings}
+use Rattle.rules.specs.Configurations.{isWhole, headFindings, headNumbers, numberFindings, sizeFindings, intervalFindings, distinctFrom, beginFindings, restFindings, cutFindings, bodyFindings, configurationFindings, configurationsFrom, configurationsFindings}
 use Rattle.rules.specs.Configuration as walk
 
 -- ---- lists that break first at one rule

@@ -3,14 +3,14 @@ use Prim.Native.Nat.{ℕ, zero, suc, _+_, _-_, _*_, _/_, _≤_, _<_}
 use native.Mathlib.Omega.{arith}
 use mathlib.Core.Path.{_≡_, refl, sym, ap, _∙_}
 use mathlib.Core.Logic.{_⊎_, inl, inr}
-use mathlib.Core.List.{List, [], _∷_, _++_, List·Memᴰ, List·Memᴰ·not-nil, List·Memᴰ·cases-cons}
+use mathlib.Core.List.{List, [], _∷_, List·Memᴰ, List·Memᴰ·not-nil, List·Memᴰ·cases-cons}
 use mathlib.Core.Bool.{Bool, true, false, _&&_, _||_, not}
 use lib.ListN.{length, drop, getElem?, length-drop, length-take}
 use lib.Seq.{getD-drop, drop-drop}
 use lib.Dec.{eqb, leb, ltb}
 use borrow.Author.Tests.{eq-eqb, ne-eqb, le-leb, lt-leb, leb-true}
-use Rattle.octets.specs.Octets.{byte, word, Bytes}
-use Rattle.octets.specs.Sentences.{pick, every, first, isEmpty, isSome}
+use Rattle.octets.specs.Octets.{byte, Bytes}
+use Rattle.octets.specs.Sentences.{every, first, isEmpty}
 use Rattle.octets.specs.Table.{has, with}
 use Rattle.octets.proofs.Sentences.{same-test, first-some}
 use Rattle.octets.proofs.Tables.{allOf, has-none, has-with}
@@ -20,14 +20,13 @@ use Rattle.sets.specs.declared.Entry.{Entry}
 use Rattle.sets.specs.declared.EntryFound.the-variants.{At, Nothing}
 use Rattle.sets.specs.Contents.{count, bodiesAt, entryOf, entriesFrom, entries, bodyOf}
 use Rattle.sets.specs.Pieces.{pieceFor}
-use Rattle.sets.specs.Device.{deviceBody, iSerialNumber}
 use Rattle.sets.specs.Strings.{words, listed}
 use Rattle.sets.specs.Opening.{distinctValues}
 use Rattle.sets.specs.Found.{found, isAt}
 use Rattle.sets.proofs.Devices.{at-same, at-missing}
 use Rattle.sets.proofs.Strings.{words-length, found-some}
 use Rattle.rules.specs.declared.Fault.{Fault}
-use Rattle.rules.specs.Findings.{Finding, asked, byteAt}
+use Rattle.rules.specs.Findings.{asked, byteAt}
 use Rattle.rules.specs.Frame.{entryFindings, contentsAsked}
 use Rattle.rules.specs.Device.{oneFindings, deviceEntryFindings, behindStrings, storeFindings, storeEntryFindings}
 use Rattle.rules.specs.Configuration.{configurationFindings, distinctFrom, configurationsFrom}

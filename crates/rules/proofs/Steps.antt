@@ -1,12 +1,12 @@
 -- A walk over the descriptors of a body, asking rules: where it is stuck, where it goes on, and where it ends. No axiom.
 use Prim.Native.Nat.{ℕ, _+_, _-_, _≤_, _<_}
 use native.Mathlib.Omega.{arith}
-use mathlib.Core.Path.{_≡_, refl, sym, ap, _∙_}
-use mathlib.Core.List.{List, [], _∷_, _++_}
-use mathlib.Core.Bool.{Bool, true, false, _&&_, not}
-use lib.ListN.{length, take, drop, length-take, length-drop}
-use lib.Seq.{getD-take, getD-drop, length-take-le}
-use lib.Dec.{eqb, leb}
+use mathlib.Core.Path.{_≡_, refl, ap, _∙_}
+use mathlib.Core.List.{List, [], _∷_}
+use mathlib.Core.Bool.{Bool, true, false, not}
+use lib.ListN.{length, drop, length-take, length-drop}
+use lib.Seq.{getD-take, getD-drop}
+use lib.Dec.{leb}
 use borrow.Author.Tests.{eq-eqb, ne-eqb, leb-true, leb-false, lt-ltb}
 use Rattle.octets.specs.Octets.{byte, part}
 use Rattle.octets.specs.Sentences.{pick}
@@ -19,7 +19,7 @@ use Rattle.descriptors.specs.Walk.{Pace, before, standOf, stepsOn, stepOf}
 use Rattle.descriptors.specs.Check.{Progress, onward}
 use Rattle.descriptors.proofs.Walks.{spanned, Moved, moved, cut-end, cut-small, cut-long}
 use Rattle.rules.specs.declared.Fault.{Fault}
-use Rattle.rules.specs.Findings.{Finding, asked, byteAt}
+use Rattle.rules.specs.Findings.{asked, byteAt}
 use Rattle.rules.specs.Configuration.{isWhole, descriptorFindings, endFindings, restFindings, cutFindings, bodyFindings}
 use Rattle.rules.specs.Configurations.{companionFindings, companionsFrom}
 use Rattle.rules.specs.Strings.{referenceFindings, interfacesFrom}

@@ -1,5 +1,4 @@
 -- All rules as the code asks them: they break first where the list of rules does. No axiom.
-use Prim.Native.Nat.{ℕ}
 use native.Mathlib.Omega.{arith}
 use mathlib.Core.Path.{_≡_, refl}
 use mathlib.Core.List.{List, [], _++_}

@@ -3,7 +3,6 @@ use crate::Entry;
 use crate::EntryFound;
 use crate::contents::body_of;
 use crate::contents::count_of;
-use crate::contents::entry_at;
 use crate::contents::entry_whole;
 use crate::contents::find_entry;
 use crate::device::serial_index;
@@ -15,9 +14,9 @@ ghost use Prim.Native.Nat.{ℕ, _<_};
 ghost use mathlib.Core.Bool.{true, _&&_, _||_};
 ghost use lib.ListN.{drop, getD};
 ghost use lib.Dec.{eqb, ltb};
-ghost use Rattle.octets.specs.Sentences.{pick, any, every, member};
+ghost use Rattle.octets.specs.Sentences.{pick, every, member};
 ghost use Rattle.sets.specs.Pieces.{pieceWith, piecesIn, piecesOf};
-ghost use Rattle.sets.specs.Strings.{words, isString, isStringZero, goodString, languageZero, notSerial, goodLanguages, languages, inEvery, goodReference};
+ghost use Rattle.sets.specs.Strings.{words, isStringZero, goodString, languageZero, notSerial, goodLanguages, languages, goodReference};
 ghost use Rattle.octets.specs.Table.{has, with};
 ghost use Rattle.sets.specs.Checks.{goodStringPiece, goodListed, mayName, noNames, Ordered, Ascend, Reads};
 
@@ -226,4 +225,3 @@ pub fn read(set: &[u8], languages: &[u8], names: &mut [u32; 8]) -> bool
     name_none(names);
     false
 }
-

@@ -1,5 +1,4 @@
 -- `single_walk::finish` meets its contract. No axiom.
-use borrow.Author.Needs.{needs}
 use Rattle.single_walk.proofs.finish.Statement.{statement}
 use Rattle.single_walk.proofs.finish.Tie as tie
 

@@ -2,7 +2,6 @@
 use mathlib.Core.Path.{_≡_, ap, _∙_}
 use borrow.Author.Needs.{needs}
 use Rattle.sets.specs.Opening.{lentTwo}
-use Rattle.events.specs.declared.Event.{Event}
 use Rattle.events.specs.Step.{Reply, event}
 use Rattle.promises.specs.Refusals.{eventInside}
 use Rattle.board.specs.Exports.{spotOf, numbered}

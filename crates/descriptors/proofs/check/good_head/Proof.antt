@@ -1,5 +1,4 @@
 -- `descriptors::check::good_head` meets its contract: of a short one no more is asked. No axiom.
-use native.Mathlib.Omega.{arith}
 use mathlib.Core.Bool.{and-true, and-false}
 use lib.ListN.{length}
 use borrow.Author.Needs.{needs}

@@ -1,7 +1,7 @@
 -- `rules::configuration::body_fault` meets its contract. No axiom.
 use Prim.Native.Nat.{_<_}
 use native.Mathlib.Omega.{arith}
-use mathlib.Core.Path.{_≡_, refl, sym, ap, _∙_}
+use mathlib.Core.Path.{_≡_, sym, ap, _∙_}
 use lib.ListN.{length, take, drop}
 use lib.Seq.{length-take-le}
 use Rattle.descriptors.specs.Cut.{cut}
@@ -12,7 +12,7 @@ use Rattle.descriptors.proofs.CheckWhole.{head-inside, check-first}
 use Rattle.rules.specs.Configuration.{headFindings, headNumbers, restFindings}
 use Rattle.rules.specs.After.{after}
 use Rattle.rules.proofs.Steps.{body-none, body-stuck}
-use Rattle.rules.proofs.After.{asks, ends, joins}
+use Rattle.rules.proofs.After.{ends, joins}
 use borrow.Author.Needs.{needs}
 use Rattle.rules.proofs.configuration.body_fault.Statement.{statement}
 use Rattle.rules.proofs.configuration.body_fault.Tie as tie

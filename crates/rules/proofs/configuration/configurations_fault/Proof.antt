@@ -3,7 +3,7 @@ use Prim.Native.Nat.{_+_, _-_, _*_, _≤_, _<_}
 use native.Mathlib.Omega.{arith}
 use mathlib.Core.Path.{_≡_, refl, sym, ap, _∙_}
 use mathlib.Core.List.{List, [], _∷_}
-use lib.ListN.{length, drop}
+use lib.ListN.{length}
 use Rattle.sets.proofs.Entries.{rest, rest-start, next-entry, no-entry}
 use Rattle.rules.specs.After.{after}
 use Rattle.octets.proofs.Tables.{with-long}

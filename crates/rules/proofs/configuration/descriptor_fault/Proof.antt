@@ -1,5 +1,5 @@
 -- `rules::configuration::descriptor_fault` meets its contract. No axiom.
-use Rattle.rules.proofs.After.{asks, ends, joins}
+use Rattle.rules.proofs.After.{asks}
 use borrow.Author.Needs.{needs}
 use Rattle.rules.proofs.configuration.descriptor_fault.Statement.{statement}
 use Rattle.rules.proofs.configuration.descriptor_fault.Tie as tie

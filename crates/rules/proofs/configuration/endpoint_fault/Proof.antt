@@ -1,7 +1,7 @@
 -- `rules::configuration::endpoint_fault` meets its contract. No axiom.
 use Rattle.descriptors.specs.Descriptor.{bEndpointAddress, bmAttributes, wMaxPacketSize, bInterval, transferType}
 use Rattle.rules.specs.Configuration.{numberFindings, sizeFindings, intervalFindings}
-use Rattle.rules.proofs.After.{asks, ends, joins}
+use Rattle.rules.proofs.After.{asks, joins}
 use borrow.Author.Needs.{needs}
 use Rattle.rules.proofs.configuration.endpoint_fault.Statement.{statement}
 use Rattle.rules.proofs.configuration.endpoint_fault.Tie as tie

@@ -1,6 +1,6 @@
 -- `rules::configuration::head_of` meets its contract. No axiom.
-use mathlib.Core.Path.{_≡_, refl, sym, ap, _∙_}
-use borrow.Author.Tests.{eq-eqb, ne-eqb, le-leb, lt-leb, lt-ltb, le-ltb}
+use mathlib.Core.Path.{sym, _∙_}
+use borrow.Author.Tests.{eq-eqb, ne-eqb}
 use borrow.Author.Needs.{needs}
 use Rattle.rules.proofs.configuration.head_of.Statement.{statement}
 use Rattle.rules.proofs.configuration.head_of.Tie as tie

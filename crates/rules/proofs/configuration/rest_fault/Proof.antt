@@ -1,7 +1,7 @@
 -- `rules::configuration::rest_fault` meets its contract. No axiom.
 use Prim.Native.Nat.{_-_, _≤_}
 use native.Mathlib.Omega.{arith}
-use mathlib.Core.Path.{_≡_, refl, sym, ap, _∙_}
+use mathlib.Core.Path.{_≡_, sym, _∙_}
 use lib.ListN.{length, drop}
 use Rattle.descriptors.specs.Cut.{cut}
 use Rattle.descriptors.specs.Walk.{before, standIn, paceOf}

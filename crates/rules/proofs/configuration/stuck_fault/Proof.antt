@@ -1,5 +1,5 @@
 -- `rules::configuration::stuck_fault` meets its contract. No axiom.
-use borrow.Author.Tests.{eq-eqb, ne-eqb, le-leb, lt-leb, lt-ltb, le-ltb}
+use borrow.Author.Tests.{le-leb, lt-leb}
 use borrow.Author.Needs.{needs}
 use Rattle.rules.proofs.configuration.stuck_fault.Statement.{statement}
 use Rattle.rules.proofs.configuration.stuck_fault.Tie as tie

@@ -1,5 +1,4 @@
 -- `rules::configuration::wrong_byte` meets its contract. No axiom.
-use borrow.Author.Needs.{needs}
 use Rattle.rules.proofs.configuration.wrong_byte.Statement.{statement}
 use Rattle.rules.proofs.configuration.wrong_byte.Tie as tie
 

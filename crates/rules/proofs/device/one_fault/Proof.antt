@@ -1,7 +1,7 @@
 -- `rules::device::one_fault` meets its contract. No axiom.
 use Rattle.sets.specs.Contents.{bodyOf}
 use Rattle.rules.specs.Device.{deviceHead}
-use Rattle.rules.proofs.After.{asks, ends, joins}
+use Rattle.rules.proofs.After.{asks, joins}
 use borrow.Author.Needs.{needs}
 use Rattle.rules.proofs.device.one_fault.Statement.{statement}
 use Rattle.rules.proofs.device.one_fault.Tie as tie

@@ -1,7 +1,7 @@
 -- `rules::device::serial_fault` meets its contract. No axiom.
 use Rattle.rules.specs.After.{after}
-use borrow.Author.Tests.{eq-eqb, ne-eqb, le-leb, lt-leb, lt-ltb, le-ltb}
-use Rattle.rules.proofs.After.{asks, ends, joins}
+use borrow.Author.Tests.{eq-eqb, ne-eqb}
+use Rattle.rules.proofs.After.{ends}
 use borrow.Author.Needs.{needs}
 use Rattle.rules.proofs.device.serial_fault.Statement.{statement}
 use Rattle.rules.proofs.device.serial_fault.Tie as tie

@@ -1,5 +1,5 @@
 -- `rules::frame::frame_fault` meets its contract. No axiom.
-use Rattle.rules.proofs.After.{asks, ends, joins}
+use Rattle.rules.proofs.After.{asks, ends}
 use borrow.Author.Needs.{needs}
 use Rattle.rules.proofs.frame.frame_fault.Statement.{statement}
 use Rattle.rules.proofs.frame.frame_fault.Tie as tie

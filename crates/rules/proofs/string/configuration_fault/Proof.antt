@@ -1,7 +1,7 @@
 -- `rules::string::configuration_fault` meets its contract. No axiom.
 use Prim.Native.Nat.{ℕ, _-_, _≤_, _<_}
 use native.Mathlib.Omega.{arith}
-use mathlib.Core.Path.{_≡_, refl, sym, ap, _∙_}
+use mathlib.Core.Path.{_≡_, refl, sym, _∙_}
 use lib.ListN.{length, drop}
 use Rattle.descriptors.specs.Cut.{cut}
 use Rattle.descriptors.specs.Walk.{standIn, paceOf}
@@ -16,7 +16,7 @@ use Rattle.rules.specs.Strings.{interfacesFrom, referenceFindings, bodyR
 use Rattle.rules.specs.After.{after}
 use Rattle.rules.proofs.Entries.{judged-same, short}
 use Rattle.rules.proofs.Steps.{goes-on, interfaces-stuck, interfaces-on, interfaces-end}
-use Rattle.rules.proofs.After.{asks, ends, joins}
+use Rattle.rules.proofs.After.{joins}
 use borrow.Author.Needs.{needs}
 use Rattle.rules.proofs.string.configuration_fault.Statement.{statement}
 use Rattle.rules.proofs.string.configuration_fault.Tie as tie

@@ -1,6 +1,6 @@
 -- `rules::string::judged_fault` meets its contract. No axiom.
 use Prim.Native.Nat.{_<_}
-use mathlib.Core.Path.{_≡_, refl, sym, ap, _∙_}
+use mathlib.Core.Path.{ap, _∙_}
 use Rattle.sets.specs.Contents.{bodiesAt, entries}
 use Rattle.sets.specs.Device.{deviceBody, iManufacturer, iProduct, iSerialNumber}
 use Rattle.sets.specs.Pieces.{piecesIn, piecesOf}
@@ -9,7 +9,7 @@ use Rattle.sets.proofs.Pieces.{length-of}
 use Rattle.rules.specs.Strings.{stringsFrom, listedFrom, referenceFindings, deviceReferences}
 use Rattle.rules.specs.After.{Judges}
 use Rattle.rules.proofs.Entries.{judged-same, some-left}
-use Rattle.rules.proofs.After.{asks, ends, joins}
+use Rattle.rules.proofs.After.{asks, joins}
 use borrow.Author.Needs.{needs}
 use Rattle.rules.proofs.string.judged_fault.Statement.{statement}
 use Rattle.rules.proofs.string.judged_fault.Tie as tie

@@ -1,6 +1,6 @@
 -- `rules::string::strings_fault` meets its contract. No axiom.
 use native.Mathlib.Omega.{arith}
-use mathlib.Core.Path.{_≡_, refl, sym, ap, _∙_}
+use mathlib.Core.Path.{_≡_, refl, sym, _∙_}
 use mathlib.Core.List.{[]}
 use Rattle.sets.specs.Strings.{words}
 use Rattle.sets.proofs.Strings.{zero-some, zero-none, languages-of}

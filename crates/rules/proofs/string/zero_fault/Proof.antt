@@ -1,7 +1,7 @@
 -- `rules::string::zero_fault` meets its contract. No axiom.
 use Rattle.rules.specs.After.{after}
 use Rattle.rules.proofs.Entries.{one-at-least, four-at-most}
-use Rattle.rules.proofs.After.{asks, ends, joins}
+use Rattle.rules.proofs.After.{asks}
 use borrow.Author.Needs.{needs}
 use Rattle.rules.proofs.string.zero_fault.Statement.{statement}
 use Rattle.rules.proofs.string.zero_fault.Tie as tie

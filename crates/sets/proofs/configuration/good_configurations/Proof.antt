@@ -1,6 +1,5 @@
 -- `sets::configuration::good_configurations` meets its contract: what is asked of all configurations is asked of those left, until so many are passed. No axiom.
 use Prim.Native.Nat.{_+_, _-_, _≤_, _<_}
-use native.Mathlib.Nat.{zero-add}
 use native.Mathlib.Omega.{arith}
 use mathlib.Core.Bool.{_&&_, and-true, and-assoc}
 use mathlib.Core.List.{map}

@@ -1,5 +1,4 @@
 -- `sets::opening::finish` meets its contract. No axiom.
-use borrow.Author.Needs.{needs}
 use Rattle.sets.proofs.opening.finish.Statement.{statement}
 use Rattle.sets.proofs.opening.finish.Tie as tie
 

@@ -1,6 +1,4 @@
 -- `sets::opening::read_strings` meets its contract: without a string a reference may be 0 alone; else string 0 lists the languages. No axiom.
-use native.Mathlib.Omega.{arith}
-use mathlib.Core.Path.{sym}
 use borrow.Author.Needs.{needs}
 use Rattle.sets.proofs.Strings.{bare-reads}
 use Rattle.sets.proofs.opening.read_strings.Statement.{statement}

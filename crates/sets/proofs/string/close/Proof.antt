@@ -1,6 +1,6 @@
 -- `sets::string::close` meets its contract: one number after the other. No axiom.
 use mathlib.Core.Logic.{⊎-elim}
-use mathlib.Core.Path.{_≡_, _∙_}
+use mathlib.Core.Path.{_≡_}
 use Rattle.octets.specs.Sentences.{pick}
 use Rattle.sets.specs.Checks.{noNames}
 use borrow.Author.Needs.{needs}

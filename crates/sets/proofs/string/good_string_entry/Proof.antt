@@ -1,7 +1,7 @@
 -- `sets::string::good_string_entry` meets its contract. No axiom.
 use mathlib.Core.Path.{sym}
 use mathlib.Core.Bool.{and-true, and-false, or-true}
-use borrow.Author.Tests.{eq-eqb, ne-eqb, not-true, not-false}
+use borrow.Author.Tests.{ne-eqb, not-true, not-false}
 use lib.Dec.{eqb}
 use Rattle.sets.proofs.Passing.{index-zero, not-serial, serial-index}
 use borrow.Author.Needs.{needs}
