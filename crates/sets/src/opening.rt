@@ -54,7 +54,12 @@ pub fn opening(set: &[u8], serial: &[u8], limits: Limits) -> u8
     // The strings are read first: the one walk through a configuration tells its references too.
     let mut names = [0u32; 8];
     let strings = read_strings(set, begun.bare, &mut names);
-    let configurations = configuration::good_configurations(set, limits, &names, begun.configurations);
+    let configurations = configuration::good_configurations(
+        set,
+        limits,
+        &names,
+        begun.configurations,
+    );
     finish(set, serial, configurations, strings, &names, begun.device)
 }
 

@@ -226,4 +226,3 @@ pub fn read(set: &[u8], languages: &[u8], names: &mut [u32; 8]) -> bool
     name_none(names);
     false
 }
-
