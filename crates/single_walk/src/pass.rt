@@ -9,13 +9,14 @@ use descriptors::types::CONFIGURATION;
 use octets::table::holds;
 use octets::table::join;
 use sets::Entry;
-use sets::contents::body_of;
-use sets::contents::entry_at;
+use sets::contents::body_whole;
+use sets::contents::entry_whole;
 use steps::facts::Selected;
 use steps::facts::nothing_known;
 ghost use mathlib.Core.Path.{_≡_};
 ghost use mathlib.Core.Bool.{true, false};
 ghost use Rattle.octets.specs.Table.{has};
+ghost use Rattle.sets.specs.Checks.{Begins};
 ghost use Rattle.sets.specs.Found.{canWake};
 ghost use Rattle.single_walk.specs.Passes.{AtSpeed, numbered, Walks, Passes};
 
@@ -80,7 +81,7 @@ pub fn configurations(
     alternates: &[u8; 16],
     asked: Asked,
 ) -> Passed
-    requires { ⌜ AtSpeed limits high × (has (now names) 0 ≡ true) ⌝ }
+    requires { ⌜ AtSpeed limits high × (has (now names) 0 ≡ true) × Begins limits (now set) ⌝ }
     ensures { λ r. ⌜ Passes limits (now (set .entry)) (now (names .entry)) (value .0) (now (alternates .entry)) asked r ⌝ }
 {
     let count = octets::peek(set, 2);
@@ -93,10 +94,10 @@ pub fn configurations(
     let mut waking = false;
     let mut i: u8 = 0;
     while i < count {
-        let e = entry_at(set, i);
+        let e = entry_whole(set, i);
         i += 1;
         if e.kind == CONFIGURATION {
-            let body = body_of(set, e);
+            let body = body_whole(set, e);
             let here = octets::peek(body, 5);
             let again = holds(&seen, here);
             let selected = (here == value.0) & !configured;

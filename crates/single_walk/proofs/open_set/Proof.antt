@@ -18,7 +18,7 @@ read-strings-requires : tie.Need-read-strings-requires
 read-strings-requires c κs = let b = c .before .before .before .begin .ensures .0 (c .before .if1 .left) in (ordered _ _ (b .met .frame) (b .met .contents), b .bare)
 
 configurations-requires : tie.Need-configurations-requires
-configurations-requires c κs = (c .before .before .before .before .before .before .before .before .pre, c .before .read-strings .ensures .zero)
+configurations-requires c κs = (c .before .before .before .before .before .before .before .before .pre, c .before .read-strings .ensures .zero, c .before .before .before .before .before .begin .ensures .0 (c .before .before .before .if1 .left) .met)
 
 finish-requires : tie.Need-finish-requires
 finish-requires c κs =

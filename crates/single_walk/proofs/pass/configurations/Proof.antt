@@ -21,7 +21,9 @@ use Rattle.sets.specs.Checks.{goodNumbered}
 use Rattle.sets.specs.Pieces.{pieceFor, piecesIn}
 use Rattle.sets.specs.Opening.{goodConfigurations}
 use Rattle.sets.proofs.Configurations.{goodFrom, good-start, good-end, good-more}
-use Rattle.sets.proofs.Entries.{rest-start, restOf, kind-next, kind-other, kind-end, asked-here, asked-other, asked-none, every-cons, every-empty}
+use Rattle.sets.proofs.Entries.{rest-start, restOf, kind-next, kind-other, kind-end, asked-here, asked-other, asked-none, every-cons, every-empty, entry-member}
+use Rattle.sets.proofs.Groups.{laid-inside}
+use Rattle.sets.proofs.Passing.{frame-whole}
 use Rattle.steps.specs.declared.facts.Selected.{Selected}
 use Rattle.single_walk.proofs.Learning.{taken-apart, learned, Learnt, learnt-start, learnt-more, learnt-end}
 use Rattle.single_walk.proofs.pass.configurations.Statement.{statement}
@@ -37,22 +39,22 @@ abbrev μ-loop : tie.MeasureT-loop
 μ-loop set limits high names value alternates asked count index₀ seen₀ refers₀ survey₀ configured₀ waking₀ i₀ index seen refers survey configured waking i = count - i
 
 -- a value is a byte
-small : (c : tie.After-peek2 Inv-loop μ-loop) → bConfigurationValue (bodyOf (c .before .before .before .before .before .before .before .before .before .before .before .args .set .now) (c .before .before .before .before .entry-at .result)) < 256
-small c = rw (← c .before .body-of .ensures, ← c .peek2 .ensures) (search needs)
+small : (c : tie.After-peek2 Inv-loop μ-loop) → bConfigurationValue (bodyOf (c .before .before .before .before .before .before .before .before .before .before .before .args .set .now) (c .before .before .before .before .entry-whole .result)) < 256
+small c = rw (← c .before .body-whole .ensures, ← c .peek2 .ensures) (search needs)
 
 -- what was asked of the entry, of the set's own bytes
 judged : (c : tie.After-is-numbered Inv-loop μ-loop)
     → let a = c .before .before .before .before .before .before .before .before .before .before .before .before .before .before .before .before .before .args in
     let l = c .before .before .before .before .before .before .before .before .before .before .before .before .loop in
-    let e = c .before .before .before .before .before .before .before .before .before .before .entry-at .result in
+    let e = c .before .before .before .before .before .before .before .before .before .before .entry-whole .result in
     let body = bodyOf (a .set .now) e in
     (c .is-numbered .result && c .before .before .walk-once .result .verdict .good) ≡ goodNumbered (a .limits) e (l .index) body (has (l .seen) (bConfigurationValue body))
 judged c =
     let a = c .before .before .before .before .before .before .before .before .before .before .before .before .before .before .before .before .before .args in
     let l = c .before .before .before .before .before .before .before .before .before .before .before .before .loop in
-    let e = c .before .before .before .before .before .before .before .before .before .before .entry-at .result in
-    let n = rw (c .before .before .before .before .holds .ensures, c .before .before .before .before .before .before .peek2 .ensures, c .before .before .before .before .before .before .before .body-of .ensures) at (c .is-numbered .ensures) in
-    let g = ap (λ v. v .good) (c .before .before .walk-once .ensures .verdict) ∙ ap (goodConfiguration (a .limits)) (c .before .before .before .before .before .before .before .body-of .ensures) in
+    let e = c .before .before .before .before .before .before .before .before .before .before .entry-whole .result in
+    let n = rw (c .before .before .before .before .holds .ensures, c .before .before .before .before .before .before .peek2 .ensures, c .before .before .before .before .before .before .before .body-whole .ensures) at (c .is-numbered .ensures) in
+    let g = ap (λ v. v .good) (c .before .before .walk-once .ensures .verdict) ∙ ap (goodConfiguration (a .limits)) (c .before .before .before .before .before .before .before .body-whole .ensures) in
     rw (n, g) (taken-apart (a .limits) e (l .index) (bodyOf (a .set .now) e) (has (l .seen) (bConfigurationValue (bodyOf (a .set .now) e))))
 
 loop-holds : tie.Need-loop-holds Inv-loop μ-loop
@@ -65,8 +67,22 @@ loop-holds c =
       rw (c .before .nothing-known .ensures, sym (rest-start (a .set .now))) (learnt-start (a .set .now) (a .value .0) (a .alternates .now) (a .asked)),
     )
 
+entry-whole-requires : tie.Need-entry-whole-requires Inv-loop μ-loop
+entry-whole-requires c κs =
+    let p = c .before .before .before .before .peek .ensures in
+    let w = frame-whole _ (c .before .before .before .before .before .before .pre .2 .frame) in
+    let t = c .loop-test .taken in
+    omega arith
+
+body-whole-requires : tie.Need-body-whole-requires Inv-loop μ-loop
+body-whole-requires c κs =
+    let s = c .before .before in
+    let a = c .before .before .before .before .before .before .before .before .before .args in
+    let met = c .before .before .before .before .before .before .before .before .before .pre .2 in
+    laid-inside (a .limits) (a .set .now) (met .frame) (met .contents) (s .entry-whole .result) (rw (← s .entry-whole .ensures) at (entry-member (a .set .now) (c .before .before .before .before .loop .i) (rw (c .before .before .before .before .before .before .before .peek .ensures) at (c .before .before .before .loop-test .taken))))
+
 walk-once-requires : tie.Need-walk-once-requires Inv-loop μ-loop
-walk-once-requires c κs = c .before .before .before .before .before .before .before .before .before .before .before .before .before .before .pre
+walk-once-requires c κs = let p = c .before .before .before .before .before .before .before .before .before .before .before .before .before .before .pre in (p .0, p .1)
 
 returns : tie.Need-returns Inv-loop μ-loop
 returns c =
@@ -78,8 +94,8 @@ returns c =
       verdict = c .refuse .ensures
           ∙ refused _
           (sym
-          (asked-here 2 (λ es. goodFrom (a .limits) (l .index) (l .seen) (map (pieceFor (a .set .now)) es)) (a .set .now) _ (c .before .before .before .before .before .before .before .before .before .before .before .before .before .before .before .before .before .before .peek .ensures) (l .i) (l .inv .2) (c .before .before .before .before .before .before .before .before .before .before .before .before .before .before .loop-test .taken) _ (s .entry-at .ensures) (c .before .before .before .before .before .before .before .before .before .before .before .if1 .taken)
-          ∙ good-more (a .limits) (l .index) (l .seen) (s .entry-at .result) (bodyOf (a .set .now) (s .entry-at .result)) _ (small (c .before .before .before .before .before .before .before .before .before)) (l .inv .1)
+          (asked-here 2 (λ es. goodFrom (a .limits) (l .index) (l .seen) (map (pieceFor (a .set .now)) es)) (a .set .now) _ (c .before .before .before .before .before .before .before .before .before .before .before .before .before .before .before .before .before .before .peek .ensures) (l .i) (l .inv .2) (c .before .before .before .before .before .before .before .before .before .before .before .before .before .before .loop-test .taken) _ (s .entry-whole .ensures) (c .before .before .before .before .before .before .before .before .before .before .before .if1 .taken)
+          ∙ good-more (a .limits) (l .index) (l .seen) (s .entry-whole .result) (bodyOf (a .set .now) (s .entry-whole .result)) _ (small (c .before .before .before .before .before .before .before .before .before)) (l .inv .1)
           ∙ rw (sym (judged v), not-true (v .is-numbered .result && c .before .before .before .before .before .walk-once .result .verdict .good) (c .before .if2 .taken))));
       known = λ g. absurd (false≢true (sym (ap (λ v. v .good) (c .refuse .ensures)) ∙ g));
     }
@@ -108,10 +124,10 @@ loop-again c =
     let v = c .before .before .before .before .before .before .before in
     let s = c .before .before .before .before .before .before .before .before .before .before .before .before .before .before .before .before .before in
     let walked = c .before .before .before .before .before .before .before .before .before .walk-once in
-    let body = c .before .before .before .before .before .before .before .before .before .before .before .before .before .before .body-of .ensures in
+    let body = c .before .before .before .before .before .before .before .before .before .before .before .before .before .before .body-whole .ensures in
     let a = c .before .before .before .before .before .before .before .before .before .before .before .before .before .before .before .before .before .before .before .before .before .before .before .before .args in
     let l = c .before .before .before .before .before .before .before .before .before .before .before .before .before .before .before .before .before .before .before .loop in
-    let e = s .entry-at .result in
+    let e = s .entry-whole .result in
     let kind = c .before .before .before .before .before .before .before .before .before .before .before .before .before .before .before .if1 .taken in
     let test = c .before .before .before .before .before .before .before .before .before .before .before .before .before .before .before .before .before .before .loop-test .taken in
     let count = c .before .before .before .before .before .before .before .before .before .before .before .before .before .before .before .before .before .before .before .before .before .before .peek .ensures in
@@ -120,15 +136,15 @@ loop-again c =
     let f = configurationRefers (a .names .now) in (
       omega arith,
       rw (c .join .ensures) (with-long (l .seen) _ (l .inv .1)),
-      asked-here 2 (λ es. goodFrom (a .limits) (l .index) (l .seen) (map (pieceFor (a .set .now)) es)) (a .set .now) _ count (l .i) (l .inv .2) test _ (s .entry-at .ensures) kind
+      asked-here 2 (λ es. goodFrom (a .limits) (l .index) (l .seen) (map (pieceFor (a .set .now)) es)) (a .set .now) _ count (l .i) (l .inv .2) test _ (s .entry-whole .ensures) kind
           ∙ good-more (a .limits) (l .index) (l .seen) e (bodyOf (a .set .now) e) _ (small (c .before .before .before .before .before .before .before .before .before .before .before .before .before)) (l .inv .1)
           ∙ rw (sym (judged v), passed (c .before .before .before .before .before), c .join .ensures, c .before .before .before .before .before .before .before .before .before .before .before .before .before .peek2 .ensures, body),
       rw (told (walked .result .verdict) _ _ (walked .ensures .verdict) good, body)
-          (asked-here 2 (λ es. l .refers && every f (map (bodyOf (a .set .now)) es)) (a .set .now) _ count (l .i) (l .inv .3) test _ (s .entry-at .ensures) kind ∙ rw every-cons (sym (and-assoc (l .refers) _ _))),
+          (asked-here 2 (λ es. l .refers && every f (map (bodyOf (a .set .now)) es)) (a .set .now) _ count (l .i) (l .inv .3) test _ (s .entry-whole .ensures) kind ∙ rw every-cons (sym (and-assoc (l .refers) _ _))),
       rw (learns (c .before .before .before), c .before .before .before .before .can-wake .ensures, c .before .before .before .before .before .before .before .before .before .before .before .before .before .peek2 .ensures, body)
           (learnt-more (a .set .now) (a .value .0) (a .alternates .now) (a .asked) e (restOf 2 (a .set .now) (l .i + 1)) (walked .result .survey)
           (λ t. rw body at (walked .ensures .surveyed (rw (here, body) t) good))
-          (rw (kind-next 2 (a .set .now) _ count (l .i) test e (s .entry-at .ensures) kind) at (l .inv .4))),
+          (rw (kind-next 2 (a .set .now) _ count (l .i) test e (s .entry-whole .ensures) kind) at (l .inv .4))),
     )
 
 loop-again-2 : tie.Need-loop-again-2 Inv-loop μ-loop
@@ -141,9 +157,9 @@ loop-again-2 c =
     let f = configurationRefers (a .names .now) in (
       omega arith,
       l .inv .1,
-      asked-other 2 (λ es. goodFrom (a .limits) (l .index) (l .seen) (map (pieceFor (a .set .now)) es)) (a .set .now) _ count (l .i) (l .inv .2) test _ (s .entry-at .ensures) (c .if1 .left),
-      asked-other 2 (λ es. l .refers && every f (map (bodyOf (a .set .now)) es)) (a .set .now) _ count (l .i) (l .inv .3) test _ (s .entry-at .ensures) (c .if1 .left),
-      rw (kind-other 2 (a .set .now) _ count (l .i) test (s .entry-at .result) (s .entry-at .ensures) (c .if1 .left)) at (l .inv .4),
+      asked-other 2 (λ es. goodFrom (a .limits) (l .index) (l .seen) (map (pieceFor (a .set .now)) es)) (a .set .now) _ count (l .i) (l .inv .2) test _ (s .entry-whole .ensures) (c .if1 .left),
+      asked-other 2 (λ es. l .refers && every f (map (bodyOf (a .set .now)) es)) (a .set .now) _ count (l .i) (l .inv .3) test _ (s .entry-whole .ensures) (c .if1 .left),
+      rw (kind-other 2 (a .set .now) _ count (l .i) test (s .entry-whole .result) (s .entry-whole .ensures) (c .if1 .left)) at (l .inv .4),
     )
 
 returns-2 : tie.Need-returns-2 Inv-loop μ-loop
@@ -168,9 +184,9 @@ configurations-spec =
     (λ c κs. search needs)
     (λ c κs. search needs)
     loop-holds
-    (λ c κs. search needs)
+    entry-whole-requires
     (λ c. search needs)
-    (λ c κs. search needs)
+    body-whole-requires
     (λ c κs. search needs)
     (λ c κs. search needs)
     walk-once-requires
