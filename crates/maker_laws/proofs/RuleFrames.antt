@@ -1,7 +1,7 @@
 -- Groups 1, 2, 3 and 6: all their rules hold exactly where opening's definition of the group does. No axiom.
 use Prim.Native.Nat.{ℕ, _+_}
 use mathlib.Core.Path.{_≡_, refl, sym, ap, _∙_}
-use mathlib.Core.List.{List, [], _∷_, _++_, map}
+use mathlib.Core.List.{List, [], _∷_, map}
 use mathlib.Core.Bool.{Bool, true, false, _&&_, and-true, and-assoc}
 use lib.ListN.{length}
 use lib.Dec.{eqb, leb}

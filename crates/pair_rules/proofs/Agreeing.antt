@@ -1,5 +1,5 @@
 -- How many leading bytes of two lists agree. No axiom.
-use Prim.Native.Nat.{ℕ, zero, suc, _+_, _-_, _≤_, _<_}
+use Prim.Native.Nat.{ℕ, suc, _+_, _-_, _≤_, _<_}
 use native.Mathlib.Omega.{arith}
 use mathlib.Core.Path.{_≡_, refl, sym, ap, _∙_}
 use mathlib.Core.List.{List, [], _∷_}
@@ -9,8 +9,7 @@ use lib.Seq.{drop-cons}
 use lib.Dec.{eqb}
 use borrow.Author.Tests.{eq-eqb, ne-eqb, eqb-true}
 use Rattle.octets.specs.Octets.{byte}
-use Rattle.octets.specs.Sentences.{pick}
-use Rattle.octets.proofs.Sentences.{cases, same-test, both, joined}
+use Rattle.octets.proofs.Sentences.{cases, same-test}
 use Rattle.sets.specs.Pair.{same, retyped}
 use Rattle.pair_rules.specs.Pair.{agreeing}
 

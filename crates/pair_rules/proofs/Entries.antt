@@ -1,14 +1,13 @@
 -- The entries of types 6 and 7, asked rule by rule: the one that was found, those beside the configurations that are left, and the end. No axiom.
-use Prim.Native.Nat.{ℕ, zero, suc, _+_, _*_, _≤_}
+use Prim.Native.Nat.{ℕ, zero, suc, _+_, _*_}
 use native.Mathlib.Omega.{arith}
-use mathlib.Core.Path.{_≡_, refl, sym, ap, _∙_}
-use mathlib.Core.List.{List, [], _∷_, _++_}
-use mathlib.Core.Bool.{Bool, true, false}
-use mathlib.Core.Option.{some, none}
-use lib.ListN.{length, drop, getElem?, length-take}
+use mathlib.Core.Path.{_≡_, refl, sym, _∙_}
+use mathlib.Core.List.{List, [], _∷_}
+use mathlib.Core.Bool.{false}
+use lib.ListN.{length, drop, getElem?}
 use lib.Dec.{leb}
 use borrow.Author.Tests.{eq-eqb, ne-eqb, lt-leb, le-leb, leb-true}
-use Rattle.octets.specs.Sentences.{pick, isEmpty}
+use Rattle.octets.specs.Sentences.{isEmpty}
 use Rattle.octets.proofs.Sentences.{same-test}
 use Rattle.sets.specs.declared.Entry.{Entry}
 use Rattle.sets.specs.declared.EntryFound.the-variants.{At, Nothing}

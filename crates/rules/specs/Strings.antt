@@ -2,7 +2,7 @@
 -- Places are bytes of the set.
 use Prim.Native.Nat.{ℕ, _+_, _*_}
 use mathlib.Core.List.{List, [], _∷_, _++_}
-use mathlib.Core.Bool.{Bool, _&&_, not}
+use mathlib.Core.Bool.{_&&_, not}
 use lib.ListN.{length}
 use Rattle.octets.specs.Sentences.{pick, isSome, isEmpty}
 use Rattle.descriptors.specs.Cut.{Cutting, whole, broken, descriptor, cut}

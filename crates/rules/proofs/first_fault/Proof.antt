@@ -1,5 +1,5 @@
 -- `rules::first_fault` meets its contract: group after group. No axiom.
-use mathlib.Core.Path.{_≡_, ap, _∙_}
+use mathlib.Core.Path.{ap, _∙_}
 use Rattle.sets.specs.Device.{deviceBody, iSerialNumber}
 use Rattle.sets.specs.Opening.{lent}
 use Rattle.rules.specs.Frame.{frameFindings, contentsFindings}

@@ -1,7 +1,7 @@
 -- `pair_rules::beside::agreeing` meets its contract: what agrees so far, and the rest still to be compared. No axiom.
 use native.Mathlib.Omega.{arith}
 use mathlib.Core.Path.{_≡_}
-use Prim.Native.Nat.{_+_, _-_, _≤_, _<_}
+use Prim.Native.Nat.{_+_, _-_, _≤_}
 use lib.ListN.{length, drop}
 use Rattle.pair_rules.specs.Pair.{agreeing}
 use Rattle.pair_rules.proofs.Agreeing.{first-ended, second-ended, differs, agrees-on}

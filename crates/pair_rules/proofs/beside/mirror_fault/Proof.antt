@@ -1,6 +1,5 @@
 -- `pair_rules::beside::mirror_fault` meets its contract. No axiom.
 use native.Mathlib.Omega.{arith}
-use lib.ListN.{length}
 use Rattle.sets.specs.Contents.{bodyOf}
 use Rattle.sets.specs.Pair.{retyped}
 use Rattle.rules.proofs.After.{asks, ends}

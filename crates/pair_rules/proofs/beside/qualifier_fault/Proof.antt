@@ -1,6 +1,5 @@
 -- `pair_rules::beside::qualifier_fault` meets its contract. No axiom.
 use native.Mathlib.Omega.{arith}
-use lib.ListN.{length}
 use Rattle.sets.specs.Contents.{bodyOf}
 use Rattle.sets.specs.Pair.{qualifierOf}
 use Rattle.rules.specs.After.{after}

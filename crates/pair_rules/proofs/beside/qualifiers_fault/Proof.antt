@@ -1,5 +1,5 @@
 -- `pair_rules::beside::qualifiers_fault` meets its contract. No axiom.
-use mathlib.Core.Path.{_≡_, sym, _∙_}
+use mathlib.Core.Path.{sym, _∙_}
 use Rattle.sets.specs.Contents.{entriesOf}
 use Rattle.rules.proofs.After.{asks, ends}
 use Rattle.pair_rules.proofs.Entries.{qualifier-found, qualifier-missing}

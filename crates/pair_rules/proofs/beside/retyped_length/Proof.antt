@@ -1,7 +1,5 @@
 -- `pair_rules::beside::retyped_length` meets its contract. No axiom.
-use native.Mathlib.Omega.{arith}
 use Rattle.pair_rules.proofs.Agreeing.{retyped-long, retyped-short}
-use borrow.Author.Needs.{needs}
 use Rattle.pair_rules.proofs.beside.retyped_length.Statement.{statement}
 use Rattle.pair_rules.proofs.beside.retyped_length.Tie as tie
 

@@ -2,8 +2,7 @@
 use mathlib.Core.Path.{sym, _∙_}
 use mathlib.Core.List.{[]}
 use Rattle.sets.specs.Contents.{entriesOf}
-use Rattle.rules.specs.Device.{deviceEntryFindings, storeEntryFindings}
-use Rattle.rules.specs.After.{after}
+use Rattle.rules.specs.Device.{deviceEntryFindings}
 use Rattle.rules.proofs.After.{joins, nothing-more}
 use borrow.Author.Needs.{needs}
 use Rattle.rules.proofs.device.device_fault.Statement.{statement}

@@ -1,8 +1,8 @@
 -- `rules::device::stores_fault` meets its contract. No axiom.
-use mathlib.Core.Path.{_≡_, refl, sym, ap, _∙_}
+use mathlib.Core.Path.{sym, _∙_}
 use Rattle.sets.specs.Contents.{entriesOf}
 use Rattle.rules.proofs.Entries.{store-found, store-missing}
-use Rattle.rules.proofs.After.{asks, ends, joins}
+use Rattle.rules.proofs.After.{asks, ends}
 use borrow.Author.Needs.{needs}
 use Rattle.rules.proofs.device.stores_fault.Statement.{statement}
 use Rattle.rules.proofs.device.stores_fault.Tie as tie

@@ -1,9 +1,7 @@
 -- `rules::string::listed_fault` meets its contract. No axiom.
-use Prim.Native.Nat.{_+_, _-_, _*_, _≤_, _<_}
-use native.Mathlib.Omega.{arith}
-use mathlib.Core.Path.{_≡_, refl, sym, ap, _∙_}
-use mathlib.Core.List.{List, [], _∷_}
-use lib.ListN.{length, drop}
+use Prim.Native.Nat.{_+_, _-_, _*_}
+use mathlib.Core.Path.{_≡_, sym, ap, _∙_}
+use lib.ListN.{drop}
 use Rattle.sets.proofs.Entries.{rest, rest-start, next-entry, no-entry}
 use Rattle.rules.specs.After.{after}
 use Rattle.sets.specs.Contents.{entries}
