@@ -36,6 +36,25 @@ ghost use Rattle.rules.specs.Configuration.{progressIn, headFindings, he
 ghost use Rattle.rules.specs.Configurations.{companionFindings, companionsFrom};
 ghost use Rattle.rules.specs.After.{orBroken, after};
 
+// Where a descriptor stands: at `at` of a body that begins at `start`; the interface descriptor before it begins at `head`.
+pub struct Spot {
+    pub start: u16,
+    pub at: u16,
+    pub head: u16,
+}
+
+// The setting in which the descriptor before stands, and its own.
+pub struct Passage {
+    pub last: Stand,
+    pub stand: Stand,
+}
+
+// What a configuration's entry is held to: the index that is next, and whether its value was there before.
+pub struct Turn {
+    pub index: u8,
+    pub again: bool,
+}
+
 // ---- one descriptor, which begins at `at` of a body that begins at `start`
 // The first, of a body of so many bytes.
 fn head_fault(found: Fault, d: &[u8], size: usize, start: u16) -> Fault
@@ -91,27 +110,25 @@ fn wrong_byte(may_number: bool) -> u8
     2
 }
 
-// An interface descriptor, which stands at `stand`; the interface descriptor before it begins at `head`.
+// An interface descriptor, which stands at `stand`.
 fn interface_fault(
     found: Fault,
     d: &[u8],
-    start: u16,
-    at: u16,
-    head: u16,
+    spot: Spot,
     progress: Progress,
     last: Stand,
     stand: Stand,
 ) -> Fault
-    ensures { λ r. ⌜ r ≡ after found (interfaceFindings start at head (progressIn progress) last stand (now (d .entry))) ⌝ }
+    ensures { λ r. ⌜ r ≡ after found (interfaceFindings (spot .start) (spot .at) (spot .head) (progressIn progress) last stand (now (d .entry))) ⌝ }
 {
     let begun = Setting {
         interface: stand.interface,
         alternate: stand.alternate,
     };
-    let found = ask(found, 421, start, head, 4, progress.coming == 0);
-    let found = ask(found, 412, start, at, 0, 9 <= d.len());
-    let found = placed_fault(found, start, at, last, begun);
-    ask(found, 420, start, at, 3, stand.alternate <= 15)
+    let found = ask(found, 421, spot.start, spot.head, 4, progress.coming == 0);
+    let found = ask(found, 412, spot.start, spot.at, 0, 9 <= d.len());
+    let found = placed_fault(found, spot.start, spot.at, last, begun);
+    ask(found, 420, spot.start, spot.at, 3, stand.alternate <= 15)
 }
 
 // The address and the attributes of an endpoint descriptor.
@@ -207,47 +224,42 @@ fn surplus_fault(
 fn endpoint_fault(
     found: Fault,
     d: &[u8],
-    start: u16,
-    at: u16,
-    head: u16,
+    spot: Spot,
     progress: Progress,
     last: Stand,
     limits: Limits,
 ) -> Fault
-    ensures { λ r. ⌜ r ≡ after found (endpointFindings limits start at head (progressIn progress) last (now (d .entry))) ⌝ }
+    ensures { λ r. ⌜ r ≡ after found (endpointFindings limits (spot .start) (spot .at) (spot .head) (progressIn progress) last (now (d .entry))) ⌝ }
 {
     let address = octets::peek(d, 2);
     let attributes = octets::peek(d, 3);
     let size = octets::word(d, 4);
     let interval = octets::peek(d, 6);
-    let found = ask(found, 413, start, at, 0, 7 <= d.len());
-    let found = surplus_fault(found, last.inside, start, at, head, progress);
-    let found = numbers_fault(found, start, at, address, attributes);
-    let found = size_fault(found, start, at, attributes % 4, size, limits);
-    let found = interval_fault(found, start, at, attributes % 4, interval, limits);
-    address_fault(found, start, at, progress, address)
+    let found = ask(found, 413, spot.start, spot.at, 0, 7 <= d.len());
+    let found = surplus_fault(found, last.inside, spot.start, spot.at, spot.head, progress);
+    let found = numbers_fault(found, spot.start, spot.at, address, attributes);
+    let found = size_fault(found, spot.start, spot.at, attributes % 4, size, limits);
+    let found = interval_fault(found, spot.start, spot.at, attributes % 4, interval, limits);
+    address_fault(found, spot.start, spot.at, progress, address)
 }
 
 // A descriptor by its type.
 fn type_fault(
     found: Fault,
     d: &[u8],
-    start: u16,
-    at: u16,
-    head: u16,
+    spot: Spot,
     progress: Progress,
-    last: Stand,
-    stand: Stand,
+    passage: Passage,
     limits: Limits,
 ) -> Fault
-    ensures { λ r. ⌜ r ≡ after found (typeFindings limits start at head (progressIn progress) last stand (now (d .entry))) ⌝ }
+    ensures { λ r. ⌜ r ≡ after found (typeFindings limits (spot .start) (spot .at) (spot .head) (progressIn progress) (passage .last) (passage .stand) (now (d .entry))) ⌝ }
 {
     let t = octets::peek(d, 1);
     if t == INTERFACE {
-        return interface_fault(found, d, start, at, head, progress, last, stand);
+        return interface_fault(found, d, spot, progress, passage.last, passage.stand);
     }
     if t == ENDPOINT {
-        return endpoint_fault(found, d, start, at, head, progress, last, limits);
+        return endpoint_fault(found, d, spot, progress, passage.last, limits);
     }
     found
 }
@@ -256,27 +268,24 @@ fn type_fault(
 fn descriptor_fault(
     found: Fault,
     d: &[u8],
-    start: u16,
-    at: u16,
-    head: u16,
+    spot: Spot,
     progress: Progress,
-    last: Stand,
-    stand: Stand,
+    passage: Passage,
     limits: Limits,
 ) -> Fault
-    ensures { λ r. ⌜ r ≡ after found (descriptorFindings limits start at head (progressIn progress) last stand (now (d .entry))) ⌝ }
+    ensures { λ r. ⌜ r ≡ after found (descriptorFindings limits (spot .start) (spot .at) (spot .head) (progressIn progress) (passage .last) (passage .stand) (now (d .entry))) ⌝ }
 {
     let refused = limits::is_refused(octets::peek(d, 1));
     let found = ask(
         found,
         404,
-        start,
-        at,
+        spot.start,
+        spot.at,
         0,
         d.len() == octets::peek(d, 0) as usize,
     );
-    let found = ask(found, 411, start, at, 1, !refused);
-    type_fault(found, d, start, at, head, progress, last, stand, limits)
+    let found = ask(found, 411, spot.start, spot.at, 1, !refused);
+    type_fault(found, d, spot, progress, passage, limits)
 }
 
 // ---- a body, which begins at `start`
@@ -341,18 +350,18 @@ fn rest_fault(
         }
         let d = &body[at..end];
         let before = walk::stand_in(last);
-        found = descriptor_fault(
-            found,
-            d,
+        let stand = step.stand;
+        let spot = Spot {
             start,
-            place,
+            at: place,
             head,
-            progress,
-            before,
-            step.stand,
-            limits,
-        );
-        progress = progress::move_on(d, progress, before, step.stand);
+        };
+        let passage = Passage {
+            last: before,
+            stand,
+        };
+        found = descriptor_fault(found, d, spot, progress, passage, limits);
+        progress = progress::move_on(d, progress, before, stand);
         head = head_of(d, place, head);
         last = step.setting;
         at = end;
@@ -435,26 +444,25 @@ fn accompanied_fault(found: Fault, body: &[u8], start: u16, limits: Limits) -> F
 }
 
 // ---- the entries
-// A configuration's entry at `at`: the index that it has to have, its body, and whether its value was there before.
+// A configuration's entry at `at`, and its body.
 fn configuration_fault(
     found: Fault,
     e: Entry,
     at: u16,
-    index: u8,
+    turn: Turn,
     body: &[u8],
-    again: bool,
     limits: Limits,
 ) -> Fault
     requires { ⌜ length (now body) < 65536 ⌝ }
-    ensures { λ r. ⌜ r ≡ after found (configurationFindings limits at index (not again) e (now (body .entry))) ⌝ }
+    ensures { λ r. ⌜ r ≡ after found (configurationFindings limits at (turn .index) (not (turn .again)) e (now (body .entry))) ⌝ }
 {
     let start = e.offset;
-    let found = ask(found, 401, 0, at, 1, e.index == index);
+    let found = ask(found, 401, 0, at, 1, e.index == turn.index);
     let found = ask(found, 402, 0, at, 2, e.language == 0);
     let found = body_fault(found, body, start, limits);
     let found = accompanied_fault(found, body, start, limits);
     let found = ask(found, 435, start, 0, 5, 1 <= octets::peek(body, 5));
-    ask(found, 436, start, 0, 5, !again)
+    ask(found, 436, start, 0, 5, !turn.again)
 }
 
 // Group 4: a pass over the entries, with the index that is next and the values that were there.
@@ -474,7 +482,8 @@ pub fn configurations_fault(set: &[u8], limits: Limits, found: Fault) -> Fault
             let body = body_of(set, e);
             let value = octets::peek(body, 5);
             let again = holds(&seen, value);
-            found = configuration_fault(found, e, at, index, body, again, limits);
+            let turn = Turn { index, again };
+            found = configuration_fault(found, e, at, turn, body, limits);
             join(&mut seen, value);
             index += 1;
         }

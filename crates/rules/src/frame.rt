@@ -24,24 +24,23 @@ pub fn frame_fault(set: &[u8], found: Fault) -> Fault
     ask(found, 107, 0, 0, 2, 4 + 8 * count <= total)
 }
 
-// An entry at `at`, by itself and after the last one; its body has to begin at `start`.
-fn entry_fault(
-    found: Fault,
-    limits: Limits,
-    at: u16,
-    first: bool,
-    last: Entry,
-    start: usize,
-    e: Entry,
-) -> Fault
-    ensures { λ r. ⌜ r ≡ after found (entryFindings limits at first last start e) ⌝ }
+// What an entry stands behind: the last entry, if it is not the first, and the bodies so far, which end at `end`.
+pub struct Behind {
+    pub first: bool,
+    pub last: Entry,
+    pub end: usize,
+}
+
+// An entry at `at`, by itself and after the last one.
+fn entry_fault(found: Fault, limits: Limits, at: u16, behind: Behind, e: Entry) -> Fault
+    ensures { λ r. ⌜ r ≡ after found (entryFindings limits at (behind .first) (behind .last) (behind .end) e) ⌝ }
 {
     let named = descriptors::limits::is_named(limits.entries, e.kind);
-    let ascends = first | sets::contents::precedes(last, e);
+    let ascends = behind.first | sets::contents::precedes(behind.last, e);
     let found = ask(found, 201, 0, at, 0, named);
     let found = ask(found, 202, 0, at, 0, ascends);
     let found = ask(found, 203, 0, at, 6, 2 <= e.length);
-    ask(found, 204, 0, at, 4, e.offset as usize == start)
+    ask(found, 204, 0, at, 4, e.offset as usize == behind.end)
 }
 
 // Group 2: a pass over the entries, with the last one and where the next body has to begin.
@@ -61,7 +60,12 @@ pub fn contents_fault(set: &[u8], limits: Limits, found: Fault) -> Fault
     let mut i: u8 = 0;
     while i < count {
         let e = entry_at(set, i);
-        found = entry_fault(found, limits, 4 + 8 * (i as u16), i == 0, last, start, e);
+        let behind = Behind {
+            first: i == 0,
+            last,
+            end: start,
+        };
+        found = entry_fault(found, limits, 4 + 8 * (i as u16), behind, e);
         start += e.length as usize;
         last = e;
         i += 1;

@@ -27,7 +27,7 @@ ghost use Rattle.descriptors.specs.Descriptor.{isInterface, iInterface};
 ghost use Rattle.sets.specs.Contents.{bodyOf, entries};
 ghost use Rattle.sets.specs.Strings.{words};
 ghost use Rattle.rules.specs.Findings.{asked, byteAt};
-ghost use Rattle.rules.specs.Strings.{languagesFrom, languageFindings, stringFindings, stringEntryFindings, stringsFrom, listedFrom, bodyReferences, referencesFrom, stringsFindings};
+ghost use Rattle.rules.specs.Strings.{languagesFrom, languageFindings, stringFindings, stringEntryFindings, stringsFrom, listedFrom, bodyReferences, referencesFrom, deviceReferences, stringsFindings};
 ghost use Rattle.rules.specs.After.{orBroken, after, judged, Judges, StringZero};
 
 // ---- the strings
@@ -147,23 +147,27 @@ fn listed_fault(found: Fault, set: &[u8], zero: &[u8]) -> Fault
 }
 
 // ---- the references
-// A reference that is byte k of what begins at `at` of what begins at `start`; `there`: string 0 is there; `table`: the indices that have a string in every
-// listed language.
-fn reference_fault(
-    found: Fault,
-    start: u16,
-    at: u16,
-    k: u8,
-    reference: u8,
-    there: bool,
-    serial: u8,
-    table: &[u32; 8],
-) -> Fault
-    ensures { λ r. ⌜ r ≡ after found (judged there serial (now (table .entry)) start at k reference) ⌝ }
+// A byte: byte k of what begins at `at` of what begins at `start`.
+pub struct Spot {
+    pub start: u16,
+    pub at: u16,
+    pub k: u8,
+}
+
+// What references are judged by: whether string 0 is there, and iSerialNumber.
+pub struct Judge {
+    pub there: bool,
+    pub serial: u8,
+}
+
+// A reference; `table`: the indices that have a string in every listed language.
+fn reference_fault(found: Fault, spot: Spot, reference: u8, judge: Judge, table: &[u32; 8]) -> Fault
+    ensures { λ r. ⌜ r ≡ after found (judged (judge .there) (judge .serial) (now (table .entry)) (spot .start) (spot .at) (spot .k) reference) ⌝ }
 {
-    let named = (reference == 0) | (reference == serial) | holds(table, reference);
-    let found = ask(found, 510, start, at, k, !(1 <= reference) | there);
-    ask(found, 512, start, at, k, named)
+    let named = (reference == 0) | (reference == judge.serial) | holds(table, reference);
+    let asks = !(1 <= reference) | judge.there;
+    let found = ask(found, 510, spot.start, spot.at, spot.k, asks);
+    ask(found, 512, spot.start, spot.at, spot.k, named)
 }
 
 // The reference of a descriptor at `at`, if it is an interface's.
@@ -172,42 +176,31 @@ fn interface_fault(
     d: &[u8],
     start: u16,
     at: u16,
-    there: bool,
-    serial: u8,
+    judge: Judge,
     table: &[u32; 8],
 ) -> Fault
-    ensures { λ r. ⌜ r ≡ after found (pick (isInterface (now (d .entry))) (judged there serial (now (table .entry)) start at 8 (iInterface (now (d .entry)))) []) ⌝ }
+    ensures { λ r. ⌜ r ≡ after found (pick (isInterface (now (d .entry))) (judged (judge .there) (judge .serial) (now (table .entry)) start at 8 (iInterface (now (d .entry)))) []) ⌝ }
 {
     if octets::peek(d, 1) == INTERFACE {
-        return reference_fault(
-            found,
-            start,
-            at,
-            8,
-            octets::peek(d, 8),
-            there,
-            serial,
-            table,
-        );
+        let spot = Spot { start, at, k: 8 };
+        return reference_fault(found, spot, octets::peek(d, 8), judge, table);
     }
     found
 }
 
 // The references of a configuration: its own, and those of its interface descriptors.
-fn configuration_fault(
-    found: Fault,
-    set: &[u8],
-    e: Entry,
-    there: bool,
-    serial: u8,
-    table: &[u32; 8],
-) -> Fault
-    requires { ⌜ Judges (now set) there serial (now table) × (e .length < 65536) ⌝ }
+fn configuration_fault(found: Fault, set: &[u8], e: Entry, judge: Judge, table: &[u32; 8]) -> Fault
+    requires { ⌜ Judges (now set) (judge .there) (judge .serial) (now table) × (e .length < 65536) ⌝ }
     ensures { λ r. ⌜ r ≡ after found (bodyReferences (now (set .entry)) (e .offset) (bodyOf (now (set .entry)) e)) ⌝ }
 {
     let body = body_of(set, e);
     let reference = octets::peek(body, 6);
-    let mut found = reference_fault(found, e.offset, 0, 6, reference, there, serial, table);
+    let spot = Spot {
+        start: e.offset,
+        at: 0,
+        k: 6,
+    };
+    let mut found = reference_fault(found, spot, reference, judge, table);
     let mut last = BEFORE_FIRST;
     let mut at = 0;
     while at < body.len() {
@@ -217,15 +210,15 @@ fn configuration_fault(
         if end <= at {
             return found;
         }
-        found = interface_fault(found, &body[at..end], e.offset, place, there, serial, table);
+        found = interface_fault(found, &body[at..end], e.offset, place, judge, table);
         last = step.setting;
         at = end;
     }
     found
 }
 
-fn references_fault(found: Fault, set: &[u8], there: bool, serial: u8, table: &[u32; 8]) -> Fault
-    requires { ⌜ Judges (now set) there serial (now table) ⌝ }
+fn references_fault(found: Fault, set: &[u8], judge: Judge, table: &[u32; 8]) -> Fault
+    requires { ⌜ Judges (now set) (judge .there) (judge .serial) (now table) ⌝ }
     ensures { λ r. ⌜ r ≡ after found (referencesFrom (now (set .entry)) (entries (now (set .entry)))) ⌝ }
 {
     let count = octets::peek(set, 2);
@@ -235,10 +228,37 @@ fn references_fault(found: Fault, set: &[u8], there: bool, serial: u8, table: &[
         let e = entry_at(set, i);
         i += 1;
         if e.kind == CONFIGURATION {
-            found = configuration_fault(found, set, e, there, serial, table);
+            found = configuration_fault(found, set, e, judge, table);
         }
     }
     found
+}
+
+// The references of the device, which is the first body.
+fn device_fault(found: Fault, set: &[u8], judge: Judge, table: &[u32; 8]) -> Fault
+    requires { ⌜ Judges (now set) (judge .there) (judge .serial) (now table) ⌝ }
+    ensures { λ r. ⌜ r ≡ after found (deviceReferences (now (set .entry))) ⌝ }
+{
+    let device = device_body(set);
+    let start = 4 + 8 * (octets::peek(set, 2) as u16);
+    let maker = Spot {
+        start,
+        at: 0,
+        k: 14,
+    };
+    let product = Spot {
+        start,
+        at: 0,
+        k: 15,
+    };
+    let serial = Spot {
+        start,
+        at: 0,
+        k: 16,
+    };
+    let found = reference_fault(found, maker, octets::peek(device, 14), judge, table);
+    let found = reference_fault(found, product, octets::peek(device, 15), judge, table);
+    reference_fault(found, serial, octets::peek(device, 16), judge, table)
 }
 
 // ---- the group
@@ -247,9 +267,8 @@ fn judged_fault(found: Fault, set: &[u8], zero: &[u8], there: bool) -> Fault
     ensures { λ r. ⌜ r ≡ after found (stringsFindings (now (set .entry))) ⌝ }
 {
     let serial = serial_index(set);
+    let judge = Judge { there, serial };
     let table = in_every_language(set, zero);
-    let device = device_body(set);
-    let start = 4 + 8 * (octets::peek(set, 2) as u16);
     let strings = 1 <= count_of(set, STRING);
     let found = entries_fault(found, set, zero, serial);
     let found = ask(
@@ -261,37 +280,8 @@ fn judged_fault(found: Fault, set: &[u8], zero: &[u8], there: bool) -> Fault
         !strings | there,
     );
     let found = listed_fault(found, set, zero);
-    let found = reference_fault(
-        found,
-        start,
-        0,
-        14,
-        octets::peek(device, 14),
-        there,
-        serial,
-        &table,
-    );
-    let found = reference_fault(
-        found,
-        start,
-        0,
-        15,
-        octets::peek(device, 15),
-        there,
-        serial,
-        &table,
-    );
-    let found = reference_fault(
-        found,
-        start,
-        0,
-        16,
-        octets::peek(device, 16),
-        there,
-        serial,
-        &table,
-    );
-    references_fault(found, set, there, serial, &table)
+    let found = device_fault(found, set, judge, &table);
+    references_fault(found, set, judge, &table)
 }
 
 // Group 5.

@@ -15,9 +15,9 @@ returns c =
     let transfer = transferType (bmAttributes d) in
     asks _ _ _ (c .before .before .before .before .before .ask .ensures)
     (asks _ _ _ (c .before .before .before .before .surplus-fault .ensures)
-    (joins _ (numberFindings (a .start) (a .at) (bEndpointAddress d) (bmAttributes d)) _ (rw (address, attributes) at (c .before .before .before .numbers-fault .ensures))
-    (joins _ (sizeFindings (a .limits) (a .start) (a .at) transfer (wMaxPacketSize d)) _ (rw (attributes, c .before .before .before .before .before .before .before .word .ensures) at (c .before .before .size-fault .ensures))
-    (joins _ (intervalFindings (a .limits) (a .start) (a .at) transfer (bInterval d)) _ (rw (attributes, c .before .before .before .before .before .before .peek3 .ensures) at (c .before .interval-fault .ensures))
+    (joins _ (numberFindings (a .spot .start) (a .spot .at) (bEndpointAddress d) (bmAttributes d)) _ (rw (address, attributes) at (c .before .before .before .numbers-fault .ensures))
+    (joins _ (sizeFindings (a .limits) (a .spot .start) (a .spot .at) transfer (wMaxPacketSize d)) _ (rw (attributes, c .before .before .before .before .before .before .before .word .ensures) at (c .before .before .size-fault .ensures))
+    (joins _ (intervalFindings (a .limits) (a .spot .start) (a .spot .at) transfer (bInterval d)) _ (rw (attributes, c .before .before .before .before .before .before .peek3 .ensures) at (c .before .interval-fault .ensures))
     (rw address at (c .address-fault .ensures))))))
 
 pub endpoint-fault-spec : {M : Type 1} → statement M

@@ -41,15 +41,15 @@ part-d-end : tie.Need-part-d-end Inv-loop μ-loop
 part-d-end c = inside c
 
 loop-less : tie.Need-loop-less Inv-loop μ-loop
-loop-less c = let w = c .before .before .before .before .before in let i = inside w in omega (arith, i, w .if1 .left, w .before .before .loop-test .taken)
+loop-less c = let w = c .before .before .before .before .before .before in let i = inside w in omega (arith, i, w .if1 .left, w .before .before .loop-test .taken)
 
 loop-again : tie.Need-loop-again Inv-loop μ-loop
 loop-again c =
-    let w = c .before .before .before .before .before in
+    let w = c .before .before .before .before .before .before in
     let l = w .before .before .before .loop in
     let a = w .before .before .before .before .before .before .args in
     let s = w .before .advance in
-    let last = c .before .before .before .stand-in .ensures in
+    let last = c .before .before .before .before .stand-in .ensures in
     rw (← s .ensures .apart)
     (l .inv
     ∙ rest-on (a .limits) (a .start) (a .interfaces) (a .body .now) (l .at) (l .head) (progressIn (l .progress)) (standIn (l .last)) (l .found) _ (s .ensures .steps) (w .before .before .loop-test .taken) (w .if1 .left)

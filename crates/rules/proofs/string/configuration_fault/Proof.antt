@@ -22,11 +22,11 @@ use Rattle.rules.proofs.string.configuration_fault.Statement.{statement
 use Rattle.rules.proofs.string.configuration_fault.Tie as tie
 
 abbrev Inv-loop : tie.InvT-loop
-Inv-loop set e there serial table body reference found₀ last₀ at₀ found last at =
+Inv-loop set e judge table body reference found₀ last₀ at₀ found last at =
     after found₀ (interfacesFrom set (e .offset) 0 (cut body)) ≡ after found (interfacesFrom set (e .offset) at (cut (drop at body)))
 
 abbrev μ-loop : tie.MeasureT-loop
-μ-loop set e there serial table body reference found₀ last₀ at₀ found last at = length body - at
+μ-loop set e judge table body reference found₀ last₀ at₀ found last at = length body - at
 
 -- the descriptor at hand ends inside the body
 inside : (c : tie.Else1 Inv-loop μ-loop) → c .before .advance .result .end ≤ length (c .before .before .before .before .before .before .body-of .result .now)

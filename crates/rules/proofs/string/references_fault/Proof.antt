@@ -11,10 +11,10 @@ use Rattle.rules.proofs.string.references_fault.Statement.{statement}
 use Rattle.rules.proofs.string.references_fault.Tie as tie
 
 abbrev Inv-loop : tie.InvT-loop
-Inv-loop set there serial table count found₀ i₀ found i = after found₀ (referencesFrom set (entries set)) ≡ after found (referencesFrom set (rest set i))
+Inv-loop set judge table count found₀ i₀ found i = after found₀ (referencesFrom set (entries set)) ≡ after found (referencesFrom set (rest set i))
 
 abbrev μ-loop : tie.MeasureT-loop
-μ-loop set there serial table count found₀ i₀ found i = count - i
+μ-loop set judge table count found₀ i₀ found i = count - i
 
 loop-holds : tie.Need-loop-holds Inv-loop μ-loop
 loop-holds c = let a = c .before .before .args in ap (λ es. after (a .found) (referencesFrom (a .set .now) es)) (rest-start (a .set .now))
