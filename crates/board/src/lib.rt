@@ -82,13 +82,20 @@ pub extern "C" fn hk_setup<'a>(
     numbers::hand_out(set, serial, answer, bytes, count, part)
 }
 
+// An event that is answered by its number alone.
+fn tell(set: &[u8], serial: &[u8], image: &mut [u8], what: Event) -> u8
+    ensures { λ r. ⌜ Happens (lent (now (set .entry)) (now (serial .entry))) (now (image .entry)) what r (now (image .exit)) ⌝ }
+{
+    let number = steps::opening(set, serial);
+    events::reply::number(event(number, set, serial, image, what))
+}
+
 // The status stage has ended: a waiting address is taken.
 #[no_mangle]
 pub extern "C" fn hk_status_end(set: &[u8], serial: &[u8], image: &mut [u8]) -> u8
     ensures { λ r. ⌜ Happens (lent (now (set .entry)) (now (serial .entry))) (now (image .entry)) StatusEnd r (now (image .exit)) ⌝ }
 {
-    let number = steps::opening(set, serial);
-    events::reply::number(event(number, set, serial, image, Event::StatusEnd))
+    tell(set, serial, image, Event::StatusEnd)
 }
 
 // The bus was reset: the fresh record, but the power source stays.
@@ -96,8 +103,7 @@ pub extern "C" fn hk_status_end(set: &[u8], serial: &[u8], image: &mut [u8]) -> 
 pub extern "C" fn hk_bus_reset(set: &[u8], serial: &[u8], image: &mut [u8]) -> u8
     ensures { λ r. ⌜ Happens (lent (now (set .entry)) (now (serial .entry))) (now (image .entry)) (BusReset 0) r (now (image .exit)) ⌝ }
 {
-    let number = steps::opening(set, serial);
-    events::reply::number(event(number, set, serial, image, Event::BusReset(0)))
+    tell(set, serial, image, Event::BusReset(0))
 }
 
 // The bus was reset, to a speed: a board that lends one set has full speed alone.
@@ -105,8 +111,7 @@ pub extern "C" fn hk_bus_reset(set: &[u8], serial: &[u8], image: &mut [u8]) -> u
 pub extern "C" fn hk_bus_reset_to(set: &[u8], serial: &[u8], image: &mut [u8], speed: u8) -> u8
     ensures { λ r. ⌜ Happens (lent (now (set .entry)) (now (serial .entry))) (now (image .entry)) (BusReset speed) r (now (image .exit)) ⌝ }
 {
-    let number = steps::opening(set, serial);
-    events::reply::number(event(number, set, serial, image, Event::BusReset(speed)))
+    tell(set, serial, image, Event::BusReset(speed))
 }
 
 // The function halts an endpoint.
@@ -114,8 +119,7 @@ pub extern "C" fn hk_bus_reset_to(set: &[u8], serial: &[u8], image: &mut [u8], s
 pub extern "C" fn hk_halt(set: &[u8], serial: &[u8], image: &mut [u8], endpoint: u8) -> u8
     ensures { λ r. ⌜ Happens (lent (now (set .entry)) (now (serial .entry))) (now (image .entry)) (Halt endpoint) r (now (image .exit)) ⌝ }
 {
-    let number = steps::opening(set, serial);
-    events::reply::number(event(number, set, serial, image, Event::Halt(endpoint)))
+    tell(set, serial, image, Event::Halt(endpoint))
 }
 
 // A packet has passed at an endpoint.
@@ -123,8 +127,7 @@ pub extern "C" fn hk_halt(set: &[u8], serial: &[u8], image: &mut [u8], endpoint:
 pub extern "C" fn hk_packet_passed(set: &[u8], serial: &[u8], image: &mut [u8], endpoint: u8) -> u8
     ensures { λ r. ⌜ Happens (lent (now (set .entry)) (now (serial .entry))) (now (image .entry)) (PacketPassed endpoint) r (now (image .exit)) ⌝ }
 {
-    let number = steps::opening(set, serial);
-    events::reply::number(event(number, set, serial, image, Event::PacketPassed(endpoint)))
+    tell(set, serial, image, Event::PacketPassed(endpoint))
 }
 
 // The board found its power source: 0 the bus, 1 its own supply.
@@ -132,8 +135,7 @@ pub extern "C" fn hk_packet_passed(set: &[u8], serial: &[u8], image: &mut [u8], 
 pub extern "C" fn hk_power(set: &[u8], serial: &[u8], image: &mut [u8], source: u8) -> u8
     ensures { λ r. ⌜ Happens (lent (now (set .entry)) (now (serial .entry))) (now (image .entry)) (Power source) r (now (image .exit)) ⌝ }
 {
-    let number = steps::opening(set, serial);
-    events::reply::number(event(number, set, serial, image, Event::Power(source)))
+    tell(set, serial, image, Event::Power(source))
 }
 
 // The bus has fallen silent: the device is suspended.
@@ -141,8 +143,7 @@ pub extern "C" fn hk_power(set: &[u8], serial: &[u8], image: &mut [u8], source: 
 pub extern "C" fn hk_suspend(set: &[u8], serial: &[u8], image: &mut [u8]) -> u8
     ensures { λ r. ⌜ Happens (lent (now (set .entry)) (now (serial .entry))) (now (image .entry)) Suspend r (now (image .exit)) ⌝ }
 {
-    let number = steps::opening(set, serial);
-    events::reply::number(event(number, set, serial, image, Event::Suspend))
+    tell(set, serial, image, Event::Suspend)
 }
 
 // The host resumes the bus.
@@ -150,8 +151,7 @@ pub extern "C" fn hk_suspend(set: &[u8], serial: &[u8], image: &mut [u8]) -> u8
 pub extern "C" fn hk_resume(set: &[u8], serial: &[u8], image: &mut [u8]) -> u8
     ensures { λ r. ⌜ Happens (lent (now (set .entry)) (now (serial .entry))) (now (image .entry)) Resume r (now (image .exit)) ⌝ }
 {
-    let number = steps::opening(set, serial);
-    events::reply::number(event(number, set, serial, image, Event::Resume))
+    tell(set, serial, image, Event::Resume)
 }
 
 // Whether the board may signal the host to wake.
@@ -159,8 +159,7 @@ pub extern "C" fn hk_resume(set: &[u8], serial: &[u8], image: &mut [u8]) -> u8
 pub extern "C" fn hk_wake(set: &[u8], serial: &[u8], image: &mut [u8]) -> u8
     ensures { λ r. ⌜ Happens (lent (now (set .entry)) (now (serial .entry))) (now (image .entry)) Wake r (now (image .exit)) ⌝ }
 {
-    let number = steps::opening(set, serial);
-    events::reply::number(event(number, set, serial, image, Event::Wake))
+    tell(set, serial, image, Event::Wake)
 }
 
 // Packet `number` of a reply to a request that asked for `asked` bytes, with packets of `size` bytes: a part of the reply, and no copy.
