@@ -3,8 +3,8 @@ use descriptors::survey::Survey;
 
 // Where the descriptor that is asked for lies: a body of the set, the serial block, or nowhere.
 pub enum Located {
-    Body { offset: usize, length: usize },
-    Serial { length: usize },
+    Body { offset: u16, length: u16 },
+    Serial { length: u16 },
     Nowhere,
 }
 

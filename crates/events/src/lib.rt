@@ -29,13 +29,13 @@ pub enum Event {
 }
 
 // What an event answers: done, with no, one or two bytes; the part of the set from `offset` on; the serial block's first bytes; or a
-// refusal, under document 01's number.
+// refusal, under document 01's number. Offset and length are those of an accepted set: small, so that an answer takes little of the stack.
 pub enum Answer {
     Done,
     OneByte(u8),
     TwoBytes(u8, u8),
-    SetPart { offset: usize, length: usize },
-    SerialPart { length: usize },
+    SetPart { offset: u16, length: u16 },
+    SerialPart { length: u16 },
     Refused(u8),
 }
 

@@ -64,8 +64,11 @@ pub fn part<'a>(first: &'a [u8], used: &'a [u8], serial: &'a [u8], answer: Answe
     ensures offset { λ r. ⌜ r .ptr .1 ≡ inBlock ((first .entry) .ptr .1) ((used .entry) .ptr .1) ((serial .entry) .ptr .1) (partOf answer .block) + partOf answer .offset ⌝ }
 {
     match answer {
-        Answer::SetPart { offset, length } => &used[offset..offset + length],
-        Answer::SerialPart { length } => &serial[0..length],
+        Answer::SetPart { offset, length } => {
+            let start = offset as usize;
+            &used[start..start + length as usize]
+        }
+        Answer::SerialPart { length } => &serial[0..length as usize],
         Answer::Done => &first[0..0],
         Answer::OneByte(_) => &first[0..0],
         Answer::TwoBytes(_, _) => &first[0..0],

@@ -142,13 +142,13 @@ pub fn set_address(setup: Setup) -> Reaction
     done(Change::Waiting(setup.wValue as u8))
 }
 
-fn least(a: usize, b: u16) -> usize
+fn least(a: u16, b: u16) -> u16
     ensures { λ r. ⌜ r ≡ min a b ⌝ }
 {
-    if a < b as usize {
+    if a < b {
         return a;
     }
-    b as usize
+    b
 }
 
 // GET_DESCRIPTOR: never more than wLength bytes, from the start of the body.

@@ -44,7 +44,7 @@ use Rattle.records.specs.Fits.{fits, fitsOn}
 use Rattle.records.proofs.InUse.{rowFor, opensFor}
 use Rattle.events.specs.declared.Answer.the-variants.{Refused}
 use Rattle.events.specs.Answer.{partOf, InsideAt}
-use Rattle.steps.specs.Gathering.{configurationsIn, viewIn, endpointIn, endpointOnIn, bodyFound, selectedBody, standing, beginning}
+use Rattle.steps.specs.Gathering.{configurationsIn, viewIn, endpointIn, endpointOnIn, bodyFound, selectedBody, standing, ending}
 use Rattle.steps.proofs.Configurations.{selected-by-value}
 use Rattle.steps.specs.Endpoint.{selectedEntry, inSet, endpointsIn, endpointDescriptors, endpointPart, endpoint, endpointOn}
 
@@ -91,25 +91,12 @@ module _ (opening : ℕ) (v : View) (set : List ℕ) (d : Device) (k : ℕ) wher
     unfolding endpointDescriptors
     answers q n = rw (eq-eqb opening 0 p, q, eq-eqb (d .state) inConfigured n) (stands-in set d k (selectedEntry set d))
 
--- ---- a body of an accepted set is short
-module _ (alternates body : List ℕ) (well : wellCut (cut body) ≡ true) (k : ℕ) where
-  pub begins-inside : beginning (foundAt (getElem? (currentDescriptors alternates body) k)) ≤ length body
-  begins-inside = go (getElem? (currentDescriptors alternates body) k) refl
-    where
-      go : (o : Option DescriptorAt) → getElem? (currentDescriptors alternates body) k ≡ o → beginning (foundAt o) ≤ length body
-      go none q = omega arith
-      go (some p) q = let l = lies alternates body well p (at-member (currentDescriptors alternates body) k q) .inside in omega (arith, l)
-
-pub body-short : (limits : Limits) (b : Board) → opening limits b ≡ 0 → (value : ℕ) → length (selectedBody (b .set) value) ≤ 16384
+-- ---- an accepted set is short
+set-short : (limits : Limits) (b : Board) → opening limits b ≡ 0 → length (b .set) ≤ 16384
 unfolding goodFrame
-body-short limits b p value =
+set-short limits b p =
     let set = b .set in
-    let short = leb-true (length set) 16384 (conjunct 1 (leb 4 (length set) ∷ leb (length set) 16384 ∷ eqb (total set) (length set) ∷ leb 1 (count set) ∷ leb (count set) 64 ∷ eqb (byte set 3) 0 ∷ leb (bodiesAt set) (total set) ∷ []) (groups limits b p .frame)) in
-    go short (found (first (valued set value) (entriesOf 2 set)))
-  where
-    go : length (b .set) ≤ 16384 → (f : EntryFound) → length (bodyFound (b .set) f) ≤ 16384
-    go h Nothing = omega arith
-    go h (At e) = rw (length-take, length-drop) (omega arith)
+    leb-true (length set) 16384 (conjunct 1 (leb 4 (length set) ∷ leb (length set) 16384 ∷ eqb (total set) (length set) ∷ leb 1 (count set) ∷ leb (count set) 64 ∷ eqb (byte set 3) 0 ∷ leb (bodiesAt set) (total set) ∷ []) (groups limits b p .frame))
 
 -- ---- what was gathered tells whether the record fits
 module _ (paired : Bool) (set serial : List ℕ) (d : Device) {entry : EntryFound} {body : List ℕ} (e : entry ≡ found (selectedEntry set d)) (l : body ≡ bodyFound set entry) where
@@ -179,6 +166,22 @@ module _ (limits : Limits) (b : Board) (opens : opening limits b ≡ 0) (d : Dev
       go true (some x) e n =
           let (q, k, i) = mapped (inSet x) (currentDescriptors (d .alternates) (bodyOf (b .set) x)) n in
           rw i (in-entry x (first-some (λ x. eqb (bConfigurationValue (bodyOf (b .set) x)) (d .configuration)) (entriesOf 2 (b .set)) e .0) q k)
+
+  -- so that one with a number ends in it, and that is a number of two bytes
+  pub ends-inside : (k : ℕ) → ending (found (selectedEntry (b .set) d)) (foundAt (getElem? (currentDescriptors (d .alternates) (selectedBody (b .set) (d .configuration))) k)) ≤ 65535
+  ends-inside k = go (selectedEntry (b .set) d) refl
+    where
+      nowhere : (o : Option DescriptorAt) → ending Nothing (foundAt o) ≤ 65535
+      nowhere none = omega arith
+      nowhere (some p) = omega arith
+
+      within-body : (e : Entry) → List·Memᴰ e (entriesOf 2 (b .set)) → (o : Option DescriptorAt) → getElem? (currentDescriptors (d .alternates) (bodyOf (b .set) e)) k ≡ o → ending (At e) (foundAt o) ≤ 65535
+      within-body e m none q = omega arith
+      within-body e m (some p) q = omega (arith, in-entry e m p (at-member (currentDescriptors (d .alternates) (bodyOf (b .set) e)) k q) .inside, set-short limits b opens)
+
+      go : (o : Option Entry) → selectedEntry (b .set) d ≡ o → ending (found o) (foundAt (getElem? (currentDescriptors (d .alternates) (bodyFound (b .set) (found o))) k)) ≤ 65535
+      go none q = nowhere (getElem? (currentDescriptors (d .alternates) []) k)
+      go (some e) q = within-body e (first-some (λ x. eqb (bConfigurationValue (bodyOf (b .set) x)) (d .configuration)) (entriesOf 2 (b .set)) q .0) (getElem? (currentDescriptors (d .alternates) (bodyOf (b .set) e)) k) refl
 
 -- ---- so an answer's part lies in the set in use
 module _ (b : Board) (d : Device) (k : ℕ) where

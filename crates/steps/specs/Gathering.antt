@@ -88,12 +88,13 @@ pub record Usable (body : List ℕ) : Type 0 where
   pub few : (j : ℕ) → hasInterface (configurationOf body) j ≡ true → j < 16
   pub small : (j a : ℕ) → hasSetting (configurationOf body) j a ≡ true → (j < 16) × (a < 16)
 
--- a descriptor that was found in the body of an entry, as a part of the set; and where it begins in the body
+-- a descriptor that was found in the body of an entry, as a part of the set; and where that ends
 abbrev pub standing : EntryFound → DescriptorFound → Answer
 standing entry Missing = Refused 16
 standing Nothing (Standing offset size) = Refused 16
 standing (At e) (Standing offset size) = SetPart (e .offset + offset) size
 
-abbrev pub beginning : DescriptorFound → ℕ
-beginning Missing = 0
-beginning (Standing offset size) = offset
+abbrev pub ending : EntryFound → DescriptorFound → ℕ
+ending entry Missing = 0
+ending Nothing (Standing offset size) = 0
+ending (At e) (Standing offset size) = e .offset + offset + size

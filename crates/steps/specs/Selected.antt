@@ -17,14 +17,10 @@ use Rattle.records.specs.Change.{valued as configurationOfValue}
 use Rattle.requests.specs.declared.Setup.{Setup}
 use Rattle.events.specs.declared.Event.{Event}
 use Rattle.events.specs.declared.facts.Facts.{Facts}
-use Rattle.events.specs.declared.facts.Located.{Located}
-use Rattle.events.specs.declared.facts.Located.the-variants.{Body, Serial, Nowhere}
 use Rattle.events.specs.Requests.{locate}
 use Rattle.events.specs.Facts.{questionOf, TellsOf}
 use Rattle.steps.specs.declared.facts.Selected.{Selected}
 use Rattle.steps.specs.declared.facts.Sought.{Sought}
-use Rattle.steps.specs.declared.facts.Site.{Site}
-use Rattle.steps.specs.declared.facts.Site.the-variants.{Body as InBody, Serial as InSerial, Nowhere as Missing}
 use Rattle.steps.specs.Gathering.{selectedBody}
 
 -- before anything is known
@@ -37,16 +33,10 @@ pub record Knows (set : List ℕ) (value : ℕ) (alternates : List ℕ) (asked :
   pub waking : k .waking ≡ any canWake (bodies 2 set)
   pub surveyed : Surveys (configurationOf (selectedBody set value)) alternates asked (k .survey)
 
--- where a descriptor lies, as the facts have it
-abbrev pub locatedAt : Site → Located
-locatedAt (InBody offset size) = Body offset size
-locatedAt (InSerial size) = Serial size
-locatedAt Missing = Nowhere
-
 -- what only one request asks of a view
 pub record Seeks (v : View) (s : Setup) (f : Sought) : Type 0 where
   pub configuration : s .bRequest ≡ 0x09 → s .wValue < 256 → f .configuration ≡ hasValue (record { 0 = s .wValue }) (v .configurations)
-  pub located : s .bRequest ≡ 0x06 → locatedAt (f .site) ≡ locate v s
+  pub located : s .bRequest ≡ 0x06 → f .located ≡ locate v s
 
 -- the facts for a question
 abbrev pub factsOf : Bool → Setup → Selected → Sought → Facts
@@ -57,7 +47,7 @@ factsOf paired s k f = record {
   interface = pick (ltb (s .wIndex) 16) (bit (k .survey .existing) (s .wIndex)) false;
   survey = k .survey;
   configuration = f .configuration;
-  located = locatedAt (f .site);
+  located = f .located;
 }
 
 -- they are true of a view of a set that opens, at a record, for an event

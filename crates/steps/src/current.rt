@@ -11,18 +11,18 @@ use sets::EntryFound;
 use sets::configuration;
 ghost use mathlib.Core.Path.{_≡_};
 ghost use Prim.Native.Nat.{_≤_};
-ghost use Rattle.steps.specs.Gathering.{Openable, viewIn, endpointIn, beginning, standing};
+ghost use Rattle.steps.specs.Gathering.{Openable, viewIn, endpointIn, ending, standing};
 
 // A descriptor that was found in an entry's body, as a part of the set.
 fn part_of(entry: EntryFound, found: DescriptorFound) -> Answer
-    requires { ⌜ beginning found ≤ 65535 ⌝ }
+    requires { ⌜ ending entry found ≤ 65535 ⌝ }
     ensures { λ r. ⌜ r ≡ standing entry found ⌝ }
 {
     match found {
         DescriptorFound::At { offset, length } => match entry {
             EntryFound::At(e) => Answer::SetPart {
-                offset: e.offset as usize + offset,
-                length,
+                offset: e.offset + offset as u16,
+                length: length as u16,
             },
             EntryFound::Nothing => Answer::Refused(refusals::ENDPOINT_UNFIT),
         },

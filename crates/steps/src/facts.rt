@@ -28,7 +28,7 @@ ghost use Rattle.events.specs.Requests.{languageFor, locateString, locate};
 ghost use Rattle.records.specs.Change.{recordIn};
 ghost use Rattle.events.specs.Facts.{naming, questionOf, askedBy};
 ghost use Rattle.steps.specs.Gathering.{configurationsIn, Openable, viewIn, bodyFound, located};
-ghost use Rattle.steps.specs.Selected.{nothingKnown, Knows, locatedAt, Seeks, factsOf};
+ghost use Rattle.steps.specs.Selected.{nothingKnown, Knows, Seeks, factsOf};
 
 // The question of a function event, or of one that asks nothing.
 fn naming(address: u8) -> Setup
@@ -80,37 +80,15 @@ pub fn body_found(set: &[u8], entry: EntryFound) -> &[u8]
     }
 }
 
-// Where a descriptor lies, in the numbers that a set and a serial block that are accepted have: small, so that it is handed on in a register.
-pub enum Site {
-    Body { offset: u16, length: u16 },
-    Serial { length: u16 },
-    Nowhere,
-}
-
-fn place(entry: EntryFound) -> Site
-    ensures { λ r. ⌜ locatedAt r ≡ located entry ⌝ }
+fn place(entry: EntryFound) -> Located
+    ensures { λ r. ⌜ r ≡ located entry ⌝ }
 {
     match entry {
-        EntryFound::At(e) => Site::Body {
+        EntryFound::At(e) => Located::Body {
             offset: e.offset,
             length: e.length,
         },
-        EntryFound::Nothing => Site::Nowhere,
-    }
-}
-
-fn located_at(site: Site) -> Located
-    ensures { λ r. ⌜ r ≡ locatedAt site ⌝ }
-{
-    match site {
-        Site::Body { offset, length } => Located::Body {
-            offset: offset as usize,
-            length: length as usize,
-        },
-        Site::Serial { length } => Located::Serial {
-            length: length as usize,
-        },
-        Site::Nowhere => Located::Nowhere,
+        EntryFound::Nothing => Located::Nowhere,
     }
 }
 
@@ -149,31 +127,31 @@ fn language_for(set: &[u8], index: u8, asked: u16) -> u16
 }
 
 // Where the string with an index lies, in a language.
-fn locate_string(set: &[u8], serial: &[u8], index: u8, language: u16) -> Site
+fn locate_string(set: &[u8], serial: &[u8], index: u8, language: u16) -> Located
     requires { ⌜ length (now serial) < 65536 ⌝ }
-    ensures { λ r. ⌜ ((paired : Bool) → locatedAt r ≡ locateString (viewIn paired (now (set .entry)) (now (serial .entry))) index language) ⌝ }
+    ensures { λ r. ⌜ ((paired : Bool) → r ≡ locateString (viewIn paired (now (set .entry)) (now (serial .entry))) index language) ⌝ }
 {
     if (1 <= index) & (index == sets::device::serial_index(set)) {
         if sets::string::language_listed(set, language) {
-            return Site::Serial {
+            return Located::Serial {
                 length: serial.len() as u16,
             };
         }
-        return Site::Nowhere;
+        return Located::Nowhere;
     }
     place(contents::find_entry(set, types::STRING, index, language))
 }
 
 // Where the descriptor lies that GET_DESCRIPTOR asks for: a configuration by its index, another type by its entry. In a set that is lent alone there
 // is no entry of type 6 or 7.
-fn locate(set: &[u8], serial: &[u8], setup: Setup) -> Site
+fn locate(set: &[u8], serial: &[u8], setup: Setup) -> Located
     requires { ⌜ length (now serial) < 65536 ⌝ }
-    ensures { λ r. ⌜ ((paired : Bool) → setup .bRequest ≡ 0x06 → locatedAt r ≡ locate (viewIn paired (now (set .entry)) (now (serial .entry))) setup) ⌝ }
+    ensures { λ r. ⌜ ((paired : Bool) → setup .bRequest ≡ 0x06 → r ≡ locate (viewIn paired (now (set .entry)) (now (serial .entry))) setup) ⌝ }
 {
     let kind = (setup.wValue / 256) as u8;
     let index = (setup.wValue % 256) as u8;
     if setup.bRequest != requests::GET_DESCRIPTOR {
-        return Site::Nowhere;
+        return Located::Nowhere;
     }
     if kind == types::STRING {
         return locate_string(set, serial, index, language_for(set, index, setup.wIndex));
@@ -187,7 +165,7 @@ fn locate(set: &[u8], serial: &[u8], setup: Setup) -> Site
     {
         return place(contents::find_entry(set, kind, index, 0));
     }
-    Site::Nowhere
+    Located::Nowhere
 }
 
 // What an event asks of the selected configuration.
@@ -260,7 +238,7 @@ pub fn learn(opening: u8, set: &[u8], serial: &[u8], image: &[u8], event: Event)
 // What only one request asks: whether the set has the configuration, and where the descriptor lies.
 pub struct Sought {
     pub configuration: bool,
-    pub site: Site,
+    pub located: Located,
 }
 
 // It is looked up for that request alone; nothing is sought where the set does not open.
@@ -271,7 +249,7 @@ pub fn seek(opening: u8, set: &[u8], serial: &[u8], event: Event) -> Sought
     if opening != 0 {
         return Sought {
             configuration: false,
-            site: Site::Nowhere,
+            located: Located::Nowhere,
         };
     }
     let question = question_of(event);
@@ -279,7 +257,7 @@ pub fn seek(opening: u8, set: &[u8], serial: &[u8], event: Event) -> Sought
     let block = &serial[..];
     Sought {
         configuration: has_asked(all, question),
-        site: locate(all, block, question),
+        located: locate(all, block, question),
     }
 }
 
@@ -289,7 +267,7 @@ pub fn gather(paired: bool, event: Event, known: Selected, sought: Sought) -> Fa
 {
     let question = question_of(event);
     let survey = known.survey;
-    let site = sought.site;
+    let located = sought.located;
     Facts {
         paired,
         configured: known.configured,
@@ -297,6 +275,6 @@ pub fn gather(paired: bool, event: Event, known: Selected, sought: Sought) -> Fa
         interface: is_among(survey.existing, question.wIndex),
         survey,
         configuration: sought.configuration,
-        located: located_at(site),
+        located,
     }
 }

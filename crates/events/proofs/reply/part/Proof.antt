@@ -37,10 +37,13 @@ part-spec =
     tie.close
     (tie.spec
     (λ c. search needs)
+    (λ c. search needs)
+    (λ c. search needs)
     add-result
     (λ c. search needs)
     (λ c. search needs)
     part-result-end
+    (λ c. search needs)
     (λ c. search needs)
     (λ c. search needs)
     (λ c. search needs)

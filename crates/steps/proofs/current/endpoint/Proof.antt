@@ -1,16 +1,12 @@
 -- `steps::current::endpoint` meets its contract: by the order of refusals. No axiom.
 use native.Mathlib.Omega.{arith}
-use Prim.Native.Nat.{_≤_}
-use mathlib.Core.Path.{_≡_, sym, _∙_}
-use mathlib.Core.Bool.{true}
-use lib.ListN.{length}
+use mathlib.Core.Path.{sym, _∙_}
 use borrow.Author.Needs.{needs}
 use borrow.Author.Tests.{not-true, not-false}
-use Rattle.descriptors.specs.Cut.{cut, wellCut}
 use Rattle.sets.specs.Opening.{lent}
 use Rattle.steps.specs.Gathering.{viewIn}
 use Rattle.steps.proofs.Configurations.{no-zero, usable}
-use Rattle.steps.proofs.EndpointParts.{set-refused, record-refused, none-elsewhere, answers, begins-inside, body-short, selected-body, fitting}
+use Rattle.steps.proofs.EndpointParts.{set-refused, record-refused, none-elsewhere, answers, ends-inside, selected-body, fitting}
 use Rattle.steps.proofs.current.endpoint.Statement.{statement}
 use Rattle.steps.proofs.current.endpoint.Tie as tie
 
@@ -59,13 +55,10 @@ part-of-requires : tie.Need-part-of-requires
 part-of-requires c κs =
     let start = c .before .before .before .before .before .before .before .before .before .before .before .before .before .before in
     let a = start .args in
-    let b = lent (a .set .now) (a .serial .now) in
     let opens = start .pre (c .before .before .before .before .before .before .before .before .before .before .before .if1 .left) in
-    let body = c .before .before .before .before .before .before .before .before .before .body-found .result .now in
-    let same = selected-body (a .paired) (a .set .now) (a .serial .now) (a .device) (c .before .before .before .before .before .before .before .before .before .before .by-value .ensures) (c .before .before .before .before .before .before .before .before .before .body-found .ensures) in
-    let well : wellCut (cut body) ≡ true = rw same (usable (opens .0) b (λ i. omega (arith, c .before .before .before .before .before .before .before .before .before .before .before .before .before .shared-slice-known .given i)) (opens .1) (a .device .configuration) .whole) in
-    let short : length body ≤ 16384 = rw same (body-short (opens .0) b (opens .1) (a .device .configuration)) in
-    rw (c .find .ensures) (omega (arith, short, begins-inside (a .device .alternates) body well (a .nth)))
+    let entry = c .before .before .before .before .before .before .before .before .before .before .by-value .ensures in
+    let same = selected-body (a .paired) (a .set .now) (a .serial .now) (a .device) entry (c .before .before .before .before .before .before .before .before .before .body-found .ensures) in
+    rw (c .find .ensures, same, entry) (ends-inside (opens .0) (lent (a .set .now) (a .serial .now)) (opens .1) (a .device) (a .nth))
 
 returns-4 : tie.Need-returns-4
 returns-4 c =

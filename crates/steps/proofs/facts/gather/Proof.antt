@@ -4,7 +4,7 @@ use Rattle.steps.proofs.facts.gather.Tie as tie
 use Rattle.steps.proofs.facts.gather.Statement.{statement}
 
 returns : tie.Need-returns
-returns c = rw (c .before .is-among .ensures, c .located-at .ensures, c .before .before .before .question-of .ensures)
+returns c = rw (c .is-among .ensures, c .before .before .question-of .ensures)
 
 pub gather-spec : {M : Type 1} → statement M
-gather-spec = tie.close (tie.spec (λ c κs. search needs) (λ c κs. search needs) (λ c κs. search needs) returns)
+gather-spec = tie.close (tie.spec (λ c κs. search needs) (λ c κs. search needs) returns)
