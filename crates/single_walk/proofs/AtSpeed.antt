@@ -1,8 +1,8 @@
--- Limits that ask of a configuration what those of a speed ask. No axiom.
+-- Limits that ask of a configuration what those of their speed ask. No axiom.
 use Prim.Native.Nat.{ℕ}
 use mathlib.Core.Path.{_≡_, refl, ap}
 use mathlib.Core.List.{List, [], _∷_}
-use mathlib.Core.Bool.{false, _&&_}
+use mathlib.Core.Bool.{_&&_}
 use lib.ListN.{length}
 use Rattle.descriptors.specs.Limits.{fullSpeed, pairedFull}
 use Rattle.descriptors.specs.Cut.{cut, descriptorsOf, wellCut}
@@ -15,6 +15,6 @@ unfolding goodDescriptors
 descriptors-alike size [] = refl
 descriptors-alike size (d ∷ ds) = refl
 
-pub paired-at : AtSpeed pairedFull false
+pub paired-at : AtSpeed pairedFull
 unfolding goodConfiguration
 paired-at body = ap (λ b. wellCut (cut body) && b) (descriptors-alike (length body) (descriptorsOf (cut body)))

@@ -58,13 +58,13 @@ wraps a m l =
     rw e (add-mul-mod-self-left a 256 (m + 1) ∙ mod-eq-of-lt (omega arith))
 
 -- the number of a setting is the one that is asked for
-pub wanted-same : (asked : Asked) (d : List ℕ) → bInterfaceNumber d < 256 → bAlternateSetting d < 256
-    → eqb (word d 2) (wantedOf asked .setting) ≡ isSetting (asked .interface) (asked .alternate) (begunBy d)
-wanted-same asked d i j = cases (eqb (bInterfaceNumber d) (asked .interface))
+pub wanted-same : (high : Bool) (asked : Asked) (d : List ℕ) → bInterfaceNumber d < 256 → bAlternateSetting d < 256
+    → eqb (word d 2) (wantedOf high asked .setting) ≡ isSetting (asked .interface) (asked .alternate) (begunBy d)
+wanted-same high asked d i j = cases (eqb (bInterfaceNumber d) (asked .interface))
     (λ p. let e = eqb-true (bInterfaceNumber d) (asked .interface) p in cases (eqb (bAlternateSetting d) (asked .alternate))
-    (λ q. let f = eqb-true (bAlternateSetting d) (asked .alternate) q in rw (p, q) (eq-eqb (word d 2) (wantedOf asked .setting) (omega arith)))
-    (λ q. let f = eqb-false (bAlternateSetting d) (asked .alternate) q in rw (p, q) (ne-eqb (word d 2) (wantedOf asked .setting) (λ z. f (omega arith)))))
-    (λ p. let e = eqb-false (bInterfaceNumber d) (asked .interface) p in rw p (ne-eqb (word d 2) (wantedOf asked .setting) (λ z. e (omega arith))))
+    (λ q. let f = eqb-true (bAlternateSetting d) (asked .alternate) q in rw (p, q) (eq-eqb (word d 2) (wantedOf high asked .setting) (omega arith)))
+    (λ q. let f = eqb-false (bAlternateSetting d) (asked .alternate) q in rw (p, q) (ne-eqb (word d 2) (wantedOf high asked .setting) (λ z. f (omega arith)))))
+    (λ p. let e = eqb-false (bInterfaceNumber d) (asked .interface) p in rw p (ne-eqb (word d 2) (wantedOf high asked .setting) (λ z. e (omega arith))))
 
 or-true : (b : Bool) → (b || true) ≡ true
 or-true true = refl
@@ -92,7 +92,7 @@ begins-next stand t k p = cases (stand .inside)
     (λ u. let v = eqb-false (t .interface) k u in rw (u, lt-leb k (t .interface) (lt-of-not-le (λ m. v (omega arith))))))
     (λ y. never p (rw (x, y)))))
 
-module _ {alternates : List ℕ} {asked : Asked} {f : Finds} {role : ℕ} {s : Survey} {last : Stand} (g : Found alternates asked f role s last) (d : List ℕ) where
+module _ {alternates : List ℕ} {asked : Asked} {f : Finds} {role : ℕ} {s : Survey} {last : Stand} (high : Bool) (g : Found alternates asked f role s last) (d : List ℕ) where
   module _ (i : isInterface d ≡ true) (low : bInterfaceNumber d < 16) (j : bAlternateSetting d < 256) (may : placed last (begunBy d) ≡ true) where
     abbrev stand : Stand
     stand = record { inside = true; interface = bInterfaceNumber d; alternate = bAlternateSetting d }
@@ -103,8 +103,8 @@ module _ {alternates : List ℕ} {asked : Asked} {f : Finds} {role : ℕ} {s : S
     abbrev asks : Bool
     asks = isSetting (asked .interface) (asked .alternate) (begunBy d)
 
-    same : eqb (word d 2) (wantedOf asked .setting) ≡ asks
-    same = wanted-same asked d (omega arith) j
+    same : eqb (word d 2) (wantedOf high asked .setting) ≡ asks
+    same = wanted-same high asked d (omega arith) j
 
     -- the digits of its number
     number : word d 2 % 256 ≡ bInterfaceNumber d
@@ -113,7 +113,7 @@ module _ {alternates : List ℕ} {asked : Asked} {f : Finds} {role : ℕ} {s : S
     alternate : word d 2 / 256 ≡ bAlternateSetting d
     alternate = omega arith
 
-    role-same : pick here (pick (eqb (bInterfaceNumber d) (asked .interface)) 3 2) (pick (eqb (word d 2) (wantedOf asked .setting)) 1 0) ≡ roleAt alternates asked stand
+    role-same : pick here (pick (eqb (bInterfaceNumber d) (asked .interface)) 3 2) (pick (eqb (word d 2) (wantedOf high asked .setting)) 1 0) ≡ roleAt alternates asked stand
     role-same = ap (λ (b : Bool). pick here (pick (eqb (bInterfaceNumber d) (asked .interface)) 3 2) (pick b 1 0)) same
 
     no-endpoint : isEndpoint d ≡ false
@@ -153,7 +153,7 @@ module _ {alternates : List ℕ} {asked : Asked} {f : Finds} {role : ℕ} {s : S
     told false m true = record { current = g .tells .current; halting = g .tells .halting; bits = g .tells .bits; endpoint = g .tells .endpoint; there = sym (or-true (s .there)) }
     told false m false = record { current = g .tells .current; halting = g .tells .halting; bits = g .tells .bits; endpoint = g .tells .endpoint; there = g .tells .there ∙ sym (or-false (s .there)) }
 
-    pub found-interface : (v : Finds) (r : ℕ) → v ≡ withSetting f (word d 2) (roleOf alternates (wantedOf asked) (word d 2)) (wantedOf asked) → r ≡ roleOf alternates (wantedOf asked) (word d 2)
+    pub found-interface : (v : Finds) (r : ℕ) → v ≡ withSetting f (word d 2) (roleOf alternates (wantedOf high asked) (word d 2)) (wantedOf high asked) → r ≡ roleOf alternates (wantedOf high asked) (word d 2)
         → Found alternates asked v r (onward alternates asked s stand d) stand
     found-interface v r p q = rw (p, q, seen-next, number, alternate) (record {
       tells = rw same (told here (eqb (bInterfaceNumber d) (asked .interface)) asks);
@@ -168,7 +168,7 @@ module _ {alternates : List ℕ} {asked : Asked} {f : Finds} {role : ℕ} {s : S
     current = eqb (last .alternate) (getD alternates (last .interface) 0)
 
     module _ (p : last .inside ≡ true) where
-      first-same : endpointIn (firstFound (f .endpoint) setting d (wantedOf asked)) (asked .address)
+      first-same : endpointIn (firstFound (f .endpoint) setting d (wantedOf high asked)) (asked .address)
           ≡ earlier (s .endpoint) (foundHere (eqb (bEndpointAddress d) (asked .address)) last d)
       first-same = cases (eqb (bEndpointAddress d) (asked .address))
           (λ q. cases (eqb (f .endpoint) 0)
@@ -195,12 +195,12 @@ module _ {alternates : List ℕ} {asked : Asked} {f : Finds} {role : ℕ} {s : S
       role-other : current ≡ false → role ≡ pick (isSetting (asked .interface) (asked .alternate) (settingAt last)) 1 0
       role-other c = g .plays ∙ rw (p, c)
 
-      at-current : current ≡ true → Tells asked (seenAtCurrent asked s last d) (withEndpoint f d setting role (wantedOf asked))
+      at-current : current ≡ true → Tells asked (seenAtCurrent asked s last d) (withEndpoint f d setting role (wantedOf high asked))
       at-current c = rw (role-current c) (cases (eqb (last .interface) (asked .interface))
           (λ q. rw q (record { current = g .tells .current; halting = rw (g .tells .halting); bits = rw (g .tells .bits); endpoint = first-same; there = g .tells .there }))
           (λ q. rw q (record { current = g .tells .current; halting = rw (g .tells .halting); bits = g .tells .bits; endpoint = first-same; there = g .tells .there })))
 
-      at-other : current ≡ false → Tells asked (seenAtOther asked s last d) (withEndpoint f d setting role (wantedOf asked))
+      at-other : current ≡ false → Tells asked (seenAtOther asked s last d) (withEndpoint f d setting role (wantedOf high asked))
       at-other c = rw (role-other c) (cases (isSetting (asked .interface) (asked .alternate) (settingAt last))
           (λ q. rw q (record { current = g .tells .current; halting = g .tells .halting; bits = rw (g .tells .bits); endpoint = g .tells .endpoint; there = g .tells .there }))
           (λ q. rw q (g .tells)))
@@ -208,12 +208,12 @@ module _ {alternates : List ℕ} {asked : Asked} {f : Finds} {role : ℕ} {s : S
     existing-same : onward alternates asked s last d .existing ≡ s .existing
     existing-same = let i : isInterface d ≡ false = ap (λ (n : ℕ). eqb n 4) (eqb-true (byte d 1) 5 k) in rw i
 
-    tells-endpoint : Tells asked (onward alternates asked s last d) (withEndpoint f d setting role (wantedOf asked))
+    tells-endpoint : Tells asked (onward alternates asked s last d) (withEndpoint f d setting role (wantedOf high asked))
     tells-endpoint = cases (last .inside)
         (λ p. cases (eqb (last .alternate) (getD alternates (last .interface) 0))
         (λ c. rw (← current-adds alternates asked s last d k p c) (at-current p c))
         (λ c. rw (← other-adds alternates asked s last d k p c) (at-other p c)))
         (λ p. let z : role ≡ 0 = g .plays ∙ rw p in rw (← outside-adds alternates asked s last d k p, z) (g .tells))
 
-    pub found-endpoint : Found alternates asked (withEndpoint f d setting role (wantedOf asked)) role (onward alternates asked s last d) last
+    pub found-endpoint : Found alternates asked (withEndpoint f d setting role (wantedOf high asked)) role (onward alternates asked s last d) last
     found-endpoint = record { tells = tells-endpoint; plays = g .plays; exists = λ e l. rw existing-same (g .exists e l) }

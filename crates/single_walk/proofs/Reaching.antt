@@ -94,26 +94,26 @@ module _ {limits : Limits} {n : ℕ} {names alternates : List ℕ} {asked : Aske
       gathers = λ _. other-gathers;
     }
 
-  module _ (b2 : byte d 2 < 256) (b3 : byte d 3 < 256) where
+  module _ (high : Bool) (b2 : byte d 2 < 256) (b3 : byte d 3 < 256) where
     gathered-endpoint : isInterface d ≡ false → isEndpoint d ≡ true → listable limits (c .order) d ≡ true
-        → Gathered limits n names alternates asked body from (listedBy (wantedOf asked) c d) end
+        → Gathered limits n names alternates asked body from (listedBy (wantedOf high asked) c d) end
     gathered-endpoint i k may = record {
       w = atEndpoint (g .w) d;
       last = g .last;
       s = seenOn alternates asked (g .s) (g .last) d;
       reached = reached-endpoint alone (g .reached) h two end e l b2 b3 i k may;
-      finds = found-endpoint (g .finds) d k b2 b3 (c .order .last) (g .reached .models .inside);
+      finds = found-endpoint high (g .finds) d k b2 b3 (c .order .last) (g .reached .models .inside);
       gathers = λ _. rw (stands-on i) at seen-next;
     }
 
-    gathered-interface : isInterface d ≡ true → begins (c .order) (word d 2) d ≡ true → (next : Course) → StartedBy names alternates (wantedOf asked) c (word d 2) d next
+    gathered-interface : isInterface d ≡ true → begins (c .order) (word d 2) d ≡ true → (next : Course) → StartedBy names alternates (wantedOf high asked) c (word d 2) d next
         → Gathered limits n names alternates asked body from next end
     gathered-interface i may next t = record {
       w = checkedOn (g .w) (g .last) stand d;
       last = stand;
       s = seenOn alternates asked (g .s) stand d;
       reached = rw still (reached-interface alone (g .reached) h two end e l b2 b3 i may (next .order) (t .order));
-      finds = rw (stands-new i) (found-interface (g .finds) d i (low alone (g .reached) h two end e l b2 b3 i may) b3 (may-stand alone (g .reached) h two end e l b2 b3 i may) (next .finds) (next .role) (t .finds) (t .role));
+      finds = rw (stands-new i) (found-interface high (g .finds) d i (low alone (g .reached) h two end e l b2 b3 i may) b3 (may-stand alone (g .reached) h two end e l b2 b3 i may) (next .finds) (next .role) (t .finds) (t .role));
       gathers = λ _. seen-next;
     }
       where
@@ -125,7 +125,7 @@ module _ {limits : Limits} {n : ℕ} {names alternates : List ℕ} {asked : Aske
         still = rw (t .refers) (one (has names (iInterface d)) (c .refers))
 
     -- any descriptor that may come
-    pub gathered-turn : {setting : ℕ} {turned : Turned} → setting ≡ settingAfter (c .order .last) d → Turns limits names alternates (wantedOf asked) c setting d turned → turned .good ≡ true
+    pub gathered-turn : {setting : ℕ} {turned : Turned} → setting ≡ settingAfter (c .order .last) d → Turns limits names alternates (wantedOf high asked) c setting d turned → turned .good ≡ true
         → Gathered limits n names alternates asked body from (turned .course) end
     gathered-turn {setting} {turned} told t good =
         let p = sym (t .may) ∙ good in

@@ -33,8 +33,9 @@ abbrev pub limitsAt : Bool → Limits
 limitsAt high = pick high highSpeed fullSpeed
 
 -- ---- what is asked: both numbers of a setting in one, which is a descriptor's two bytes if these are the numbers, and else none's
-abbrev pub wantedOf : Asked → Wanted
-wantedOf asked = record {
+abbrev pub wantedOf : Bool → Asked → Wanted
+wantedOf high asked = record {
+  high = high;
   address = asked .address;
   interface = asked .interface;
   setting = asked .interface % 256 + 256 * asked .alternate + 16777216 * (asked .interface / 256);
@@ -121,14 +122,17 @@ pub record Turns (limits : Limits) (names alternates : List ℕ) (wanted : Wante
   pub passes : isInterface d ≡ false → isEndpoint d ≡ false → r .course ≡ c
 
 -- ---- the whole walk
--- what is asked of its call: the body is short enough that no place overflows; number 0 is a name
-pub record Ready (names body : List ℕ) (n from : ℕ) : Type 0 where
+-- what is asked of its call: the body is short enough that no place overflows; number 0 is a name; what is wanted is something that is asked
+pub record Ready (names body : List ℕ) (n from : ℕ) (wanted : Wanted) : Type 0 where
   pub short : length body ≤ 65535
   pub some-bytes : 1 ≤ length body
   pub inside : from ≤ length body
   pub one : 1 ≤ n
   pub few : n ≤ 16
   pub zero : has names 0 ≡ true
+  pub high : Bool
+  pub asked : Asked
+  pub made : wanted ≡ wantedOf high asked
 
 -- what is found says what a survey says, but for the interfaces that exist
 pub record Tells (asked : Asked) (s : Survey) (f : Finds) : Type 0 where

@@ -1,11 +1,13 @@
 -- Working definitions for the contracts of opening with what an event asks; no promise cites them.
 use Prim.Native.Nat.{ℕ}
 use mathlib.Core.Path.{_≡_}
-use mathlib.Core.Bool.{Bool, true, _&&_, not}
+use mathlib.Core.Bool.{Bool, true, false, _&&_, not}
 use mathlib.Core.List.{List}
 use lib.Dec.{eqb, leb}
 use Rattle.octets.specs.Sentences.{every}
 use Rattle.descriptors.specs.declared.limits.Limits.{Limits}
+use Rattle.descriptors.specs.declared.limits.Speed.{Speed}
+use Rattle.descriptors.specs.declared.limits.Speed.the-variants.{Full, High, Super}
 use Rattle.descriptors.specs.declared.survey.Asked.{Asked}
 use Rattle.descriptors.specs.Check.{verdict, configurationRefers}
 use Rattle.descriptors.specs.Configuration.{configurationOf, goodConfiguration}
@@ -24,9 +26,14 @@ use Rattle.single_walk.specs.declared.pass.Passed.{Passed}
 abbrev pub numbered : Entry → ℕ → ℕ → Bool → Bool
 numbered e n value seen = eqb (e .index) n && eqb (e .language) 0 && leb 1 value && not seen
 
--- limits that ask of a configuration what those of a speed ask
-abbrev pub AtSpeed : Limits → Bool → Type 0
-AtSpeed limits high = (body : List ℕ) → goodConfiguration limits body ≡ goodConfiguration (limitsAt high) body
+abbrev pub isHigh : Speed → Bool
+isHigh Full = false
+isHigh High = true
+isHigh Super = false
+
+-- limits that ask of a configuration what those of their speed ask, full or high
+abbrev pub AtSpeed : Limits → Type 0
+AtSpeed limits = (body : List ℕ) → goodConfiguration limits body ≡ goodConfiguration (limitsAt (isHigh (limits .speed))) body
 
 -- one walk through a body: the verdict of the check, and of a good body that is selected what is asked of it
 pub record Walks (selected : Bool) (limits : Limits) (names alternates : List ℕ) (asked : Asked) (body : List ℕ) (r : Collected) : Type 0 where

@@ -106,7 +106,8 @@ pub fn collect(
     let head = &body[..end];
     if good_head(head, body.len()) {
         let interfaces = octets::peek(head, 4);
-        let walked = walk::rest(body, end, interfaces, high, names, alternates, asked);
+        let wanted = walk::wanted_of(high, asked);
+        let walked = walk::rest(body, end, interfaces, names, alternates, wanted);
         let named = walked.refers & holds(names, octets::peek(body, 6));
         let finds = walked.finds;
         return Collected {

@@ -10,6 +10,7 @@ use descriptors::limits::Limits;
 use descriptors::survey::Asked;
 use events::Answer;
 use events::Event;
+use records::Device;
 use sets::opening::Begun;
 use sets::opening::DONE;
 use steps::facts;
@@ -80,17 +81,16 @@ fn finish(
     sets::opening::last_groups(set, serial, configurations, strings, names, device)
 }
 
-// Opening by these limits, at full or at high speed, with what is asked of the configuration that has this value, at these alternate settings.
-pub fn open_set(
+// Opening by these limits, those of full or of high speed, with what is asked of the configuration that has this value, at these alternate settings.
+fn open_set(
     set: &[u8],
     serial: &[u8],
     limits: Limits,
-    high: bool,
     value: ConfigurationValue,
     alternates: &[u8; 16],
     asked: Asked,
 ) -> Opened
-    requires { ⌜ AtSpeed limits high ⌝ }
+    requires { ⌜ AtSpeed limits ⌝ }
     ensures { λ r. ⌜ Tells (opening limits (lent (now (set .entry)) (now (serial .entry)))) (now (set .entry)) (value .0) (now (alternates .entry)) asked r ⌝ }
 {
     let begun = begin(set, limits);
@@ -99,7 +99,7 @@ pub fn open_set(
     }
     let mut names = [0u32; 8];
     let strings = read_strings(set, begun.bare, &mut names);
-    let passed = pass::configurations(set, limits, high, &names, value, alternates, asked);
+    let passed = pass::configurations(set, limits, &names, value, alternates, asked);
     let verdict = passed.verdict;
     let known = passed.known;
     Opened {
@@ -117,15 +117,8 @@ pub fn react(set: &[u8], serial: &[u8], image: &mut [u8], event: Event) -> Answe
     let alternates = device.alternates;
     let value = ConfigurationValue(device.configuration);
     let asked = facts::asked_of(event);
-    let opened = open_set(
-        set,
-        serial,
-        descriptors::limits::full_speed(),
-        false,
-        value,
-        &alternates,
-        asked,
-    );
+    let limits = descriptors::limits::full_speed();
+    let opened = open_set(set, serial, limits, value, &alternates, asked);
     let known = opened.known;
     let sought = facts::seek(opened.number, set, serial, event);
     steps::react(opened.number, false, image, event, known, sought)
@@ -142,7 +135,7 @@ fn open_full(
     ensures { λ r. ⌜ Tells (opening pairedFull (lent (now (full .entry)) (now (serial .entry)))) (now (full .entry)) (value .0) (now (alternates .entry)) asked r ⌝ }
 {
     let limits = descriptors::limits::paired_full();
-    open_set(full, serial, limits, false, value, alternates, asked)
+    open_set(full, serial, limits, value, alternates, asked)
 }
 
 fn open_high(
@@ -155,7 +148,7 @@ fn open_high(
     ensures { λ r. ⌜ Tells (opening highSpeed (lent (now (high .entry)) (now (serial .entry)))) (now (high .entry)) (value .0) (now (alternates .entry)) asked r ⌝ }
 {
     let limits = descriptors::limits::high_speed();
-    open_set(high, serial, limits, true, value, alternates, asked)
+    open_set(high, serial, limits, value, alternates, asked)
 }
 
 // Opening two sets: the number, and if that is 0 what was collected of the set that this speed chooses.
@@ -164,17 +157,18 @@ fn open_two(
     high: &[u8],
     serial: &[u8],
     speed: u8,
-    value: ConfigurationValue,
-    alternates: &[u8; 16],
+    device: Device,
     asked: Asked,
 ) -> Opened
-    ensures { λ r. ⌜ Tells (openingTwo (now (full .entry)) (now (high .entry)) (now (serial .entry))) (pick (eqb speed 0) (now (full .entry)) (now (high .entry))) (value .0) (now (alternates .entry)) asked r ⌝ }
+    ensures { λ r. ⌜ Tells (openingTwo (now (full .entry)) (now (high .entry)) (now (serial .entry))) (pick (eqb speed 0) (now (full .entry)) (now (high .entry))) (device .configuration) (device .alternates) asked r ⌝ }
 {
-    let slow = open_full(full, serial, value, alternates, asked);
+    let alternates = device.alternates;
+    let value = ConfigurationValue(device.configuration);
+    let slow = open_full(full, serial, value, &alternates, asked);
     if slow.number != DONE {
         return slow;
     }
-    let fast = open_high(high, serial, value, alternates, asked);
+    let fast = open_high(high, serial, value, &alternates, asked);
     if fast.number != DONE {
         return fast;
     }
@@ -200,10 +194,8 @@ pub fn react_two<'a>(
     ensures image { λ _. ⌜ now (image .exit) ≡ eventIn (openingTwo (now (full .entry)) (now (high .entry)) (now (serial .entry))) (viewIn true (pick (eqb speed 0) (now (full .entry)) (now (high .entry))) (now (serial .entry))) (now (image .entry)) event .image ⌝ }
 {
     let device = records::read(image);
-    let alternates = device.alternates;
-    let value = ConfigurationValue(device.configuration);
     let asked = facts::asked_of(event);
-    let opened = open_two(full, high, serial, speed, value, &alternates, asked);
+    let opened = open_two(full, high, serial, speed, device, asked);
     let set = steps::in_use(full, high, speed);
     let known = opened.known;
     let sought = facts::seek(opened.number, set, serial, event);

@@ -4,6 +4,7 @@ use crate::collect::collect;
 use descriptors::ConfigurationValue;
 use descriptors::check::Verdict;
 use descriptors::limits::Limits;
+use descriptors::limits::Speed;
 use descriptors::survey::Asked;
 use descriptors::types::CONFIGURATION;
 use octets::table::holds;
@@ -18,7 +19,7 @@ ghost use mathlib.Core.Bool.{true, false};
 ghost use Rattle.octets.specs.Table.{has};
 ghost use Rattle.sets.specs.Checks.{Begins};
 ghost use Rattle.sets.specs.Found.{canWake};
-ghost use Rattle.single_walk.specs.Passes.{AtSpeed, numbered, Walks, Passes};
+ghost use Rattle.single_walk.specs.Passes.{isHigh, AtSpeed, numbered, Walks, Passes};
 
 // Whether the configurations are good and refer to strings that are there, and what is known of them if they are good.
 pub struct Passed {
@@ -49,21 +50,32 @@ fn refuse() -> Passed
     }
 }
 
+// Whether these limits are those of high speed.
+fn is_high(limits: Limits) -> bool
+    ensures { λ r. ⌜ r ≡ isHigh (limits .speed) ⌝ }
+{
+    let speed = limits.speed;
+    match speed {
+        Speed::Full => false,
+        Speed::High => true,
+        Speed::Super => false,
+    }
+}
+
 // A body, walked through once: of the selected one what is asked is collected, the others are checked.
 fn walk_once(
     body: &[u8],
     selected: bool,
     limits: Limits,
-    high: bool,
     names: &[u32; 8],
     alternates: &[u8; 16],
     asked: Asked,
 ) -> Collected
-    requires { ⌜ AtSpeed limits high × (has (now names) 0 ≡ true) ⌝ }
+    requires { ⌜ AtSpeed limits × (has (now names) 0 ≡ true) ⌝ }
     ensures { λ r. ⌜ Walks selected limits (now (names .entry)) (now (alternates .entry)) asked (now (body .entry)) r ⌝ }
 {
     if selected {
-        return collect(body, high, names, alternates, asked);
+        return collect(body, is_high(limits), names, alternates, asked);
     }
     let verdict = descriptors::check::good_configuration(body, limits, names);
     let nothing = nothing_known();
@@ -75,13 +87,12 @@ fn walk_once(
 pub fn configurations(
     set: &[u8],
     limits: Limits,
-    high: bool,
     names: &[u32; 8],
     value: ConfigurationValue,
     alternates: &[u8; 16],
     asked: Asked,
 ) -> Passed
-    requires { ⌜ AtSpeed limits high × (has (now names) 0 ≡ true) × Begins limits (now set) ⌝ }
+    requires { ⌜ AtSpeed limits × (has (now names) 0 ≡ true) × Begins limits (now set) ⌝ }
     ensures { λ r. ⌜ Passes limits (now (set .entry)) (now (names .entry)) (value .0) (now (alternates .entry)) asked r ⌝ }
 {
     let count = octets::peek(set, 2);
@@ -99,11 +110,10 @@ pub fn configurations(
         if e.kind == CONFIGURATION {
             let body = body_whole(set, e);
             let here = octets::peek(body, 5);
-            let again = holds(&seen, here);
             let selected = (here == value.0) & !configured;
-            let collected = walk_once(body, selected, limits, high, names, alternates, asked);
+            let collected = walk_once(body, selected, limits, names, alternates, asked);
             let verdict = collected.verdict;
-            if !(is_numbered(e, index, here, again) & verdict.good) {
+            if !(is_numbered(e, index, here, holds(&seen, here)) & verdict.good) {
                 return refuse();
             }
             waking = waking | can_wake(body);
@@ -116,12 +126,11 @@ pub fn configurations(
             index += 1;
         }
     }
-    Passed {
-        verdict: Verdict { good: true, refers },
-        known: Selected {
-            configured,
-            waking,
-            survey,
-        },
-    }
+    let known = Selected {
+        configured,
+        waking,
+        survey,
+    };
+    let verdict = Verdict { good: true, refers };
+    Passed { verdict, known }
 }

@@ -9,17 +9,19 @@ use descriptors::survey::Asked;
 use descriptors::types;
 use octets::table::holds;
 ghost use mathlib.Core.Path.{_≡_};
-ghost use mathlib.Core.Bool.{true};
+ghost use mathlib.Core.Bool.{Bool, true, _&&_};
 ghost use Prim.Native.Nat.{_%_, _<_};
 ghost use lib.Dec.{eqb};
 ghost use Rattle.octets.specs.Bit.{setBit};
 ghost use Rattle.octets.specs.Sentences.{pick};
 ghost use Rattle.octets.specs.Table.{has};
-ghost use Rattle.descriptors.specs.Sequence.{Low, goodKind, listable};
+ghost use Rattle.descriptors.specs.declared.survey.Asked.{Asked};
+ghost use Rattle.descriptors.specs.Sequence.{Low, nextOf, goodKind, listable};
 ghost use Rattle.single_walk.specs.Course.{limitsAt, wantedOf, roleOf, withSetting, firstFound, atOther, atCurrent, withEndpoint, settingOut, Starts, Lists, Turns, Ready, Rests};
 
-// What is asked, as the walk compares it: an address, an interface, and a setting by one number.
+// What is asked, as the walk compares it: whether at high speed, an address, an interface, and a setting by one number.
 pub struct Wanted {
+    pub high: bool,
     pub address: u32,
     pub interface: u32,
     pub setting: u32,
@@ -55,11 +57,12 @@ pub struct Walked {
     pub finds: Finds,
 }
 
-pub fn wanted_of(asked: Asked) -> Wanted
-    ensures { λ r. ⌜ r ≡ wantedOf asked ⌝ }
+pub fn wanted_of(high: bool, asked: Asked) -> Wanted
+    ensures { λ r. ⌜ r ≡ wantedOf high asked ⌝ }
 {
     let interface = asked.interface as u32;
     Wanted {
+        high,
         address: asked.address as u32,
         interface,
         setting: interface % 256 + 256 * asked.alternate as u32 + 16777216 * (interface / 256),
@@ -239,13 +242,13 @@ fn with_endpoint(finds: Finds, d: &[u8], setting: u32, role: u32, wanted: Wanted
 }
 
 // An endpoint descriptor.
-fn list(d: &[u8], course: Course, high: bool, wanted: Wanted) -> Turned
+fn list(d: &[u8], course: Course, wanted: Wanted) -> Turned
     requires { ⌜ Low (course .order .last) ⌝ }
-    ensures { λ r. ⌜ Lists (limitsAt high) wanted course (now (d .entry)) r ⌝ }
+    ensures { λ r. ⌜ Lists (limitsAt (wanted .high)) wanted course (now (d .entry)) r ⌝ }
 {
     let order = course.order;
     let finds = course.finds;
-    if may_list(d, order, high) {
+    if may_list(d, order, wanted.high) {
         return Turned {
             good: true,
             course: Course {
@@ -301,17 +304,16 @@ fn turn(
     d: &[u8],
     setting: u32,
     course: Course,
-    high: bool,
     names: &[u32; 8],
     alternates: &[u8; 16],
     wanted: Wanted,
 ) -> Turned
     requires { ⌜ Low (course .order .last) × (has (now names) 0 ≡ true) ⌝ }
-    ensures { λ r. ⌜ Turns (limitsAt high) (now (names .entry)) (now (alternates .entry)) wanted course setting (now (d .entry)) r ⌝ }
+    ensures { λ r. ⌜ Turns (limitsAt (wanted .high)) (now (names .entry)) (now (alternates .entry)) wanted course setting (now (d .entry)) r ⌝ }
 {
     let t = octets::peek(d, 1);
     if t == types::ENDPOINT {
-        return list(d, course, high, wanted);
+        return list(d, course, wanted);
     }
     if t == types::INTERFACE {
         return start(d, setting, course, names, alternates, wanted);
@@ -322,13 +324,14 @@ fn turn(
     }
 }
 
-// How the walk ends: `ends` is whether the body may end so.
-fn told(course: Course, ends: bool) -> Walked
-    ensures { λ r. ⌜ (r .good ≡ ends) × (r .refers ≡ eqb (course .refers) 1) × (r .finds ≡ course .finds) ⌝ }
+// How the walk ends, for so many interfaces: `whole` is whether it came to the body's end.
+fn told(course: Course, whole: bool, interfaces: u8) -> Walked
+    ensures { λ r. ⌜ (r .good ≡ (whole && eqb (nextOf (course .order .last)) interfaces && eqb (course .order .coming) 0)) × (r .refers ≡ eqb (course .refers) 1) × (r .finds ≡ course .finds) ⌝ }
 {
+    let order = course.order;
     let finds = course.finds;
     Walked {
-        good: ends,
+        good: whole & (sequence::next_of(order.last) == interfaces as u32) & (order.coming == 0),
         refers: course.refers == 1,
         finds,
     }
@@ -340,15 +343,14 @@ pub fn rest(
     body: &[u8],
     from: usize,
     interfaces: u8,
-    high: bool,
     names: &[u32; 8],
     alternates: &[u8; 16],
-    asked: Asked,
+    wanted: Wanted,
 ) -> Walked
-    requires { ⌜ Ready (now names) (now body) interfaces from ⌝ }
-    ensures { λ r. ⌜ Rests (limitsAt high) (now (names .entry)) (now (alternates .entry)) asked (now (body .entry)) interfaces from r ⌝ }
+    requires { ⌜ Ready (now names) (now body) interfaces from wanted ⌝ }
+    ensures { λ r. ⌜ ((high : Bool) (asked : Asked) → wanted ≡ wantedOf high asked
+        → Rests (limitsAt high) (now (names .entry)) (now (alternates .entry)) asked (now (body .entry)) interfaces from r) ⌝ }
 {
-    let wanted = wanted_of(asked);
     let mut course = set_out();
     let mut at = from;
     let last = body.len() - 1;
@@ -374,7 +376,6 @@ pub fn rest(
             &body[at..next],
             step.setting,
             course,
-            high,
             names,
             alternates,
             wanted,
@@ -386,9 +387,5 @@ pub fn rest(
         course = turned.course;
         at = next;
     }
-    let order = course.order;
-    let ends = (at == body.len())
-        & (sequence::next_of(order.last) == interfaces as u32)
-        & (order.coming == 0);
-    told(course, ends)
+    told(course, at == body.len(), interfaces)
 }

@@ -56,35 +56,38 @@ slice-aggregate-head c = sym (length-take-le _ _ (head-inside (c .before .before
 
 rest-requires : tie.Need-rest-requires
 rest-requires c κs =
-    let a = c .before .before .before .before .before .before .before .args in
+    let a = c .before .before .before .before .before .before .before .before .args in
     let body = a .body .now in
-    let end = c .before .before .before .before .before .advance .result .end in
-    let inside = head-inside body _ (stepped (c .before .before .before .before .before)) (went (c .before .before .before .before)) in
-    let small = head-small (c .before .before) (c .before .if2 .taken) in
+    let end = c .before .before .before .before .before .before .advance .result .end in
+    let inside = head-inside body _ (stepped (c .before .before .before .before .before .before)) (went (c .before .before .before .before .before)) in
+    let small = head-small (c .before .before .before) (c .before .before .if2 .taken) in
     record {
       short = small .0;
-      some-bytes = omega (arith, inside, went (c .before .before .before .before));
+      some-bytes = omega (arith, inside, went (c .before .before .before .before .before));
       inside = inside;
-      one = rw (c .peek .ensures) (small .1);
-      few = rw (c .peek .ensures) (small .2);
-      zero = c .before .before .before .before .before .before .before .pre;
+      one = rw (c .before .peek .ensures) (small .1);
+      few = rw (c .before .peek .ensures) (small .2);
+      zero = c .before .before .before .before .before .before .before .before .pre;
+      high = a .high;
+      asked = a .asked;
+      made = c .wanted-of .ensures;
     }
 
 survey-of-requires : tie.Need-survey-of-requires
-survey-of-requires c κs = rw (c .before .before .before .before .before .before .peek .ensures) (head-small (c .before .before .before .before .before .before .before .before) (c .before .before .before .before .before .before .before .if2 .taken) .2)
+survey-of-requires c κs = rw (c .before .before .before .before .before .before .before .peek .ensures) (head-small (c .before .before .before .before .before .before .before .before .before) (c .before .before .before .before .before .before .before .before .if2 .taken) .2)
 
 returns-2 : tie.Need-returns-2
 returns-2 c =
-    let a = c .before .before .before .before .before .before .before .before .before .before .before .before .before .before .args in
+    let a = c .before .before .before .before .before .before .before .before .before .before .before .before .before .before .before .args in
     let body = a .body .now in
-    let rests = c .before .before .before .before .before .before .rest .ensures in
-    let good : c .before .before .before .before .before .before .rest .result .good ≡ goodConfiguration (limitsAt (a .high)) body = (rw (c .before .before .before .before .before .before .before .peek .ensures) at (rests .good)) ∙ sym (checked (c .before .before .before .before .before .before .before .before .before) (c .before .before .before .before .before .before .before .before .if2 .taken)) in
+    let rests = c .before .before .before .before .before .before .rest .ensures (a .high) (a .asked) (c .before .before .before .before .before .before .before .wanted-of .ensures) in
+    let good : c .before .before .before .before .before .before .rest .result .good ≡ goodConfiguration (limitsAt (a .high)) body = (rw (c .before .before .before .before .before .before .before .before .peek .ensures) at (rests .good)) ∙ sym (checked (c .before .before .before .before .before .before .before .before .before .before) (c .before .before .before .before .before .before .before .before .before .if2 .taken)) in
     record {
       verdict =
-          rw (references-behind (has (a .names .now)) body _ (stepped (c .before .before .before .before .before .before .before .before .before .before .before .before)) (went (c .before .before .before .before .before .before .before .before .before .before .before)), c .before .before .before .before .holds .ensures, c .before .before .before .before .before .peek2 .ensures)
+          rw (references-behind (has (a .names .now)) body _ (stepped (c .before .before .before .before .before .before .before .before .before .before .before .before .before)) (went (c .before .before .before .before .before .before .before .before .before .before .before .before)), c .before .before .before .before .holds .ensures, c .before .before .before .before .before .peek2 .ensures)
           (same-verdict (c .before .before .before .before .before .before .rest .result .good) (c .before .before .before .before .before .before .rest .result .refers) _ good (rests .refers));
       surveyed = λ g. surveys-found
-          (surveys (a .alternates .now) (a .asked) (at-first body _ (good-cut (limitsAt (a .high)) body (sym good ∙ g)) (first-ends body _ (stepped (c .before .before .before .before .before .before .before .before .before .before .before .before)) (went (c .before .before .before .before .before .before .before .before .before .before .before)))) refl)
+          (surveys (a .alternates .now) (a .asked) (at-first body _ (good-cut (limitsAt (a .high)) body (sym good ∙ g)) (first-ends body _ (stepped (c .before .before .before .before .before .before .before .before .before .before .before .before .before)) (went (c .before .before .before .before .before .before .before .before .before .before .before .before)))) refl)
           (rests .tells g)
           (rests .exists g)
           (c .survey-of .ensures);
@@ -101,6 +104,7 @@ collect-spec =
     (λ c κs. search needs)
     returns
     slice-aggregate-head
+    (λ c κs. search needs)
     (λ c κs. search needs)
     (λ c κs. search needs)
     rest-requires

@@ -30,13 +30,13 @@ use Rattle.single_walk.proofs.pass.configurations.Statement.{statement}
 use Rattle.single_walk.proofs.pass.configurations.Tie as tie
 
 abbrev Inv-loop : tie.InvT-loop
-Inv-loop set limits high names value alternates asked count index₀ seen₀ refers₀ survey₀ configured₀ waking₀ i₀ index seen refers survey configured waking i =
+Inv-loop set limits names value alternates asked count index₀ seen₀ refers₀ survey₀ configured₀ waking₀ i₀ index seen refers survey configured waking i =
     (index ≤ i) × (length seen ≡ 8) × (goodConfigurations limits (piecesIn set) ≡ goodFrom limits index seen (map (pieceFor set) (restOf 2 set i)))
     × (every (configurationRefers names) (bodies 2 set) ≡ (refers && every (configurationRefers names) (map (bodyOf set) (restOf 2 set i))))
     × Learnt set (value .0) alternates asked (record { configured = configured; waking = waking; survey = survey }) (restOf 2 set i)
 
 abbrev μ-loop : tie.MeasureT-loop
-μ-loop set limits high names value alternates asked count index₀ seen₀ refers₀ survey₀ configured₀ waking₀ i₀ index seen refers survey configured waking i = count - i
+μ-loop set limits names value alternates asked count index₀ seen₀ refers₀ survey₀ configured₀ waking₀ i₀ index seen refers survey configured waking i = count - i
 
 -- a value is a byte
 small : (c : tie.After-peek2 Inv-loop μ-loop) → bConfigurationValue (bodyOf (c .before .before .before .before .before .before .before .before .before .before .before .args .set .now) (c .before .before .before .before .entry-whole .result)) < 256
@@ -48,13 +48,13 @@ judged : (c : tie.After-is-numbered Inv-loop μ-loop)
     let l = c .before .before .before .before .before .before .before .before .before .before .before .before .loop in
     let e = c .before .before .before .before .before .before .before .before .before .before .entry-whole .result in
     let body = bodyOf (a .set .now) e in
-    (c .is-numbered .result && c .before .before .walk-once .result .verdict .good) ≡ goodNumbered (a .limits) e (l .index) body (has (l .seen) (bConfigurationValue body))
+    (c .is-numbered .result && c .before .before .before .before .walk-once .result .verdict .good) ≡ goodNumbered (a .limits) e (l .index) body (has (l .seen) (bConfigurationValue body))
 judged c =
     let a = c .before .before .before .before .before .before .before .before .before .before .before .before .before .before .before .before .before .args in
     let l = c .before .before .before .before .before .before .before .before .before .before .before .before .loop in
     let e = c .before .before .before .before .before .before .before .before .before .before .entry-whole .result in
-    let n = rw (c .before .before .before .before .holds .ensures, c .before .before .before .before .before .before .peek2 .ensures, c .before .before .before .before .before .before .before .body-whole .ensures) at (c .is-numbered .ensures) in
-    let g = ap (λ v. v .good) (c .before .before .walk-once .ensures .verdict) ∙ ap (goodConfiguration (a .limits)) (c .before .before .before .before .before .before .before .body-whole .ensures) in
+    let n = rw (c .before .holds .ensures, c .before .before .before .before .before .before .peek2 .ensures, c .before .before .before .before .before .before .before .body-whole .ensures) at (c .is-numbered .ensures) in
+    let g = ap (λ v. v .good) (c .before .before .before .before .walk-once .ensures .verdict) ∙ ap (goodConfiguration (a .limits)) (c .before .before .before .before .before .before .before .body-whole .ensures) in
     rw (n, g) (taken-apart (a .limits) e (l .index) (bodyOf (a .set .now) e) (has (l .seen) (bConfigurationValue (bodyOf (a .set .now) e))))
 
 loop-holds : tie.Need-loop-holds Inv-loop μ-loop
@@ -82,7 +82,7 @@ body-whole-requires c κs =
     laid-inside (a .limits) (a .set .now) (met .frame) (met .contents) (s .entry-whole .result) (rw (← s .entry-whole .ensures) at (entry-member (a .set .now) (c .before .before .before .before .loop .i) (rw (c .before .before .before .before .before .before .before .peek .ensures) at (c .before .before .before .loop-test .taken))))
 
 walk-once-requires : tie.Need-walk-once-requires Inv-loop μ-loop
-walk-once-requires c κs = let p = c .before .before .before .before .before .before .before .before .before .before .before .before .before .before .pre in (p .0, p .1)
+walk-once-requires c κs = let p = c .before .before .before .before .before .before .before .before .before .before .before .before .pre in (p .0, p .1)
 
 returns : tie.Need-returns Inv-loop μ-loop
 returns c =
@@ -96,7 +96,7 @@ returns c =
           (sym
           (asked-here 2 (λ es. goodFrom (a .limits) (l .index) (l .seen) (map (pieceFor (a .set .now)) es)) (a .set .now) _ (c .before .before .before .before .before .before .before .before .before .before .before .before .before .before .before .before .before .before .peek .ensures) (l .i) (l .inv .2) (c .before .before .before .before .before .before .before .before .before .before .before .before .before .before .loop-test .taken) _ (s .entry-whole .ensures) (c .before .before .before .before .before .before .before .before .before .before .before .if1 .taken)
           ∙ good-more (a .limits) (l .index) (l .seen) (s .entry-whole .result) (bodyOf (a .set .now) (s .entry-whole .result)) _ (small (c .before .before .before .before .before .before .before .before .before)) (l .inv .1)
-          ∙ rw (sym (judged v), not-true (v .is-numbered .result && c .before .before .before .before .before .walk-once .result .verdict .good) (c .before .if2 .taken))));
+          ∙ rw (sym (judged v), not-true (v .is-numbered .result && c .before .before .before .before .before .before .before .walk-once .result .verdict .good) (c .before .if2 .taken))));
       known = λ g. absurd (false≢true (sym (ap (λ v. v .good) (c .refuse .ensures)) ∙ g));
     }
 
@@ -107,8 +107,8 @@ loop-less : tie.Need-loop-less Inv-loop μ-loop
 loop-less c = let t = c .before .before .before .before .before .before .before .before .before .before .before .before .before .before .before .before .before .before .loop-test .taken in omega arith
 
 -- a good entry: both tests were true
-passed : (c : tie.Else2 Inv-loop μ-loop) → (c .before .before .is-numbered .result && c .before .before .before .before .walk-once .result .verdict .good) ≡ true
-passed c = not-false (c .before .before .is-numbered .result && c .before .before .before .before .walk-once .result .verdict .good) (c .if2 .left)
+passed : (c : tie.Else2 Inv-loop μ-loop) → (c .before .before .is-numbered .result && c .before .before .before .before .before .before .walk-once .result .verdict .good) ≡ true
+passed c = not-false (c .before .before .is-numbered .result && c .before .before .before .before .before .before .walk-once .result .verdict .good) (c .if2 .left)
 
 -- what is known after it
 learns : (c : tie.Joined3 Inv-loop μ-loop)
@@ -116,14 +116,14 @@ learns : (c : tie.Joined3 Inv-loop μ-loop)
     let l = c .before .before .before .before .before .before .before .before .before .before .before .before .before .before .before .before .loop in
     let w = c .before .can-wake .result in
     _≡_ {A = Selected} (record { configured = c .if3 .configured; waking = l .waking || w; survey = c .if3 .survey })
-    (learned (record { configured = l .configured; waking = l .waking; survey = l .survey }) w (eqb (c .before .before .before .before .before .before .before .before .before .before .peek2 .result) (a .value .0)) (c .before .before .before .before .before .before .walk-once .result .survey))
+    (learned (record { configured = l .configured; waking = l .waking; survey = l .survey }) w (eqb (c .before .before .before .before .before .before .before .before .before .before .peek2 .result) (a .value .0)) (c .before .before .before .before .before .before .before .before .walk-once .result .survey))
 learns c = ⊎-elim (λ w. rw (w .0 .taken, w .2, w .3)) (λ w. rw (w .0 .left, w .1, w .2)) (c .if3 .came)
 
 loop-again : tie.Need-loop-again Inv-loop μ-loop
 loop-again c =
     let v = c .before .before .before .before .before .before .before in
     let s = c .before .before .before .before .before .before .before .before .before .before .before .before .before .before .before .before .before in
-    let walked = c .before .before .before .before .before .before .before .before .before .walk-once in
+    let walked = c .before .before .before .before .before .before .before .before .before .before .before .walk-once in
     let body = c .before .before .before .before .before .before .before .before .before .before .before .before .before .before .body-whole .ensures in
     let a = c .before .before .before .before .before .before .before .before .before .before .before .before .before .before .before .before .before .before .before .before .before .before .before .before .args in
     let l = c .before .before .before .before .before .before .before .before .before .before .before .before .before .before .before .before .before .before .before .loop in
@@ -188,8 +188,8 @@ configurations-spec =
     (λ c. search needs)
     body-whole-requires
     (λ c κs. search needs)
-    (λ c κs. search needs)
     walk-once-requires
+    (λ c κs. search needs)
     (λ c κs. search needs)
     (λ c κs. search needs)
     returns

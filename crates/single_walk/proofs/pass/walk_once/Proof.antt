@@ -7,14 +7,15 @@ use Rattle.single_walk.proofs.pass.walk_once.Statement.{statement}
 use Rattle.single_walk.proofs.pass.walk_once.Tie as tie
 
 collect-requires : tie.Need-collect-requires
-collect-requires c κs = c .before .before .pre .1
+collect-requires c κs = c .before .before .before .pre .1
 
 returns : tie.Need-returns
 returns c =
-    let a = c .before .before .before .args in
+    let a = c .before .before .before .before .args in
+    let collects = rw (c .before .is-high .ensures) at (c .collect .ensures) in
     record {
-      verdict = c .collect .ensures .verdict ∙ ap (λ good. verdict good (configurationRefers (a .names .now) (a .body .now))) (sym (c .before .before .before .pre .0 (a .body .now)));
-      surveyed = λ _. c .collect .ensures .surveyed;
+      verdict = collects .verdict ∙ ap (λ good. verdict good (configurationRefers (a .names .now) (a .body .now))) (sym (c .before .before .before .before .pre .0 (a .body .now)));
+      surveyed = λ _. collects .surveyed;
     }
 
 returns-2 : tie.Need-returns-2
@@ -27,6 +28,7 @@ pub walk-once-spec : {M : Type 1} → statement M
 walk-once-spec =
     tie.close
     (tie.spec
+    (λ c κs. search needs)
     collect-requires
     returns
     (λ c κs. search needs)

@@ -15,7 +15,7 @@ list-requires : tie.Need-list-requires
 list-requires c κs =
     let a = c .before .before .before .before .before .args in
     let o = a .course .order in
-    let rules = typeAllowed 5 ∷ goodEndpoint (limitsAt (a .high)) (a .d .now) ∷ leb 1 (o .coming) ∷ free o (a .d .now) ∷ [] in
+    let rules = typeAllowed 5 ∷ goodEndpoint (limitsAt (a .wanted .high)) (a .d .now) ∷ leb 1 (o .coming) ∷ free o (a .d .now) ∷ [] in
     leb-true 1 (o .coming) (conjunct 2 rules (sym (c .before .may-list .ensures) ∙ c .if1 .taken))
 
 with-endpoint-requires : tie.Need-with-endpoint-requires

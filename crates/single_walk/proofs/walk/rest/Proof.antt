@@ -1,7 +1,7 @@
 -- `single_walk::walk::rest` meets its contract: what the whole walk says, the walk from each place says, and what was found beside it. No axiom.
 use Prim.Native.Nat.{ℕ, _+_, _-_, _<_}
 use mathlib.Core.List.{List}
-use mathlib.Core.Bool.{true}
+use mathlib.Core.Bool.{Bool, true}
 use native.Mathlib.Omega.{arith}
 use mathlib.Core.Path.{_≡_, sym, _∙_}
 use mathlib.Core.Logic.{⊎-elim}
@@ -23,24 +23,24 @@ use Rattle.single_walk.proofs.walk.rest.Statement.{statement}
 use Rattle.single_walk.proofs.walk.rest.Tie as tie
 
 abbrev Inv-loop : tie.InvT-loop
-Inv-loop body from interfaces high names alternates wanted course₀ at₀ last course at =
-    (asked : Asked) → wanted ≡ wantedOf asked → Gathered (limitsAt high) interfaces names alternates asked body from course at
+Inv-loop body from interfaces names alternates wanted course₀ at₀ last course at =
+    (high : Bool) (asked : Asked) → wanted ≡ wantedOf high asked → Gathered (limitsAt high) interfaces names alternates asked body from course at
 
 abbrev μ-loop : tie.MeasureT-loop
-μ-loop body from interfaces high names alternates wanted course₀ at₀ last course at = length body + 256 - at
+μ-loop body from interfaces names alternates wanted course₀ at₀ last course at = length body + 256 - at
 
 -- two bytes are left where a descriptor is looked at
-more : (c : tie.Else1 Inv-loop μ-loop) → c .before .before .before .before .loop .at + 1 < length (c .before .before .before .before .before .before .before .before .args .body .now)
-more c = omega (arith, c .before .before .before .loop-test .taken, c .before .before .before .before .before .before .before .before .pre .some-bytes)
+more : (c : tie.Else1 Inv-loop μ-loop) → c .before .before .before .before .loop .at + 1 < length (c .before .before .before .before .before .before .before .args .body .now)
+more c = omega (arith, c .before .before .before .loop-test .taken, c .before .before .before .before .before .before .before .pre .some-bytes)
 
 before-end : (body : List ℕ) {at : ℕ} → at < length body - 1 → at < length body
 before-end body l = omega arith
 
 sub-last : tie.Need-sub-last Inv-loop μ-loop
-sub-last c = omega (arith, c .before .before .before .pre .some-bytes)
+sub-last c = omega (arith, c .before .before .pre .some-bytes)
 
 loop-holds : tie.Need-loop-holds Inv-loop μ-loop
-loop-holds c = λ asked e. rw (c .set-out .ensures) (gathered-begin (c .before .before .before .args .alternates .now) asked (c .before .before .before .pre .inside))
+loop-holds c = λ high asked e. rw (c .set-out .ensures) (gathered-begin (c .before .before .args .alternates .now) asked (c .before .before .pre .inside))
 
 shared-slice-read-size : tie.Need-shared-slice-read-size Inv-loop μ-loop
 shared-slice-read-size c = omega (arith, c .before .loop-test .taken)
@@ -49,20 +49,20 @@ cast-size : tie.Need-cast-size Inv-loop μ-loop
 cast-size c = omega (arith, c .shared-slice-known2 .given (c .before .before .loop .at))
 
 add-t : tie.Need-add-t Inv-loop μ-loop
-add-t c = omega (arith, c .before .loop-test .taken, c .before .before .before .before .before .before .pre .short)
+add-t c = omega (arith, c .before .loop-test .taken, c .before .before .before .before .before .pre .short)
 
 shared-slice-read-t : tie.Need-shared-slice-read-t Inv-loop μ-loop
-shared-slice-read-t c = omega (arith, c .before .before .loop-test .taken, c .before .before .before .before .before .before .before .pre .some-bytes)
+shared-slice-read-t c = omega (arith, c .before .before .loop-test .taken, c .before .before .before .before .before .before .pre .some-bytes)
 
 add-end : tie.Need-add-end Inv-loop μ-loop
-add-end c = let m = more c in omega (arith, c .before .before .shared-slice-known2 .given (c .before .before .before .before .loop .at), c .before .before .before .before .before .before .before .before .pre .short)
+add-end c = let m = more c in omega (arith, c .before .before .shared-slice-known2 .given (c .before .before .before .before .loop .at), c .before .before .before .before .before .before .before .pre .short)
 
 -- a descriptor that is stepped over, and those behind it
-plain : (c : tie.Then2 Inv-loop μ-loop) → Plain (c .before .before .before .before .before .before .before .before .before .args .body .now) (c .before .before .before .before .before .loop .at)
+plain : (c : tie.Then2 Inv-loop μ-loop) → Plain (c .before .before .before .before .before .before .before .before .args .body .now) (c .before .before .before .before .before .loop .at)
 plain c = record { inside = more (c .before); two = c .before .if1 .left; plain = c .if2 .taken }
 
 behind-requires : tie.Need-behind-requires Inv-loop μ-loop
-behind-requires c κs = c .before .before .before .before .before .before .before .before .before .pre .some-bytes
+behind-requires c κs = c .before .before .before .before .before .before .before .before .pre .some-bytes
 
 loop-less : tie.Need-loop-less Inv-loop μ-loop
 loop-less c = let m = more (c .before .before) in omega (arith, plains-on (c .behind .ensures), c .before .before .if1 .left)
@@ -70,14 +70,13 @@ loop-less c = let m = more (c .before .before) in omega (arith, plains-on (c .be
 loop-again : tie.Need-loop-again Inv-loop μ-loop
 loop-again c =
     let l = c .before .before .before .before .before .before .loop in
-    let a = c .before .before .before .before .before .before .before .before .before .before .args in
-    λ asked e. gathered-behind (no-companions (a .high)) (λ k. omega (arith, c .before .before .before .before .shared-slice-known2 .given k)) (l .inv asked e) (plain (c .before)) (c .behind .ensures)
+    λ high asked e. gathered-behind (no-companions high) (λ k. omega (arith, c .before .before .before .before .shared-slice-known2 .given k)) (l .inv high asked e) (plain (c .before)) (c .behind .ensures)
 
 -- the step goes over a whole descriptor, to its end
-on : (c : tie.Else3 Inv-loop μ-loop) → stepsOn (c .before .before .before .before .before .before .before .before .before .before .args .body .now) (c .before .before .before .before .before .before .loop .at) ≡ true
-on c = whole-steps (c .before .before .before .before .before .before .before .before .before .before .args .body .now) (c .before .before .before .before .before .before .loop .at) 0 (before-end (c .before .before .before .before .before .before .before .before .before .before .args .body .now) (c .before .before .before .before .before .loop-test .taken)) (c .before .before .if1 .left) (c .if3 .left)
+on : (c : tie.Else3 Inv-loop μ-loop) → stepsOn (c .before .before .before .before .before .before .before .before .before .args .body .now) (c .before .before .before .before .before .before .loop .at) ≡ true
+on c = whole-steps (c .before .before .before .before .before .before .before .before .before .args .body .now) (c .before .before .before .before .before .before .loop .at) 0 (before-end (c .before .before .before .before .before .before .before .before .before .args .body .now) (c .before .before .before .before .before .loop-test .taken)) (c .before .before .if1 .left) (c .if3 .left)
 
-ends : (c : tie.After-step-over Inv-loop μ-loop) → c .step-over .result .end ≡ c .before .before .before .before .before .before .before .loop .at + byte (c .before .before .before .before .before .before .before .before .before .before .before .args .body .now) (c .before .before .before .before .before .before .before .loop .at)
+ends : (c : tie.After-step-over Inv-loop μ-loop) → c .step-over .result .end ≡ c .before .before .before .before .before .before .before .loop .at + byte (c .before .before .before .before .before .before .before .before .before .before .args .body .now) (c .before .before .before .before .before .before .before .loop .at)
 ends c = step-ends _ _ _ (on (c .before)) (c .step-over .ensures)
 
 step-over-requires : tie.Need-step-over-requires Inv-loop μ-loop
@@ -93,29 +92,32 @@ part-turn-end : tie.Need-part-turn-end Inv-loop μ-loop
 part-turn-end c = omega (arith, ends c, c .before .if3 .left)
 
 turn-requires : tie.Need-turn-requires Inv-loop μ-loop
-turn-requires c κs = (models-low (c .before .before .before .before .before .before .before .before .loop .inv (c .before .before .before .before .before .before .before .before .before .before .before .before .args .asked) (c .before .before .before .before .before .before .before .before .before .before .wanted-of .ensures) .reached .models), c .before .before .before .before .before .before .before .before .before .before .before .before .pre .zero)
+turn-requires c κs =
+    let pre = c .before .before .before .before .before .before .before .before .before .before .before .pre in
+    (models-low (c .before .before .before .before .before .before .before .before .loop .inv (pre .high) (pre .asked) (pre .made) .reached .models), pre .zero)
 
 loop-less-2 : tie.Need-loop-less-2 Inv-loop μ-loop
 loop-less-2 c = let m = more (c .before .before .before .before .before .before .before .before) in omega (arith, ends (c .before .before .before .before .before), c .before .before .before .before .before .before .before .before .if1 .left)
 
 loop-again-2 : tie.Need-loop-again-2 Inv-loop μ-loop
 loop-again-2 c =
-    let a = c .before .before .before .before .before .before .before .before .before .before .before .before .before .before .before .before .args in
+    let a = c .before .before .before .before .before .before .before .before .before .before .before .before .before .before .before .args in
     let l = c .before .before .before .before .before .before .before .before .before .before .before .before .loop in
     let s = c .before .before .before .before .before .step-over in
     let h = before-end (a .body .now) (c .before .before .before .before .before .before .before .before .before .before .before .loop-test .taken) in
     let bytes = part-bytes (a .body .now) (λ k. omega (arith, c .before .before .before .before .before .before .before .before .before .before .shared-slice-known2 .given k)) (l .at) (s .result .end - l .at) in
-    λ asked e. gathered-turn (no-companions (a .high)) (l .inv asked e) h (c .before .before .before .before .before .before .before .before .if1 .left) (s .result .end) (ends (c .before .before .before .before .before)) (omega (arith, ends (c .before .before .before .before .before), c .before .before .before .before .before .before .if3 .left)) (bytes 2) (bytes 3) (step-sets _ _ _ (on (c .before .before .before .before .before .before)) (s .ensures)) (rw e at (c .before .before .before .turn .ensures)) (not-false _ (c .before .if4 .left))
+    λ high asked e. gathered-turn (no-companions high) (l .inv high asked e) h (c .before .before .before .before .before .before .before .before .if1 .left) (s .result .end) (ends (c .before .before .before .before .before)) (omega (arith, ends (c .before .before .before .before .before), c .before .before .before .before .before .before .if3 .left)) high (bytes 2) (bytes 3) (step-sets _ _ _ (on (c .before .before .before .before .before .before)) (s .ensures)) (rw e at (c .before .before .before .turn .ensures)) (not-false _ (c .before .if4 .left))
 
 returns : tie.Need-returns Inv-loop μ-loop
 returns c =
-    let a = c .before .before .before .before .before .before .before .before .before .args in
-    let pre = c .before .before .before .before .before .before .before .before .before .pre in
-    let l = c .before .before .before .before .before .loop in
+    let a = c .before .before .before .before .before .args in
+    let pre = c .before .before .before .before .before .pre in
+    let l = c .before .before .loop in
     let body = a .body .now in
-    let alone = no-companions (a .high) in
-    let r = l .inv (a .asked) (c .before .before .before .before .before .before .before .wanted-of .ensures) in
-    let good = rw (c .before .before .next-of .ensures) at (c .told .ensures .0) in
+    let good = c .told .ensures .0 in
+    λ high asked e.
+    let alone = no-companions high in
+    let r = l .inv high asked e in
     ⊎-elim
     (λ p. rests-end alone r _ (pre .one) (omega (arith, p .0 .left)) (rw (p .1) at good) (c .told .ensures .1) (c .told .ensures .2))
     (⊎-elim
@@ -125,11 +127,12 @@ returns c =
     (λ p.
     let h = before-end body (p .0 .taken) in
     let whole = whole-steps body (l .at) 0 h (p .3 .left) (p .5 .left) in
-    let e = step-ends _ _ _ whole (p .6 .ensures) in
+    let ended = step-ends _ _ _ whole (p .6 .ensures) in
     let bytes = part-bytes body (λ k. omega (arith, p .1 .given k)) (l .at) (p .6 .result .end - l .at) in
+    let turned = rw e at (p .8 .ensures) in
     rests-stopped _ _ _ (pre .some-bytes) (p .11) good
-    (reached-refused alone (r .reached) h (p .3 .left) (p .6 .result .end) e (omega (arith, e, p .5 .left)) (bytes 2) (bytes 3) (pre .few) (step-sets _ _ _ whole (p .6 .ensures)) (sym (p .8 .ensures .may) ∙ not-true _ (p .10 .taken))))))
-    (c .before .before .before .before .loop-test .came)
+    (reached-refused alone (r .reached) h (p .3 .left) (p .6 .result .end) ended (omega (arith, ended, p .5 .left)) (bytes 2) (bytes 3) (pre .few) (step-sets _ _ _ whole (p .6 .ensures)) (sym (turned .may) ∙ not-true _ (p .10 .taken))))))
+    (c .before .loop-test .came)
 
 pub rest-spec : {M : Type 1} → statement M
 rest-spec =
@@ -137,7 +140,6 @@ rest-spec =
     (tie.spec
     Inv-loop
     μ-loop
-    (λ c κs. search needs)
     (λ c κs. search needs)
     sub-last
     loop-holds
@@ -156,6 +158,5 @@ rest-spec =
     turn-requires
     loop-less-2
     loop-again-2
-    (λ c κs. search needs)
     (λ c κs. search needs)
     returns)
