@@ -57,10 +57,10 @@ class Prototype:
         return TYPES.get(self.result), kinds
 
     def shim(self):
-        """The small module's function has the export's own types."""
+        """The small module's function has the export's own types. The export, into which it is compiled, is to be small too."""
         name, words = self.name.removeprefix("hk_"), ", ".join(f"{kind} {word}" for kind, word in self.parameters) or "void"
         called = f"small_{name}({', '.join(word for _, word in self.parameters)})"
-        return f"\n{self.result} small_{name}({words});\n{self.result} {self.name}({words}) {{\n    return {called};\n}}\n"
+        return f"\n{self.result} small_{name}({words});\n__attribute__((minsize)) {self.result} {self.name}({words}) {{\n    return {called};\n}}\n"
 
     def wide_shim(self):
         """The wide function's prototype, and the export that calls it."""

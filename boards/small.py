@@ -18,7 +18,10 @@ HERE = os.path.dirname(os.path.abspath(__file__))
 LIST = os.path.join(HERE, "inlining.txt")
 # Small, not quick, unless the list says otherwise.
 USUAL = "optsize"
-WORDS = {"called": "optsize noinline", "inside": "optsize alwaysinline", "quick": "", "quick-called": "noinline"}
+WORDS = {"usual": USUAL, "called": "optsize noinline", "inside": "optsize alwaysinline", "quick": "", "quick-called": "noinline", "least": "optsize minsize",
+         "least-called": "optsize minsize noinline"}
+# Beside one of these: no part of it becomes a function of its own.
+WHOLE, WHOLE_WORD = "whole", '"nooutline"'
 
 
 def small(text, prototypes, judged=True, reasons=None):
@@ -51,28 +54,35 @@ def kept(text, prototypes, name):
 
 # ---- inlining by function
 def inlining(name, target, path=LIST):
-    """Function -> word of the list, for an object and a processor: the object's part of the list, and then the processor's own."""
+    """Function -> words of the list, for an object and a processor: the object's part of the list, and then the processor's own."""
     found, part = {}, None
     for line in read(path).splitlines():
-        if one := re.match(r"\[(\w+)(?: (\w+))?\]$", line):
-            part = one[1] == name and one[2] in (None, target)
+        if one := re.match(r"\[(\w+)((?: \w+)*)\]$", line):
+            part = one[1] == name and (not one[2] or target in one[2].split())
         elif part and line and not line.startswith("#"):
             word, function = line.split(" ", 1)
-            if word not in WORDS:
-                raise Unexpected(f"{path}: {word} is none of {', '.join(WORDS)}")
-            found[function] = word
+            if word not in (*WORDS, WHOLE):
+                raise Unexpected(f"{path}: {word} is none of {', '.join(WORDS)}, {WHOLE}")
+            before, _, whole = found.get(function, "usual").partition(" ")
+            found[function] = f"{before} {WHOLE}" if word == WHOLE else f"{word} {whole}".strip()
     return found
+
+
+def lines(function, words):
+    """The list's lines of a function."""
+    return [f"{word} {function}" for word in words.split()]
 
 
 def inlined(text, chosen):
     """The text where each function says how it is compiled; and the list's functions that the text does not have."""
-    groups = {word: f"#{10 + number}" for number, word in enumerate(WORDS)}
+    groups = {words: f"#{10 + number}" for number, words in enumerate(dict.fromkeys(chosen.values()))}
     left = dict(chosen)
 
     def changed(found):
-        word = left.pop(found[2].strip('"'), None)
-        return found[1] + (groups[word] if word else "#0") + " {"
+        words = left.pop(found[2].strip('"'), None)
+        return found[1] + (groups[words] if words else "#0") + " {"
 
     text = re.sub(r'^(define [^\n@]*@("[^"\n]+"|[\w.]+)\([^\n]*\) )#0 \{', changed, text, flags=re.M)
     text = text.replace("attributes #0 = { nounwind", f"attributes #0 = {{ nounwind {USUAL}")
-    return text + "".join(f"attributes {group} = {{ nounwind {WORDS[word]} }}\n" for word, group in groups.items()), sorted(left)
+    said = {words: f"{WORDS[words.split()[0]]} {WHOLE_WORD if WHOLE in words.split() else ''}" for words in groups}
+    return text + "".join(f"attributes {group} = {{ nounwind {said[words]} }}\n" for words, group in groups.items()), sorted(left)

@@ -1,7 +1,9 @@
 /* both [EVENTS]: the small archive and the wide one, call by call. The wide one's exports are linked under the names wide_hk_..
  *
  * Each random event is given to every call that takes it, of both archives, on copies of the same memory. After each call the
- * number, and all bytes that the call may write, must agree: image, row, pipe, bytes, count, orders and part. */
+ * number, and all bytes that the call may write, must agree: image, row, pipe, bytes, count, orders and part. The stack below
+ * each call of the small archive is painted before, and the most that lost its paint is printed by call: tests/bare/stack
+ * holds it to what boards/archive says. */
 #include "../boundary/random_events.h"
 
 #define PORTS 2
@@ -53,13 +55,55 @@ static void agree(const char *name, const struct event *event, uint8_t number, u
     exit(1);
 }
 
+/* ---- the stack of the small archive's calls */
+#define PAINTED 1024 /* bytes below the stack pointer */
+#define LEFT_OUT 64  /* of them, for the painter's own frame */
+#define PAINT 0xA5A5A5A5u
+#define CALLS 32
+
+static struct {
+    const char *name;
+    size_t most;
+} depths[CALLS];
+
+/* In the caller itself: a compiler keeps it the same through a function. */
+static inline __attribute__((always_inline)) volatile uint32_t *stack_pointer(void) {
+    volatile uint32_t *found;
+#if defined(__thumb__)
+    __asm__ volatile("mov %0, sp" : "=r"(found));
+#else
+    __asm__ volatile("mv %0, sp" : "=r"(found));
+#endif
+    return found;
+}
+
+static __attribute__((noinline)) void paint(volatile uint32_t *top) {
+    for (volatile uint32_t *at = top - PAINTED / 4; at < top - LEFT_OUT / 4; at++)
+        *at = PAINT;
+}
+
+static __attribute__((noinline)) void note_depth(const char *name, volatile uint32_t *top) {
+    volatile uint32_t *at = top - PAINTED / 4;
+    int call = 0;
+    while (at < top - LEFT_OUT / 4 && *at == PAINT)
+        at++;
+    while (depths[call].name && strcmp(depths[call].name, name) != 0)
+        call++;
+    depths[call].name = name;
+    if (4 * (size_t)(top - at) > depths[call].most)
+        depths[call].most = 4 * (size_t)(top - at);
+}
+
 /* One call of both archives; M stands for the memory of either. */
 #define BOTH(name, ...) \
     do { \
         uint8_t number, wide_number; \
         { \
             struct memory *M = &small; \
+            volatile uint32_t *top = stack_pointer(); \
+            paint(top); \
             number = name(__VA_ARGS__); \
+            note_depth(#name, top); \
         } \
         { \
             struct memory *M = &wide; \
@@ -177,6 +221,8 @@ int main(int argument_count, char **arguments) {
         run_both(&titrator_board, events / 16);
         run_both(&titrator_pair_board, events / 8);
     }
+    for (int call = 0; depths[call].name; call++)
+        printf("  stack %s %zu\n", depths[call].name, depths[call].most);
     printf("both: %lu calls of each archive, the same numbers and the same bytes\n", calls);
     return 0;
 }
