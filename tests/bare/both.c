@@ -84,14 +84,16 @@ static __attribute__((noinline)) void paint(volatile uint32_t *top) {
 
 static __attribute__((noinline)) void note_depth(const char *name, volatile uint32_t *top) {
     volatile uint32_t *at = top - PAINTED / 4;
+    size_t depth;
     int call = 0;
     while (at < top - LEFT_OUT / 4 && *at == PAINT)
         at++;
+    depth = at < top - LEFT_OUT / 4 ? 4 * (size_t)(top - at) : 0;
     while (depths[call].name && strcmp(depths[call].name, name) != 0)
         call++;
     depths[call].name = name;
-    if (4 * (size_t)(top - at) > depths[call].most)
-        depths[call].most = 4 * (size_t)(top - at);
+    if (depth > depths[call].most)
+        depths[call].most = depth;
 }
 
 /* One call of both archives; M stands for the memory of either. */
