@@ -1,9 +1,5 @@
 -- What opening does by the image's length, and an answer's two bytes. No axiom.
-use Prim.Native.Nat.{ℕ}
-use mathlib.Core.Path.{_≡_, refl}
-use mathlib.Core.List.{List, [], _∷_}
-use lib.ListN.{length}
-use borrow.Author.Tests.{eq-eqb, ne-eqb}
+use Rattle.octets.proofs.Vocabulary.{_≡_, refl, ℕ, List, [], _∷_, length, eq-eqb, ne-eqb}
 use Rattle.sets.specs.Opening.{Board}
 use Rattle.sets.specs.View.{openingOf}
 use Rattle.records.specs.Device.{fresh}

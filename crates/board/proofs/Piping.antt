@@ -1,12 +1,5 @@
 -- What the parts of the pipe event give is what an event gets: for the proofs of src/pipe.rt, over any board. No axiom.
-use Prim.Native.Nat.{ℕ, _+_, _≤_, _<_}
-use native.Mathlib.Omega.{arith}
-use mathlib.Core.Path.{_≡_, refl, sym, ap, subst, _∙_}
-use mathlib.Core.Bool.{Bool, true, false, false≢true}
-use mathlib.Core.List.{List, []}
-use lib.ListN.{length}
-use lib.Dec.{eqb}
-use borrow.Author.Tests.{eq-eqb, eqb-true}
+use Rattle.octets.proofs.Vocabulary.{_≡_, refl, sym, ap, subst, _∙_, ℕ, _+_, _≤_, _<_, List, [], Bool, true, false, false≢true, length, eqb, arith, eq-eqb, eqb-true}
 use Rattle.octets.specs.Octets.{byte}
 use Rattle.octets.specs.Sentences.{pick}
 use Rattle.sets.specs.Contents.{count}

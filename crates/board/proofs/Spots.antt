@@ -1,7 +1,5 @@
 -- Where a part lies that is handed out, from where its slice lies. No axiom.
-use Prim.Native.Nat.{ℕ, _+_}
-use mathlib.Core.Path.{_≡_, refl}
-use mathlib.Core.Bool.{Bool, true, false}
+use Rattle.octets.proofs.Vocabulary.{_≡_, refl, ℕ, _+_, Bool, true, false}
 use Rattle.octets.specs.Sentences.{pick}
 use Rattle.events.specs.Answer.{Block, ofFirst, ofSet, ofSerial, Part, inBlock}
 use Rattle.board.specs.Exports.{spotOf}

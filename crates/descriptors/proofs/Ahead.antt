@@ -1,14 +1,6 @@
 -- What a walk over a well-cut body has still ahead of it: the descriptors from a place on, and the settings and endpoints that they are
 -- made of, each where it stands. No axiom.
-use Prim.Native.Nat.{ℕ, _≤_, _<_}
-use native.Mathlib.Nat.{lt-of-not-le}
-use native.Mathlib.Omega.{arith}
-use mathlib.Core.Path.{_≡_, refl, sym, ap, _∙_}
-use mathlib.Core.List.{List, [], _∷_, _++_, map}
-use mathlib.Core.Bool.{Bool, true, false, _&&_}
-use lib.ListN.{length, drop}
-use lib.Dec.{eqb}
-use borrow.Author.Tests.{eqb-true}
+use Rattle.octets.proofs.Vocabulary.{_≡_, refl, sym, ap, _∙_, ℕ, _≤_, _<_, List, [], _∷_, _++_, map, Bool, true, false, _&&_, length, drop, eqb, arith, lt-of-not-le, eqb-true}
 use Rattle.octets.specs.Octets.{byte}
 use Rattle.octets.specs.Sentences.{pick, any, only}
 use Rattle.octets.proofs.Sentences.{cases, never, any-map, any-only}

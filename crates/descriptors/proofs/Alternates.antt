@@ -1,12 +1,5 @@
 -- Whether the alternate settings of all interfaces exist, from the words of a survey: all sixteen at once. No axiom.
-use Prim.Native.Nat.{ℕ, _+_, _<_}
-use native.Mathlib.Omega.{arith}
-use mathlib.Core.Path.{_≡_, refl, sym, _∙_}
-use mathlib.Core.List.{List}
-use mathlib.Core.Bool.{Bool, true, false, _&&_, _||_, not, and-false, or-false}
-use lib.ListN.{getD}
-use lib.Dec.{eqb, ltb}
-use borrow.Author.Tests.{eqb-true, eqb-false, ltb-true, ltb-false, lt-ltb, le-ltb}
+use Rattle.octets.proofs.Vocabulary.{_≡_, refl, sym, _∙_, ℕ, _+_, _<_, List, Bool, true, false, _&&_, _||_, not, and-false, or-false, getD, eqb, ltb, arith, eqb-true, eqb-false, ltb-true, ltb-false, lt-ltb, le-ltb}
 use Rattle.octets.specs.Bit.{bit, setBit}
 use Rattle.octets.specs.Sentences.{pick, _⇒_, below}
 use Rattle.octets.proofs.Sentences.{cases, same-test, both, joined, below-at, at-below}

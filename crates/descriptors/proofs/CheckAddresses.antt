@@ -1,15 +1,6 @@
 -- The check of a body, as to addresses: in descriptors that are good and in order, a walk that keeps three sets of addresses says that each two
 -- endpoints are apart. No axiom.
-use Prim.Native.Nat.{ℕ, _+_, _*_, _/_, _%_, _<_, _≤_}
-use native.Mathlib.Nat.{le-refl, div-div-eq-div-mul}
-use native.Mathlib.Omega.{arith}
-use mathlib.Core.Path.{_≡_, refl, sym, ap, _∙_}
-use mathlib.Core.Logic.{_⊎_, inl, inr}
-use mathlib.Core.List.{List, [], _∷_, _++_, map}
-use mathlib.Core.Bool.{Bool, true, false, _&&_, _||_, not, and-true, and-false, and-assoc, or-false, false≢true}
-use lib.ListN.{length}
-use lib.Dec.{eqb, leb, ltb}
-use borrow.Author.Tests.{eqb-true, eqb-false, eq-eqb, ne-eqb, ltb-true, lt-ltb, leb-true, le-leb}
+use Rattle.octets.proofs.Vocabulary.{_≡_, refl, sym, ap, _∙_, ℕ, _+_, _*_, _/_, _%_, _<_, _≤_, List, [], _∷_, _++_, map, Bool, true, false, _&&_, _||_, not, and-true, and-false, and-assoc, or-false, false≢true, _⊎_, inl, inr, length, eqb, leb, ltb, arith, le-refl, div-div-eq-div-mul, eqb-true, eqb-false, eq-eqb, ne-eqb, ltb-true, lt-ltb, leb-true, le-leb}
 use Rattle.octets.specs.Bit.{bit, setBit}
 use Rattle.octets.specs.Sentences.{_⇒_, every, pairs, isEmpty}
 use Rattle.octets.proofs.Sentences.{cases, both, joined, either, or-left, or-right, if-then, conjunct, every-member, member-every, every-append, every-alike}

@@ -1,12 +1,5 @@
 -- The check of a body, as to companions: what a walk asks that keeps whether one is due is what the sentence about all descriptors says. No axiom.
-use Prim.Native.Nat.{ℕ}
-use native.Mathlib.Omega.{arith}
-use mathlib.Core.Path.{_≡_, refl, sym, _∙_}
-use mathlib.Core.List.{List, [], _∷_}
-use mathlib.Core.Bool.{Bool, true, false, _&&_, not, and-false}
-use lib.ListN.{length}
-use lib.Dec.{leb}
-use borrow.Author.Tests.{ne-eqb}
+use Rattle.octets.proofs.Vocabulary.{_≡_, refl, sym, _∙_, ℕ, List, [], _∷_, Bool, true, false, _&&_, not, and-false, length, leb, arith, ne-eqb}
 use Rattle.octets.specs.Sentences.{pick, _⇒_, every, neighbours}
 use Rattle.descriptors.specs.Descriptor.{bDescriptorType, isEndpoint}
 use Rattle.descriptors.specs.Companion.{isCompanion, longCompanion, accompanies, endsWithEndpoint, goodCompanions}

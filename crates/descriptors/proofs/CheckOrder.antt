@@ -1,13 +1,6 @@
 -- The check of a body, as to the order of interfaces and the count of their endpoints: a walk from any state says what the sentences about
 -- the groups say. No axiom.
-use Prim.Native.Nat.{ℕ, zero, suc, _+_, _-_}
-use native.Mathlib.Omega.{arith}
-use mathlib.Core.Path.{_≡_, refl, sym, ap, _∙_}
-use mathlib.Core.List.{List, [], _∷_, map}
-use mathlib.Core.Bool.{Bool, true, false, _&&_, and-true, and-false, or-false}
-use lib.ListN.{length}
-use lib.Dec.{eqb, leb, eqb·suc-suc, eqb·zero-suc, leb·zero, leb·suc-suc}
-use borrow.Author.Tests.{eqb-true, eq-eqb}
+use Rattle.octets.proofs.Vocabulary.{_≡_, refl, sym, ap, _∙_, ℕ, zero, suc, _+_, _-_, List, [], _∷_, map, Bool, true, false, _&&_, and-true, and-false, or-false, length, eqb, leb, eqb·suc-suc, eqb·zero-suc, leb·zero, leb·suc-suc, arith, eqb-true, eq-eqb}
 use Rattle.octets.specs.Sentences.{every, neighbours, isEmpty}
 use Rattle.octets.proofs.Sentences.{cases, same-test}
 use Rattle.descriptors.specs.declared.Setting.{Setting}

@@ -1,9 +1,5 @@
 -- The string references of a body, told beside its check: its own and those that a walk collects. No axiom.
-use Prim.Native.Nat.{ℕ, _≤_, _<_}
-use mathlib.Core.Path.{_≡_, refl, sym, ap, _∙_}
-use mathlib.Core.List.{List, [], _∷_, _++_, map, flatMap, map-map}
-use mathlib.Core.Bool.{Bool, true, false, _&&_, and-true, and-false, and-assoc}
-use lib.ListN.{length}
+use Rattle.octets.proofs.Vocabulary.{_≡_, refl, sym, ap, _∙_, ℕ, _≤_, _<_, List, [], _∷_, _++_, map, flatMap, map-map, Bool, true, false, _&&_, and-true, and-false, and-assoc, length}
 use Rattle.octets.specs.Sentences.{pick, _⇒_, every, only}
 use Rattle.octets.proofs.Sentences.{every-append}
 use Rattle.descriptors.specs.declared.walk.Stand.{Stand}

@@ -1,14 +1,5 @@
 -- The check of a body, whole: what a walk with a few words of state says is that the configuration is good. No axiom.
-use Prim.Native.Nat.{ℕ, _/_, _%_, _<_, _≤_}
-use native.Mathlib.Omega.{arith}
-use native.Mathlib.Nat.{sub-zero, le-refl}
-use mathlib.Core.Path.{_≡_, refl, sym, ap, _∙_}
-use mathlib.Core.List.{List, [], _∷_, map}
-use mathlib.Core.Bool.{Bool, true, false, _&&_, and-true, and-false}
-use mathlib.Core.Option.{some, none}
-use lib.ListN.{length, take, drop}
-use lib.Dec.{eqb, leb, ltb}
-use borrow.Author.Tests.{eqb-true, leb-true, le-ltb, ltb-true, ltb-false}
+use Rattle.octets.proofs.Vocabulary.{_≡_, refl, sym, ap, _∙_, ℕ, _/_, _%_, _<_, _≤_, List, [], _∷_, map, Bool, true, false, _&&_, and-true, and-false, some, none, length, take, drop, eqb, leb, ltb, arith, sub-zero, le-refl, eqb-true, leb-true, le-ltb, ltb-true, ltb-false}
 use Rattle.octets.specs.Octets.{byte}
 use Rattle.octets.specs.Sentences.{pick, _⇒_, every, pairs, isEmpty}
 use Rattle.octets.proofs.Sentences.{cases, conjunct}

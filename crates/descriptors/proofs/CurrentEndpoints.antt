@@ -1,17 +1,6 @@
 -- The endpoint descriptors of the current settings: the walk that looks for one finds it; they are those of the configuration's current endpoints,
 -- one for one; and each lies in the body where it is said to lie. No axiom.
-use Prim.Native.Nat.{ℕ, zero, suc, _+_, _-_, _≤_, _<_}
-use native.Mathlib.Nat.{add-zero}
-use native.Mathlib.Omega.{arith}
-use mathlib.Core.Path.{_≡_, refl, sym, ap, _∙_}
-use mathlib.Core.Logic.{_⊎_, inl, inr}
-use mathlib.Core.List.{List, [], _∷_, map, List·Memᴰ, List·Memᴰ·head, List·Memᴰ·tail, List·Memᴰ·not-nil, List·Memᴰ·cases-cons}
-use mathlib.Core.Bool.{Bool, true, false, _&&_}
-use mathlib.Core.Option.{some, none}
-use lib.ListN.{length, drop, getD, getElem?}
-use lib.Seq.{getD-take, getD-drop}
-use lib.Dec.{eqb, leb, ltb}
-use borrow.Author.Tests.{ne-eqb, le-leb, ltb-true, ltb-false}
+use Rattle.octets.proofs.Vocabulary.{_≡_, refl, sym, ap, _∙_, ℕ, zero, suc, _+_, _-_, _≤_, _<_, List, [], _∷_, map, List·Memᴰ, List·Memᴰ·head, List·Memᴰ·tail, List·Memᴰ·not-nil, List·Memᴰ·cases-cons, Bool, true, false, _&&_, some, none, _⊎_, inl, inr, length, drop, getD, getElem?, eqb, leb, ltb, getD-take, getD-drop, arith, add-zero, ne-eqb, le-leb, ltb-true, ltb-false}
 use Rattle.octets.specs.Octets.{byte, part}
 use Rattle.octets.specs.Sentences.{pick, only, pairs}
 use Rattle.octets.proofs.Sentences.{cases, both, joined, member-every}

@@ -1,10 +1,5 @@
 -- The bits of endpoints in a word: which are set, what clearing them leaves, and whether a word stands at them alone. No axiom.
-use Prim.Native.Nat.{ℕ, _^_, _<_, _≤_}
-use native.Mathlib.Omega.{arith}
-use lib.Dec.{eqb}
-use mathlib.Core.Path.{_≡_, refl, sym, ap, _∙_}
-use mathlib.Core.List.{List, [], _∷_}
-use mathlib.Core.Bool.{Bool, true, false, _&&_, _||_, not, or-assoc, or-false, and-true}
+use Rattle.octets.proofs.Vocabulary.{_≡_, refl, sym, ap, _∙_, ℕ, _^_, _<_, _≤_, List, [], _∷_, Bool, true, false, _&&_, _||_, not, or-assoc, or-false, and-true, eqb, arith}
 use Rattle.octets.specs.Bit.{bit, setBit, clearBit}
 use Rattle.octets.specs.Sentences.{any, only, below, _⇒_}
 use Rattle.octets.proofs.Sentences.{below-alike, any-only}

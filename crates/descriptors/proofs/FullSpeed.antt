@@ -1,11 +1,5 @@
 -- The row of limits of full speed, field by field in document 01's words, for every number. No axiom.
-use Prim.Native.Nat.{ℕ, _%_, _/_, _^_, _≤_, _<_}
-use native.Mathlib.Omega.{arith}
-use mathlib.Core.Path.{_≡_, refl, sym, _∙_}
-use mathlib.Core.List.{List, [], _∷_}
-use mathlib.Core.Bool.{Bool, true, false, _&&_, _||_, not, and-true}
-use lib.Dec.{eqb, leb, ltb, leb·zero}
-use borrow.Author.Tests.{eqb-true, ne-eqb, leb-true, le-leb, ltb-true, ltb-false}
+use Rattle.octets.proofs.Vocabulary.{_≡_, refl, sym, _∙_, ℕ, _%_, _/_, _^_, _≤_, _<_, List, [], _∷_, Bool, true, false, _&&_, _||_, not, and-true, eqb, leb, ltb, leb·zero, arith, eqb-true, ne-eqb, leb-true, le-leb, ltb-true, ltb-false}
 use Rattle.octets.specs.Sentences.{pick, every, any, below, member}
 use Rattle.octets.proofs.Sentences.{cases, same-test, both, joined, below-at}
 use Rattle.octets.proofs.Bits.{bit-past}

@@ -1,9 +1,5 @@
 -- What a good configuration tells: its rules, one by one, for whoever reads a body that was checked. No axiom.
-use Prim.Native.Nat.{ℕ}
-use mathlib.Core.Path.{_≡_, refl}
-use mathlib.Core.List.{List, [], _∷_}
-use mathlib.Core.Bool.{true, false≢true}
-use lib.ListN.{length}
+use Rattle.octets.proofs.Vocabulary.{_≡_, refl, ℕ, List, [], _∷_, true, false≢true, length}
 use Rattle.octets.specs.Sentences.{_⇒_, every}
 use Rattle.octets.proofs.Sentences.{both, conjunct}
 use Rattle.descriptors.specs.declared.limits.Limits.{Limits}

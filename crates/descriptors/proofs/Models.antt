@@ -1,12 +1,5 @@
 -- A few numbers stand for the check's progress and for where the last descriptor stands. No axiom.
-use Prim.Native.Nat.{ℕ, _+_, _*_, _%_, _≤_, _<_}
-use native.Mathlib.Omega.{arith}
-use mathlib.Core.Path.{_≡_, refl, sym, ap, _∙_}
-use mathlib.Core.List.{List, [], _∷_}
-use mathlib.Core.Bool.{Bool, true, false, _&&_, _||_, not, and-true, and-false, or-false}
-use lib.ListN.{length}
-use lib.Dec.{eqb, leb, ltb}
-use borrow.Author.Tests.{eq-eqb, ne-eqb, lt-ltb, le-ltb, eqb-true, eqb-false, ltb-true, ltb-false, leb-true, leb-false}
+use Rattle.octets.proofs.Vocabulary.{_≡_, refl, sym, ap, _∙_, ℕ, _+_, _*_, _%_, _≤_, _<_, List, [], _∷_, Bool, true, false, _&&_, _||_, not, and-true, and-false, or-false, length, eqb, leb, ltb, arith, eq-eqb, ne-eqb, lt-ltb, le-ltb, eqb-true, eqb-false, ltb-true, ltb-false, leb-true, leb-false}
 use Rattle.octets.specs.Bit.{bit}
 use Rattle.octets.specs.Octets.{word}
 use Rattle.octets.specs.Sentences.{pick, _⇒_}

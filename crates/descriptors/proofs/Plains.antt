@@ -1,13 +1,5 @@
 -- Descriptors of types that no walk looks at: what a walk knows before one of them, it knows behind it. No axiom.
-use Prim.Native.Nat.{ℕ, _+_, _-_, _≤_, _<_}
-use native.Mathlib.Omega.{arith}
-use native.Mathlib.Nat.{add-comm}
-use mathlib.Core.Path.{_≡_, refl, ap, _∙_}
-use mathlib.Core.List.{List}
-use mathlib.Core.Bool.{false}
-use lib.ListN.{length, take, drop, length-take, length-drop}
-use lib.Seq.{getD-take, getD-drop}
-use borrow.Author.Tests.{ne-eqb}
+use Rattle.octets.proofs.Vocabulary.{_≡_, refl, ap, _∙_, ℕ, _+_, _-_, _≤_, _<_, List, false, length, take, drop, length-take, length-drop, getD-take, getD-drop, arith, add-comm, ne-eqb}
 use Rattle.octets.specs.Octets.{byte}
 use Rattle.descriptors.specs.Descriptor.{isInterface, isEndpoint}
 use Rattle.descriptors.specs.Walk.{Plain, Plains, nothing, onward}

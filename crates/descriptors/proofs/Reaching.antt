@@ -1,14 +1,5 @@
 -- The check in few numbers: what the whole walk says, the walk from each place says, in the state that the order stands for. No axiom.
-use Prim.Native.Nat.{ℕ, _+_, _-_, _≤_, _<_}
-use native.Mathlib.Omega.{arith}
-use native.Mathlib.Nat.{lt-of-not-le, add-sub-cancel-left}
-use mathlib.Core.Path.{_≡_, refl, sym, ap, _∙_}
-use mathlib.Core.List.{List}
-use mathlib.Core.Bool.{Bool, true, false, _&&_, not, and-true, and-false}
-use mathlib.Core.Option.{some, none}
-use lib.ListN.{length, drop}
-use lib.Dec.{eqb, leb, ltb}
-use borrow.Author.Tests.{ne-eqb, le-leb, lt-leb, lt-ltb, eqb-true, eqb-false, leb-true, leb-false, ltb-true, ltb-false}
+use Rattle.octets.proofs.Vocabulary.{_≡_, refl, sym, ap, _∙_, ℕ, _+_, _-_, _≤_, _<_, List, Bool, true, false, _&&_, not, and-true, and-false, some, none, length, drop, eqb, leb, ltb, arith, lt-of-not-le, add-sub-cancel-left, ne-eqb, le-leb, lt-leb, lt-ltb, eqb-true, eqb-false, leb-true, leb-false, ltb-true, ltb-false}
 use Rattle.octets.specs.Octets.{byte, word, Bytes}
 use Rattle.octets.specs.Sentences.{pick, _⇒_, every}
 use Rattle.octets.specs.Table.{has}

@@ -1,15 +1,6 @@
 -- Each test of the walk, by its shortest way, says what the rules say; and bits of words that are made of others. No axiom.
-use Prim.Native.Nat.{ℕ, zero, suc, _+_, _/_, _%_, _^_, _≤_, _<_}
-use native.Mathlib.Omega.{arith}
-use native.Mathlib.Nat.{lt-of-not-le}
+use Rattle.octets.proofs.Vocabulary.{_≡_, refl, sym, ap, _∙_, ℕ, zero, suc, _+_, _/_, _%_, _^_, _≤_, _<_, List, Bool, true, false, _&&_, _||_, and-true, and-false, or-false, length, take, drop, length-take, List·getD-eq-default, eqb, leb, ltb, getD-take, getD-drop, arith, lt-of-not-le, ne-eqb, lt-leb, leb-true, ltb-true, ltb-false}
 use lib.Bits.{bitOr, or-shr, or-mod}
-use mathlib.Core.Path.{_≡_, refl, sym, ap, _∙_}
-use mathlib.Core.List.{List}
-use mathlib.Core.Bool.{Bool, true, false, _&&_, _||_, and-true, and-false, or-false}
-use lib.ListN.{length, take, drop, length-take, List·getD-eq-default}
-use lib.Seq.{getD-take, getD-drop}
-use lib.Dec.{eqb, leb, ltb}
-use borrow.Author.Tests.{ne-eqb, lt-leb, leb-true, ltb-true, ltb-false}
 use Rattle.octets.specs.Bit.{bit}
 use Rattle.octets.specs.Octets.{byte}
 use Rattle.octets.proofs.Sentences.{cases}

@@ -1,10 +1,5 @@
 -- The row of limits of SuperSpeed, field by field in document 02's words, for every number. No axiom.
-use Prim.Native.Nat.{ℕ}
-use native.Mathlib.Omega.{arith}
-use mathlib.Core.Path.{_≡_, refl}
-use mathlib.Core.List.{[], _∷_}
-use mathlib.Core.Bool.{true, _&&_, and-true}
-use lib.Dec.{eqb, leb}
+use Rattle.octets.proofs.Vocabulary.{_≡_, refl, ℕ, [], _∷_, true, _&&_, and-true, eqb, leb, arith}
 use Rattle.octets.specs.Sentences.{every, any, below, member}
 use Rattle.descriptors.specs.Limits.{superSpeed, doubled, named}
 use Rattle.descriptors.specs.Descriptor.{goodSize, goodInterval}

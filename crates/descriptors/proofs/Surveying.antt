@@ -1,14 +1,5 @@
 -- A survey of a body: what each descriptor adds to it, and what it tells once the walk is over. No axiom.
-use Prim.Native.Nat.{ℕ, _+_, _<_}
-use native.Mathlib.Nat.{add-sub-cancel-left}
-use native.Mathlib.Omega.{arith}
-use mathlib.Core.Path.{_≡_, refl, sym, ap, _∙_}
-use mathlib.Core.List.{List, _∷_}
-use mathlib.Core.Bool.{Bool, true, false, _&&_, _||_, or-assoc, or-false, and-true, and-false}
-use mathlib.Core.Option.{Option, some}
-use lib.ListN.{length, getD, drop}
-use lib.Dec.{eqb, ltb}
-use borrow.Author.Tests.{eqb-true, ne-eqb, ltb-false}
+use Rattle.octets.proofs.Vocabulary.{_≡_, refl, sym, ap, _∙_, ℕ, _+_, _<_, List, _∷_, Bool, true, false, _&&_, _||_, or-assoc, or-false, and-true, and-false, Option, some, length, getD, drop, eqb, ltb, arith, add-sub-cancel-left, eqb-true, ne-eqb, ltb-false}
 use Rattle.octets.specs.Bit.{bit}
 use Rattle.octets.specs.Octets.{byte}
 use Rattle.octets.specs.Sentences.{pick, any, only, first}

@@ -1,17 +1,6 @@
 -- A walk over the descriptors of a body, a descriptor at a time: its laws, once for every walk. No axiom.
-use Prim.Native.Nat.{ℕ, zero, suc, _+_, _*_, _-_, _/_, _%_, _≤_, _<_}
-use native.Mathlib.Nat.{not-suc-le-zero, le-of-suc-le-suc, add-sub-cancel-left, add-zero}
+use Rattle.octets.proofs.Vocabulary.{_≡_, refl, sym, ap, _∙_, ℕ, zero, suc, _+_, _*_, _-_, _/_, _%_, _≤_, _<_, List, [], _∷_, _++_, flatMap, append-nil, append-assoc, Bool, true, false, _&&_, and-false, some, none, _⊎_, inl, inr, ⊎-elim, length, take, drop, length-take, length-drop, drop-of-length-le, leb, ltb, drop-cons, drop-drop, getD-take, getD-drop, arith, not-suc-le-zero, le-of-suc-le-suc, add-sub-cancel-left, add-zero, lt-leb, le-leb, lt-ltb, leb-true, leb-false, ltb-true}
 use native.Mathlib.Numerals.{add-one}
-use native.Mathlib.Omega.{arith}
-use mathlib.Core.Path.{_≡_, refl, sym, ap, _∙_}
-use mathlib.Core.Logic.{_⊎_, inl, inr, ⊎-elim}
-use mathlib.Core.List.{List, [], _∷_, _++_, flatMap, append-nil, append-assoc}
-use mathlib.Core.Bool.{Bool, true, false, _&&_, and-false}
-use mathlib.Core.Option.{some, none}
-use lib.ListN.{length, take, drop, length-take, length-drop, drop-of-length-le}
-use lib.Seq.{drop-cons, drop-drop, getD-take, getD-drop}
-use lib.Dec.{leb, ltb}
-use borrow.Author.Tests.{lt-leb, le-leb, lt-ltb, leb-true, leb-false, ltb-true}
 use Rattle.octets.specs.Octets.{byte, part}
 use Rattle.octets.specs.Sentences.{pick}
 use Rattle.octets.proofs.Sentences.{cases, both}

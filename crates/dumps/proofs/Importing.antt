@@ -1,14 +1,5 @@
 -- The pieces of a dump stand in order; what import answers, case by case. No axiom.
-use Prim.Native.Nat.{ℕ, suc, _+_, _-_, _*_, _≤_, _<_}
-use native.Mathlib.Nat.{sub-zero}
-use native.Mathlib.Omega.{arith}
-use mathlib.Core.Path.{_≡_, refl, sym, ap, _∙_}
-use mathlib.Core.Bool.{true, false}
-use mathlib.Core.List.{List, [], _∷_, _++_, map}
-use lib.ListN.{length, take, drop, length-map}
-use lib.Seq.{sets-eq, take-at}
-use lib.Dec.{eqb, ltb}
-use borrow.Author.Tests.{lt-ltb}
+use Rattle.octets.proofs.Vocabulary.{_≡_, refl, sym, ap, _∙_, ℕ, suc, _+_, _-_, _*_, _≤_, _<_, List, [], _∷_, _++_, map, true, false, length, take, drop, length-map, eqb, ltb, sets-eq, take-at, arith, sub-zero, lt-ltb}
 use Rattle.octets.specs.Sentences.{pick, neighbours}
 use Rattle.octets.proofs.Sentences.{or-left, or-right}
 use Rattle.descriptors.specs.Limits.{fullSpeed}

@@ -1,9 +1,5 @@
 -- The walk of the code collects the places of names in the cut descriptors. No axiom.
-use Prim.Native.Nat.{ℕ, _+_}
-use mathlib.Core.Path.{_≡_, refl, sym, ap, _∙_}
-use mathlib.Core.Bool.{Bool, true, false}
-use mathlib.Core.List.{List, [], _∷_, _++_, append-assoc, append-nil}
-use lib.ListN.{length}
+use Rattle.octets.proofs.Vocabulary.{_≡_, refl, sym, ap, _∙_, ℕ, _+_, List, [], _∷_, _++_, append-assoc, append-nil, Bool, true, false, length}
 use Rattle.octets.specs.Sentences.{pick}
 use Rattle.descriptors.specs.declared.walk.Stand.{Stand}
 use Rattle.descriptors.specs.Cut.{Cutting, whole, broken, descriptor, cut, descriptorsOf}

@@ -1,13 +1,5 @@
 -- The stream of a dump's pieces, body by body. No axiom.
-use Prim.Native.Nat.{ℕ, _+_, _*_, _≤_, _<_}
-use native.Mathlib.Omega.{arith}
-use mathlib.Core.Path.{_≡_, refl, ap, _∙_}
-use mathlib.Core.Bool.{true}
-use mathlib.Core.List.{List, [], _∷_, _++_, map}
-use lib.ListN.{length, take, drop, length-append, length-drop}
-use lib.Seq.{length-take-le}
-use lib.Dec.{ltb}
-use borrow.Author.Tests.{ltb-true}
+use Rattle.octets.proofs.Vocabulary.{_≡_, refl, ap, _∙_, ℕ, _+_, _*_, _≤_, _<_, List, [], _∷_, _++_, map, true, length, take, drop, length-append, length-drop, ltb, length-take-le, arith, ltb-true}
 use Rattle.octets.proofs.Sentences.{both}
 use Rattle.descriptors.specs.Cut.{cut, descriptorsOf}
 use Rattle.set_writer.specs.Stream.{pieceHead, streamOf}

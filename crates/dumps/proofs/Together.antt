@@ -1,15 +1,5 @@
 -- In a set that opens, the device and the configuration bodies lie end to end, from where the bodies begin. No axiom.
-use Prim.Native.Nat.{ℕ, _+_, _-_, _*_, _≤_, _<_}
-use native.Mathlib.Nat.{zero-add, add-sub-cancel-left}
-use native.Mathlib.Omega.{arith}
-use mathlib.Core.Path.{_≡_, refl, sym, ap, _∙_}
-use mathlib.Core.Logic.{⊎-elim}
-use mathlib.Core.Bool.{Bool, true, false}
-use mathlib.Core.List.{List, [], _∷_, _++_, map, append-assoc, append-nil}
-use lib.ListN.{length, take, drop, length-drop}
-use lib.Seq.{drop-drop, take-add, length-take-le, take-length}
-use lib.Dec.{eqb, leb, ltb}
-use borrow.Author.Tests.{eqb-true, ltb-true, eqb-false, ne-eqb, eq-eqb, le-leb, lt-leb, lt-ltb, le-ltb, leb-true}
+use Rattle.octets.proofs.Vocabulary.{_≡_, refl, sym, ap, _∙_, ℕ, _+_, _-_, _*_, _≤_, _<_, List, [], _∷_, _++_, map, append-assoc, append-nil, Bool, true, false, ⊎-elim, length, take, drop, length-drop, eqb, leb, ltb, drop-drop, take-add, length-take-le, take-length, arith, zero-add, add-sub-cancel-left, eqb-true, ltb-true, eqb-false, ne-eqb, eq-eqb, le-leb, lt-leb, lt-ltb, le-ltb, leb-true}
 use Rattle.octets.specs.Octets.{byte, part}
 use Rattle.octets.specs.Sentences.{pick, every, only, neighbours}
 use Rattle.octets.proofs.Sentences.{cases, both, either, conjunct, never, neighbours-cons}

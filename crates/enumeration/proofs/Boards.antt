@@ -1,11 +1,5 @@
 -- The same for each kind of board: of one set, which has no test mode, and of two, at either speed. No axiom.
-use Prim.Native.Nat.{ℕ, _≤_}
-use native.Mathlib.Omega.{arith}
-use mathlib.Core.Path.{_≡_, refl}
-use mathlib.Core.List.{List}
-use mathlib.Core.Bool.{Bool, true, false, _||_, false≢true}
-use lib.Dec.{eqb}
-use borrow.Author.Tests.{lt-leb, eq-eqb, eqb-true, eqb-false}
+use Rattle.octets.proofs.Vocabulary.{_≡_, refl, ℕ, _≤_, List, Bool, true, false, _||_, false≢true, eqb, arith, lt-leb, eq-eqb, eqb-true, eqb-false}
 use Rattle.octets.proofs.Sentences.{cases}
 use Rattle.descriptors.specs.Limits.{fullSpeed}
 use Rattle.sets.specs.Opening.{lent, lentTwo, opening}

@@ -1,15 +1,5 @@
 -- Chapter 9's checklist (specs/Checklist). No axiom.
-use Prim.Native.Nat.{ℕ, _+_, _*_, _/_, _≤_, _<_}
-use native.Mathlib.Omega.{arith}
-use native.Mathlib.Nat.{add-zero}
-use mathlib.Core.Path.{_≡_, refl, sym, ap, _∙_}
-use mathlib.Core.Logic.{inl, inr}
-use mathlib.Core.List.{List, [], _∷_, List·Memᴰ, List·Memᴰ·head}
-use mathlib.Core.Bool.{Bool, true, false, _&&_, _||_, and-false, false≢true}
-use mathlib.Core.Option.{some, none}
-use lib.ListN.{length, take, getD, length-map}
-use lib.Dec.{eqb, leb}
-use borrow.Author.Tests.{le-leb, lt-leb, eq-eqb, ne-eqb, eqb-true, leb-true}
+use Rattle.octets.proofs.Vocabulary.{_≡_, refl, sym, ap, _∙_, ℕ, _+_, _*_, _/_, _≤_, _<_, List, [], _∷_, List·Memᴰ, List·Memᴰ·head, Bool, true, false, _&&_, _||_, and-false, false≢true, some, none, inl, inr, length, take, getD, length-map, eqb, leb, arith, add-zero, le-leb, lt-leb, eq-eqb, ne-eqb, eqb-true, leb-true}
 use Rattle.octets.specs.Sentences.{pick, every, any, member, isSome, isEmpty}
 use Rattle.octets.specs.Sentences as words
 use Rattle.octets.proofs.Sentences.{cases, both, joined, neither, every-member, member-any, first-some, none-first}

@@ -1,13 +1,5 @@
 -- Every accepted board enumerates, whatever happened before (specs/Enumerates). No axiom.
-use Prim.Native.Nat.{ℕ, _/_, _≤_, _<_}
-use native.Mathlib.Omega.{arith}
-use mathlib.Core.Path.{_≡_, refl, ap, _∙_}
-use mathlib.Core.Logic.{_⊎_, inl, inr}
-use mathlib.Core.List.{List, [], _∷_, _++_, map, List·Memᴰ}
-use mathlib.Core.Bool.{Bool, true, false, _&&_}
-use lib.ListN.{length, length-drop}
-use lib.Dec.{eqb, leb}
-use borrow.Author.Tests.{le-leb, lt-leb, eq-eqb, ne-eqb, eqb-true}
+use Rattle.octets.proofs.Vocabulary.{_≡_, refl, ap, _∙_, ℕ, _/_, _≤_, _<_, List, [], _∷_, _++_, map, List·Memᴰ, Bool, true, false, _&&_, _⊎_, inl, inr, length, length-drop, eqb, leb, arith, le-leb, lt-leb, eq-eqb, ne-eqb, eqb-true}
 use Rattle.octets.specs.Sentences.{pick, only, upTo, isSome, isEmpty}
 use Rattle.octets.specs.Sentences as words
 use Rattle.octets.proofs.Sentences.{both, either, member-any, only-member}

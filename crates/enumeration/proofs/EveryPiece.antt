@@ -1,15 +1,6 @@
 -- Every piece of the set in use is answered: GET_DESCRIPTOR of its type and index, in its language, gives its body, on every accepted board at every record that fits and is
 -- in no test mode. So what a host can read is the set, whole. No axiom.
-use Prim.Native.Nat.{ℕ, zero, suc, _≤_, _<_}
-use native.Mathlib.Omega.{arith}
-use mathlib.Core.Path.{_≡_, refl, sym, ap, _∙_}
-use mathlib.Core.Logic.{_⊎_, inl, inr, ⊎-elim}
-use mathlib.Core.List.{List, [], _∷_, List·Memᴰ, List·Memᴰ·cases-cons, List·Memᴰ·not-nil}
-use mathlib.Core.Bool.{Bool, true, false, _&&_, not, and-false, false≢true}
-use mathlib.Core.Option.{Option, some, none}
-use lib.ListN.{length, take, drop, getElem?}
-use lib.Dec.{eqb, leb}
-use borrow.Author.Tests.{eqb-true, eq-eqb, leb-true, le-leb}
+use Rattle.octets.proofs.Vocabulary.{_≡_, refl, sym, ap, _∙_, ℕ, zero, suc, _≤_, _<_, List, [], _∷_, List·Memᴰ, List·Memᴰ·cases-cons, List·Memᴰ·not-nil, Bool, true, false, _&&_, not, and-false, false≢true, Option, some, none, _⊎_, inl, inr, ⊎-elim, length, take, drop, getElem?, eqb, leb, arith, eqb-true, eq-eqb, leb-true, le-leb}
 use Rattle.octets.specs.Octets.{Bytes}
 use Rattle.octets.specs.Sentences.{_⇒_, every, any, member, isSome, neighbours}
 use Rattle.octets.proofs.Sentences.{cases, both, either, if-then, conjunct, every-member, member-only}

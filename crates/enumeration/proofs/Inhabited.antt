@@ -1,11 +1,5 @@
 -- The theorems at work: the bench set S, the titrator T with its strings, and a pair at both speeds; the scripts written out, by computing.
-use Prim.Native.Nat.{ℕ, _^_}
-use native.Mathlib.Omega.{arith}
-use mathlib.Core.Path.{_≡_, refl, subst}
-use mathlib.Core.Bool.{true, false}
-use mathlib.Core.List.{List, [], _∷_, _++_, map, List·Memᴰ, List·Memᴰ·head, List·Memᴰ·tail}
-use lib.ListN.{replicate}
-use borrow.Author.Tests.{eqb-true}
+use Rattle.octets.proofs.Vocabulary.{_≡_, refl, subst, ℕ, _^_, List, [], _∷_, _++_, map, List·Memᴰ, List·Memᴰ·head, List·Memᴰ·tail, true, false, replicate, arith, eqb-true}
 use Rattle.descriptors.specs.Limits.{fullSpeed}
 use Rattle.descriptors.specs.Configuration.{configurationOf, bConfigurationValue, bitOf}
 use Rattle.descriptors.specs.declared.Setting.{Setting}

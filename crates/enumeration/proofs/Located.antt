@@ -1,14 +1,5 @@
 -- Where GET_DESCRIPTOR finds the bodies of an accepted board's set in use. No axiom.
-use Prim.Native.Nat.{ℕ, _+_, _*_, _/_, _%_, _≤_, _<_}
-use native.Mathlib.Omega.{arith}
-use mathlib.Core.Path.{_≡_, refl, sym, ap, _∙_}
-use mathlib.Core.Logic.{_⊎_, inl, inr}
-use mathlib.Core.List.{List, [], _∷_, List·Memᴰ}
-use mathlib.Core.Bool.{true, false, _&&_, _||_, and-false, false≢true}
-use mathlib.Core.Option.{Option, some, none, Option·map}
-use lib.ListN.{length}
-use lib.Dec.{eqb}
-use borrow.Author.Tests.{eq-eqb, ne-eqb, leb-true}
+use Rattle.octets.proofs.Vocabulary.{_≡_, refl, sym, ap, _∙_, ℕ, _+_, _*_, _/_, _%_, _≤_, _<_, List, [], _∷_, List·Memᴰ, true, false, _&&_, _||_, and-false, false≢true, Option, some, none, Option·map, _⊎_, inl, inr, length, eqb, arith, eq-eqb, ne-eqb, leb-true}
 use Rattle.octets.specs.Sentences.{any, first, member, isSome, isEmpty}
 use Rattle.octets.proofs.Sentences.{both, joined, every-member, any-member, member-any, first-any, first-some, only-member, member-only, conjunct, either}
 use Rattle.sets.specs.declared.Entry.{Entry}

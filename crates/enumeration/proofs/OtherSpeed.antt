@@ -1,14 +1,5 @@
 -- Boards of two sets: at either speed the device_qualifier is the other set's, and so is every other_speed_configuration, byte for byte but for its type (L7). No axiom.
-use Prim.Native.Nat.{ℕ, zero, suc, _+_, _≤_, _<_}
-use native.Mathlib.Omega.{arith}
-use mathlib.Core.Path.{_≡_, refl, sym, ap, _∙_}
-use mathlib.Core.Logic.{inr}
-use mathlib.Core.List.{List, [], _∷_, map, List·Memᴰ}
-use mathlib.Core.Bool.{true, _&&_, false≢true}
-use mathlib.Core.Option.{Option, some, none}
-use lib.ListN.{take, getElem?}
-use lib.Dec.{eqb}
-use borrow.Author.Tests.{eqb-true}
+use Rattle.octets.proofs.Vocabulary.{_≡_, refl, sym, ap, _∙_, ℕ, zero, suc, _+_, _≤_, _<_, List, [], _∷_, map, List·Memᴰ, true, _&&_, false≢true, Option, some, none, inr, take, getElem?, eqb, arith, eqb-true}
 use Rattle.octets.specs.Sentences.{isSome}
 use Rattle.octets.proofs.Sentences.{cases, both, only-member}
 use Rattle.octets.proofs.Counting.{none-some, at-member}

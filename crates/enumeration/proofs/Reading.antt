@@ -1,16 +1,6 @@
 -- GET_DESCRIPTOR on an accepted board, at every record that fits and is in no test mode: the device descriptor, every configuration, string 0 and every string that is
 -- referred to, for every wLength: its first wLength bytes, or the whole of it. No axiom.
-use Prim.Native.Nat.{ℕ, suc, _≤_, _<_, min}
-use native.Mathlib.Omega.{arith}
-use mathlib.Core.Path.{_≡_, refl, sym, ap, _∙_}
-use mathlib.Core.Logic.{_⊎_, inl, inr, ⊎-elim}
-use mathlib.Core.List.{List, [], _∷_, List·Memᴰ, List·Memᴰ·cases-cons, List·Memᴰ·not-nil}
-use mathlib.Core.Bool.{true, false}
-use mathlib.Core.Option.{Option, some, none}
-use lib.ListN.{length, take, drop}
-use lib.Seq.{take-all}
-use lib.Dec.{eqb, ltb}
-use borrow.Author.Tests.{ltb-true, lt-ltb, leb-true, eqb-true, ne-eqb}
+use Rattle.octets.proofs.Vocabulary.{_≡_, refl, sym, ap, _∙_, ℕ, suc, _≤_, _<_, min, List, [], _∷_, List·Memᴰ, List·Memᴰ·cases-cons, List·Memᴰ·not-nil, true, false, Option, some, none, _⊎_, inl, inr, ⊎-elim, length, take, drop, eqb, ltb, take-all, arith, ltb-true, lt-ltb, leb-true, eqb-true, ne-eqb}
 use Rattle.octets.specs.Octets.{Bytes, part}
 use Rattle.octets.specs.Sentences.{isEmpty}
 use Rattle.octets.proofs.Sentences.{cases, every-member, member-every, first-some, only-member, conjunct}

@@ -1,15 +1,5 @@
 -- Every setting can be chosen, and every bulk or interrupt endpoint halted and mended (specs/Works). No axiom.
-use Prim.Native.Nat.{ℕ, _/_, _%_, _≤_}
-use native.Mathlib.Omega.{arith}
-use mathlib.Core.Path.{_≡_, refl, sym, ap, _∙_}
-use mathlib.Core.Logic.{_⊎_, inl, inr}
-use mathlib.Core.List.{List·Memᴰ}
-use mathlib.Core.Bool.{true, false, _&&_, not, false≢true}
-use mathlib.Core.Option.{Option, some, none}
-use lib.ListN.{getD}
-use lib.Seq.{getD-set-same, getD-set-other}
-use lib.Dec.{eqb, leb}
-use borrow.Author.Tests.{le-leb, eq-eqb, ne-eqb, eqb-true, eqb-false, not-true, leb-true}
+use Rattle.octets.proofs.Vocabulary.{_≡_, refl, sym, ap, _∙_, ℕ, _/_, _%_, _≤_, List·Memᴰ, true, false, _&&_, not, false≢true, Option, some, none, _⊎_, inl, inr, getD, eqb, leb, getD-set-same, getD-set-other, arith, le-leb, eq-eqb, ne-eqb, eqb-true, eqb-false, not-true, leb-true}
 use Rattle.octets.specs.Sentences.{isSome}
 use Rattle.octets.specs.Sentences as words
 use Rattle.octets.proofs.Sentences.{cases, both, joined, if-then, member-any, only-member, first-any, first-some, pairs-members}

@@ -1,15 +1,5 @@
 -- Toggles never drift (specs/Toggles). No axiom.
-use Prim.Native.Nat.{ℕ, _+_, _*_, _-_, _<_}
-use native.Mathlib.Omega.{arith}
-use mathlib.Core.Path.{_≡_, refl, sym, ap, subst, _∙_}
-use mathlib.Core.Logic.{_⊎_, inl, inr}
-use mathlib.Core.List.{List, [], _∷_, List·Memᴰ, List·Memᴰ·not-nil}
-use mathlib.Core.Bool.{Bool, true, false, _&&_, _||_, not, and-false, false≢true}
-use mathlib.Core.Option.{Option, some, none}
-use lib.ListN.{getD, set}
-use lib.Seq.{getD-set-same, getD-set-other}
-use lib.Dec.{eqb, leb}
-use borrow.Author.Tests.{eqb-true, eqb-false, eq-eqb, leb-true, le-leb}
+use Rattle.octets.proofs.Vocabulary.{_≡_, refl, sym, ap, subst, _∙_, ℕ, _+_, _*_, _-_, _<_, List, [], _∷_, List·Memᴰ, List·Memᴰ·not-nil, Bool, true, false, _&&_, _||_, not, and-false, false≢true, Option, some, none, _⊎_, inl, inr, getD, set, eqb, leb, getD-set-same, getD-set-other, arith, eqb-true, eqb-false, eq-eqb, leb-true, le-leb}
 use Rattle.octets.specs.Bit.{bit, flipBit}
 use Rattle.octets.specs.Sentences.{pick, any, every, only, isSome}
 use Rattle.octets.proofs.Sentences.{cases, both, joined, or-right, every-member, any-member, member-any, none-any, first-some, only-member, member-only}

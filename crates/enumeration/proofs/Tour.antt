@@ -1,12 +1,5 @@
 -- A host's whole tour: it enumerates, and the configuration that it then has is the one whose body it read; it visits each of its settings in turn. No axiom.
-use Prim.Native.Nat.{ℕ, _<_}
-use mathlib.Core.Path.{_≡_, refl, sym, ap, subst, _∙_}
-use mathlib.Core.Logic.{_⊎_, inl, inr}
-use mathlib.Core.List.{List, [], _∷_, map, List·Memᴰ, List·Memᴰ·head, List·Memᴰ·tail}
-use mathlib.Core.Bool.{true, not, false≢true}
-use mathlib.Core.Option.{Option, some, none}
-use lib.Dec.{eqb}
-use borrow.Author.Tests.{eqb-true, eqb-false, eq-eqb, ne-eqb, not-true}
+use Rattle.octets.proofs.Vocabulary.{_≡_, refl, sym, ap, subst, _∙_, ℕ, _<_, List, [], _∷_, map, List·Memᴰ, List·Memᴰ·head, List·Memᴰ·tail, true, not, false≢true, Option, some, none, _⊎_, inl, inr, eqb, eqb-true, eqb-false, eq-eqb, ne-eqb, not-true}
 use Rattle.octets.specs.Sentences.{first, isSome}
 use Rattle.octets.proofs.Sentences.{member-any, first-any, first-some, pairs-members}
 use Rattle.descriptors.specs.declared.Setting.{Setting}

@@ -1,13 +1,5 @@
 -- No test mode is entered that was not asked for: where no event asks for one, SET_FEATURE(TEST_MODE) to a board of two sets, none is waiting and none is entered. No axiom.
-use Prim.Native.Nat.{ℕ, _%_, _≤_}
-use native.Mathlib.Omega.{arith}
-use mathlib.Core.Path.{_≡_, refl, sym, _∙_}
-use mathlib.Core.Logic.{_⊎_, inl, inr}
-use mathlib.Core.List.{[], _∷_}
-use mathlib.Core.Bool.{true, false, _&&_, not, false≢true}
-use mathlib.Core.Option.{Option, some, none}
-use lib.Dec.{eqb, leb}
-use borrow.Author.Tests.{eqb-true, eq-eqb, ne-eqb, leb-true, lt-leb}
+use Rattle.octets.proofs.Vocabulary.{_≡_, refl, sym, _∙_, ℕ, _%_, _≤_, [], _∷_, true, false, _&&_, not, false≢true, Option, some, none, _⊎_, inl, inr, eqb, leb, arith, eqb-true, eq-eqb, ne-eqb, leb-true, lt-leb}
 use Rattle.octets.specs.Bit.{bit}
 use Rattle.octets.specs.Sentences.{_⇒_, every, any, isSome}
 use Rattle.octets.proofs.Sentences.{cases, joined, if-then, conjunct, every-member}

@@ -1,11 +1,5 @@
 -- What a lookup tells of the board. No axiom.
-use Prim.Native.Nat.{ℕ, zero, suc, _%_, _≤_, _<_}
-use native.Mathlib.Omega.{arith}
-use mathlib.Core.Path.{_≡_, refl, ap, _∙_}
-use mathlib.Core.Bool.{Bool, true, false, _&&_, not}
-use mathlib.Core.Option.{Option, some, none}
-use lib.Dec.{eqb, leb}
-use borrow.Author.Tests.{le-leb, leb-true, ne-eqb}
+use Rattle.octets.proofs.Vocabulary.{_≡_, refl, ap, _∙_, ℕ, zero, suc, _%_, _≤_, _<_, Bool, true, false, _&&_, not, Option, some, none, eqb, leb, arith, le-leb, leb-true, ne-eqb}
 use Rattle.octets.specs.Sentences.{pick}
 use Rattle.octets.proofs.Sentences.{both}
 use Rattle.descriptors.specs.declared.Endpoint.{Endpoint}

@@ -1,12 +1,5 @@
 -- What the table's row tells of a setup that it does not refuse. No axiom.
-use Prim.Native.Nat.{ℕ, _<_}
-use native.Mathlib.Omega.{arith}
-use mathlib.Core.Path.{_≡_, refl, ap, _∙_}
-use mathlib.Core.Bool.{Bool, true, false, _&&_}
-use mathlib.Core.List.{[], _∷_}
-use mathlib.Core.Option.{Option, some, none}
-use lib.Dec.{eqb, leb}
-use borrow.Author.Tests.{eqb-true, leb-true}
+use Rattle.octets.proofs.Vocabulary.{_≡_, refl, ap, _∙_, ℕ, _<_, [], _∷_, Bool, true, false, _&&_, Option, some, none, eqb, leb, arith, eqb-true, leb-true}
 use Rattle.octets.specs.Sentences.{pick, _⇒_, every}
 use Rattle.octets.proofs.Sentences.{cases, never, both, conjunct, if-then, every-member, first-some}
 use Rattle.records.specs.declared.Device.{Device}

@@ -1,8 +1,5 @@
 -- n ports are n devices (specs/AtPorts). No axiom.
-use Prim.Native.Nat.{ℕ}
-use mathlib.Core.Path.{_≡_, refl, _∙_}
-use mathlib.Core.List.{List}
-use lib.ListN.{length, take}
+use Rattle.octets.proofs.Vocabulary.{_≡_, refl, _∙_, ℕ, List, length, take}
 use Rattle.sets.specs.Opening.{Board, lent}
 use Rattle.records.specs.declared.Device.{Device}
 use Rattle.records.specs.Image.{imageOf}

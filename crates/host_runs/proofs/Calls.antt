@@ -1,12 +1,5 @@
 -- A script that is played on the record is played by the exported calls, in packets (specs/Calls). No axiom.
-use Prim.Native.Nat.{ℕ, zero, suc}
-use mathlib.Core.Path.{_≡_, refl, sym, ap, subst, _∙_}
-use mathlib.Core.List.{List, [], _∷_, _++_, map}
-use mathlib.Core.Bool.{true, _&&_, not}
-use mathlib.Core.Option.{Option, some, none}
-use lib.ListN.{length, take}
-use lib.Dec.{eqb, leb}
-use borrow.Author.Tests.{eq-eqb}
+use Rattle.octets.proofs.Vocabulary.{_≡_, refl, sym, ap, subst, _∙_, ℕ, zero, suc, List, [], _∷_, _++_, map, true, _&&_, not, Option, some, none, length, take, eqb, leb, eq-eqb}
 use Rattle.descriptors.specs.declared.Endpoint.{Endpoint}
 use Rattle.octets.specs.Bit.{bit}
 use Rattle.descriptors.specs.Configuration.{canHalt, bitOf}

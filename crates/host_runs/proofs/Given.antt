@@ -1,11 +1,5 @@
 -- What the host reads is what the maker gave, and what it collects is what hk_export writes (specs/Given). No axiom.
-use Prim.Native.Nat.{ℕ, _≤_}
-use native.Mathlib.Omega.{arith}
-use mathlib.Core.Path.{_≡_, refl, sym, ap, _∙_}
-use mathlib.Core.List.{List, [], _∷_, _++_, map, List·Memᴰ}
-use mathlib.Core.Bool.{true, false}
-use lib.ListN.{length, take}
-use lib.Dec.{eqb}
+use Rattle.octets.proofs.Vocabulary.{_≡_, refl, sym, ap, _∙_, ℕ, _≤_, List, [], _∷_, _++_, map, List·Memᴰ, true, false, length, take, eqb, arith}
 use Rattle.octets.specs.Octets.{Bytes}
 use Rattle.octets.specs.Sentences.{upTo}
 use Rattle.octets.proofs.Sentences.{cases}

@@ -1,12 +1,6 @@
 -- The theorems over runs at work: the titrator T, opened, addressed and configured, enumerates again at another address; S, written and exported; a pair at high speed; a driver of T replaced.
-use Prim.Native.Nat.{ℕ}
-use native.Mathlib.Omega.{arith}
-use mathlib.Core.Path.{_≡_, refl, subst}
-use mathlib.Core.List.{List, [], _∷_, _++_, map, List·Memᴰ, List·Memᴰ·head, List·Memᴰ·tail}
-use mathlib.Core.Bool.{false}
-use lib.ListN.{length, take, replicate}
+use Rattle.octets.proofs.Vocabulary.{_≡_, refl, subst, ℕ, List, [], _∷_, _++_, map, List·Memᴰ, List·Memᴰ·head, List·Memᴰ·tail, false, length, take, replicate, eqb, arith}
 use Rattle.octets.specs.Octets.{Bytes}
-use lib.Dec.{eqb}
 use Rattle.octets.specs.Sentences.{pick, any, isSome}
 use Rattle.descriptors.specs.Configuration.{bConfigurationValue}
 use Rattle.descriptors.specs.Limits.{fullSpeed}

@@ -1,9 +1,6 @@
 -- Theorems of board at work where an opening is computed already: hk_record_event beside the other way, and one driver that does not notice the other (L9); each export that takes an
 -- event on a SuperSpeed set (L13).
-use Prim.Native.Nat.{ℕ}
-use mathlib.Core.Path.{_≡_, refl}
-use mathlib.Core.List.{List, [], _∷_, _++_}
-use mathlib.Core.Bool.{false}
+use Rattle.octets.proofs.Vocabulary.{_≡_, refl, ℕ, List, [], _∷_, _++_, false}
 use Rattle.sets.specs.Opening.{lentTwo}
 use Rattle.records.specs.declared.Device.{Device}
 use Rattle.records.specs.Device.{fresh}

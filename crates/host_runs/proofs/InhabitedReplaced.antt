@@ -1,9 +1,5 @@
 -- Replacement at work beside the titrator (Inhabited): the bench set S; a pair of sets with two interfaces, at high speed; and the second of two titrators at ports.
-use Prim.Native.Nat.{ℕ}
-use native.Mathlib.Omega.{arith}
-use mathlib.Core.Path.{_≡_, refl}
-use mathlib.Core.List.{List, [], _∷_, _++_}
-use mathlib.Core.Bool.{false}
+use Rattle.octets.proofs.Vocabulary.{_≡_, refl, ℕ, List, [], _∷_, _++_, false, arith}
 use Rattle.sets.specs.Opening.{Board}
 use Rattle.records.specs.declared.Device.{Device}
 use Rattle.records.specs.Device.{fresh}

@@ -1,10 +1,5 @@
 -- After every run of exported calls from an opening, whatever it did, the board enumerates, and everything works (specs/NeverLockedOut). No axiom.
-use mathlib.Core.Path.{_≡_, refl, ap, _∙_}
-use mathlib.Core.Logic.{inl}
-use mathlib.Core.List.{List}
-use mathlib.Core.Bool.{Bool, true, false}
-use Prim.Native.Nat.{ℕ}
-use lib.ListN.{length}
+use Rattle.octets.proofs.Vocabulary.{_≡_, refl, ap, _∙_, ℕ, List, Bool, true, false, inl, length}
 use Rattle.octets.specs.Sentences.{any, isSome}
 use Rattle.octets.proofs.Sentences.{neither}
 use Rattle.sets.specs.Opening.{Board, BytesOf, lent}

@@ -1,8 +1,5 @@
 -- Non-interference by replacement (specs/Replaced). No axiom.
-use Prim.Native.Nat.{ℕ}
-use mathlib.Core.Path.{_≡_, refl, sym, ap, subst, _∙_}
-use mathlib.Core.List.{List}
-use lib.ListN.{length}
+use Rattle.octets.proofs.Vocabulary.{_≡_, refl, sym, ap, subst, _∙_, ℕ, List, length}
 use Rattle.sets.specs.Opening.{Board, BytesOf}
 use Rattle.records.specs.Image.{deviceOf}
 use Rattle.order.specs.Run.{run, answers}

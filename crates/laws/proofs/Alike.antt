@@ -1,14 +1,5 @@
 -- An event that concerns k or nobody: records that k cannot tell apart get the same answer and stay so. No axiom.
-use Prim.Native.Nat.{ℕ, _+_, _*_, _≤_, _<_}
-use native.Mathlib.Omega.{arith}
-use mathlib.Core.Path.{_≡_, refl, sym, ap, _∙_}
-use mathlib.Core.Bool.{Bool, true, false, _&&_, not, false≢true}
-use mathlib.Core.List.{List}
-use mathlib.Core.Option.{Option, some, none}
-use lib.ListN.{length, getD, set}
-use lib.Seq.{getD-set-same}
-use lib.Dec.{eqb, leb}
-use borrow.Author.Tests.{eqb-true, eqb-false}
+use Rattle.octets.proofs.Vocabulary.{_≡_, refl, sym, ap, _∙_, ℕ, _+_, _*_, _≤_, _<_, List, Bool, true, false, _&&_, not, false≢true, Option, some, none, length, getD, set, eqb, leb, getD-set-same, arith, eqb-true, eqb-false}
 use Rattle.octets.specs.Bit.{bit, flipBit}
 use Rattle.octets.specs.Sentences.{pick, any, only}
 use Rattle.octets.proofs.Sentences.{both, any-member, member-any}

@@ -1,13 +1,5 @@
 -- A fitting record keeps fitting under every kind of outcome. No axiom.
-use Prim.Native.Nat.{ℕ, _-_, _%_, _^_, _≤_, _<_}
-use native.Mathlib.Omega.{arith}
-use mathlib.Core.Path.{_≡_, refl, sym, ap, _∙_}
-use lib.ListN.{length}
-use mathlib.Core.Logic.{_⊎_, inl, inr}
-use mathlib.Core.List.{List, List·Memᴰ}
-use mathlib.Core.Bool.{Bool, true, false, _&&_, _||_, not, false≢true}
-use lib.Dec.{eqb, leb, lit≤}
-use borrow.Author.Tests.{eqb-true, eqb-false, eq-eqb, ne-eqb, leb-true, le-leb}
+use Rattle.octets.proofs.Vocabulary.{_≡_, refl, sym, ap, _∙_, ℕ, _-_, _%_, _^_, _≤_, _<_, List, List·Memᴰ, Bool, true, false, _&&_, _||_, not, false≢true, _⊎_, inl, inr, length, eqb, leb, lit≤, arith, eqb-true, eqb-false, eq-eqb, ne-eqb, leb-true, le-leb}
 use Rattle.octets.specs.Bit.{setBit, clearBit, flipBit}
 use Rattle.octets.specs.Sentences.{pick, any}
 use Rattle.octets.proofs.Sentences.{both, joined, either, or-left, or-right, then-if}

@@ -1,13 +1,6 @@
 -- A record that fits, rule by rule: what `fits` says, in parts that a change can be followed through. No axiom.
-use Prim.Native.Nat.{ℕ, _≤_}
-use native.Mathlib.Omega.{arith}
+use Rattle.octets.proofs.Vocabulary.{_≡_, refl, sym, _∙_, ℕ, _≤_, List, [], _∷_, Bool, true, false, _&&_, _||_, false≢true, _⊎_, inl, inr, eqb, leb, arith, eqb-true, eq-eqb, leb-true, le-leb}
 use native.Mathlib.Decide.{ℕ-discrete}
-use mathlib.Core.Path.{_≡_, refl, sym, _∙_}
-use mathlib.Core.List.{List, [], _∷_}
-use mathlib.Core.Bool.{Bool, true, false, _&&_, _||_, false≢true}
-use mathlib.Core.Logic.{_⊎_, inl, inr}
-use lib.Dec.{eqb, leb}
-use borrow.Author.Tests.{eqb-true, eq-eqb, leb-true, le-leb}
 use Rattle.octets.specs.Sentences.{_⇒_, any}
 use Rattle.octets.proofs.Sentences.{both, joined, if-then, conjunct, either}
 use Rattle.sets.specs.View.{View, wakes}

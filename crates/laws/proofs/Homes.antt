@@ -1,17 +1,7 @@
 -- No two interfaces of a configuration share an address: so an address, its bit in the record and its current endpoint belong to one
 -- interface. No axiom.
-use Prim.Native.Nat.{ℕ, _+_, _*_, _/_, _%_}
-use native.Mathlib.Omega.{arith}
-use native.Mathlib.Nat.{div-div-eq-div-mul}
+use Rattle.octets.proofs.Vocabulary.{_≡_, refl, sym, ap, _∙_, ℕ, _+_, _*_, _/_, _%_, List, [], _∷_, List·Memᴰ, List·Memᴰ·head, List·Memᴰ·tail, Bool, true, false, _&&_, not, and-false, Option, some, none, Option·map, _⊎_, inl, inr, getD, eqb, arith, div-div-eq-div-mul, eqb-true, eq-eqb}
 use native.Mathlib.Decide.{ℕ-discrete}
-use mathlib.Core.Path.{_≡_, refl, sym, ap, _∙_}
-use mathlib.Core.Logic.{_⊎_, inl, inr}
-use mathlib.Core.Bool.{Bool, true, false, _&&_, not, and-false}
-use mathlib.Core.List.{List, [], _∷_, List·Memᴰ, List·Memᴰ·head, List·Memᴰ·tail}
-use mathlib.Core.Option.{Option, some, none, Option·map}
-use lib.ListN.{getD}
-use lib.Dec.{eqb}
-use borrow.Author.Tests.{eqb-true, eq-eqb}
 use Rattle.octets.specs.Bit.{bit, setBit, clearBit, flipBit}
 use Rattle.octets.specs.Sentences.{pick, only, first, isSome}
 use Rattle.octets.proofs.Sentences.{cases, never, same-test, both, if-then, first-some, first-any, only-member, member-any, pairs-members, first-alike}

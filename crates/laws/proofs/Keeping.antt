@@ -1,16 +1,6 @@
 -- How the rules of a fitting record fare under each change that an event makes. No axiom.
-use Prim.Native.Nat.{ℕ, _^_, _<_}
-use native.Mathlib.Omega.{arith}
+use Rattle.octets.proofs.Vocabulary.{_≡_, refl, sym, ap, _∙_, ℕ, _^_, _<_, List, [], _∷_, List·Memᴰ, List·Memᴰ·head, List·Memᴰ·tail, List·Memᴰ·not-nil, List·Memᴰ·cases-cons, Bool, true, false, _&&_, false≢true, Option, some, none, _⊎_, inl, inr, getD, set, getD-replicate, length-set, eqb, getD-set-same, getD-set-other, arith, eqb-true, eq-eqb}
 use native.Mathlib.Decide.{ℕ-discrete}
-use mathlib.Core.Path.{_≡_, refl, sym, ap, _∙_}
-use mathlib.Core.Logic.{_⊎_, inl, inr}
-use mathlib.Core.List.{List, [], _∷_, List·Memᴰ, List·Memᴰ·head, List·Memᴰ·tail, List·Memᴰ·not-nil, List·Memᴰ·cases-cons}
-use mathlib.Core.Bool.{Bool, true, false, _&&_, false≢true}
-use mathlib.Core.Option.{Option, some, none}
-use lib.ListN.{getD, set, getD-replicate, length-set}
-use lib.Seq.{getD-set-same, getD-set-other}
-use lib.Dec.{eqb}
-use borrow.Author.Tests.{eqb-true, eq-eqb}
 use Rattle.octets.specs.Bit.{bit, clearBit}
 use Rattle.octets.specs.Sentences.{pick, _⇒_, any, only, first, pairs}
 use Rattle.octets.proofs.Sentences.{never, both, joined, or-left, if-then, then-if, any-member, member-any, first-some, only-member, member-only, below-at, at-below}

@@ -1,12 +1,7 @@
 -- Locality, for every event: one that concerns interface k takes its answer and k's next part from k's part and the shared fields, leaves
 -- every other interface's part, and changes the rest only by dropping what waits; one that concerns nobody answers alike, and leaves
 -- alike, records that k cannot tell apart and whose rest is the same. No axiom.
-use Prim.Native.Nat.{ℕ}
-use mathlib.Core.Path.{_≡_, refl, sym, ap, subst, _∙_}
-use mathlib.Core.Bool.{Bool, true, false, false≢true}
-use mathlib.Core.Option.{Option, some, none, Option·some-injective, Option·none-ne-some}
-use lib.Dec.{eqb}
-use borrow.Author.Tests.{eqb-true, eqb-false}
+use Rattle.octets.proofs.Vocabulary.{_≡_, refl, sym, ap, subst, _∙_, ℕ, Bool, true, false, false≢true, Option, some, none, Option·some-injective, Option·none-ne-some, eqb, eqb-true, eqb-false}
 use Rattle.octets.specs.Sentences.{pick, any, first, isSome}
 use Rattle.sets.specs.Opening.{Board}
 use Rattle.sets.specs.View.{View, byValue, unconfigured}

@@ -1,13 +1,6 @@
 -- Every outcome of an event on a record that fits, by kind, with what is known where it comes about: the one walk over the events and
 -- requests from which the promises about the step are proved. No axiom.
-use Prim.Native.Nat.{ℕ, _≤_, min, _/_, _%_}
-use mathlib.Core.Path.{_≡_, refl, _∙_}
-use mathlib.Core.List.{[], _∷_, List·Memᴰ}
-use mathlib.Core.Bool.{Bool, true, false, _&&_, not}
-use mathlib.Core.Option.{Option, some, none}
-use lib.Dec.{eqb, leb, lit≤}
-use borrow.Author.Tests.{eq-eqb, eqb-true, eqb-false, leb-true}
-use native.Mathlib.Omega.{arith}
+use Rattle.octets.proofs.Vocabulary.{_≡_, refl, _∙_, ℕ, _≤_, min, _/_, _%_, [], _∷_, List·Memᴰ, Bool, true, false, _&&_, not, Option, some, none, eqb, leb, lit≤, arith, eq-eqb, eqb-true, eqb-false, leb-true}
 use Rattle.octets.specs.Bit.{bit, flipBit}
 use Rattle.octets.specs.Sentences.{pick, _⇒_, any, every, first, member}
 use Rattle.octets.proofs.Sentences.{both, if-then, conjunct, every-member, first-some}

@@ -1,11 +1,5 @@
 -- Picking out an interface's events: the two ways to say it are one, and it goes through a map. No axiom.
-use Prim.Native.Nat.{ℕ, zero, suc}
-use mathlib.Core.Path.{_≡_, refl, sym, ap, _∙_}
-use mathlib.Core.Bool.{Bool, true, false, false≢true}
-use mathlib.Core.List.{List, [], _∷_, map}
-use mathlib.Core.Option.{Option, some, none, Option·map, Option·some-injective, Option·none-ne-some}
-use lib.ListN.{getElem?}
-use lib.Dec.{eqb}
+use Rattle.octets.proofs.Vocabulary.{_≡_, refl, sym, ap, _∙_, ℕ, zero, suc, List, [], _∷_, map, Bool, true, false, false≢true, Option, some, none, Option·map, Option·some-injective, Option·none-ne-some, getElem?, eqb}
 use Rattle.octets.specs.Sentences.{pick, every, only, isSome}
 use Rattle.octets.proofs.Sentences.{both, joined}
 use Rattle.order.specs.Run.{log, keep, All, own}

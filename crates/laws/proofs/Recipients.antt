@@ -1,12 +1,5 @@
 -- The row that lets a setup through, and the recipients of the table's requests: 05, 06, 08 and 09 are a device's, 00, 01 and 03 anybody's, 0A and 0B an interface's. No axiom.
-use Prim.Native.Nat.{ℕ, _%_, _≤_}
-use native.Mathlib.Omega.{arith}
-use mathlib.Core.Path.{_≡_, refl, sym, ap, _∙_}
-use mathlib.Core.Bool.{Bool, true, false, _&&_, _||_, false≢true}
-use mathlib.Core.Option.{Option, some, none}
-use mathlib.Core.List.{List·Memᴰ}
-use lib.Dec.{eqb, leb}
-use borrow.Author.Tests.{eqb-true, eq-eqb, leb-true}
+use Rattle.octets.proofs.Vocabulary.{_≡_, refl, sym, ap, _∙_, ℕ, _%_, _≤_, List·Memᴰ, Bool, true, false, _&&_, _||_, false≢true, Option, some, none, eqb, leb, arith, eqb-true, eq-eqb, leb-true}
 use Rattle.octets.specs.Sentences.{pick, _⇒_, every}
 use Rattle.octets.proofs.Sentences.{cases, never, both, if-then, first-some, every-member}
 use Rattle.requests.specs.declared.Setup.{Setup}

@@ -1,9 +1,5 @@
 -- What each kind of outcome leaves, hands back and lays into a slice. No axiom.
-use Prim.Native.Nat.{ℕ, _≤_}
-use native.Mathlib.Omega.{arith}
-use mathlib.Core.Path.{_≡_, refl, sym, ap, _∙_}
-use mathlib.Core.Bool.{Bool, true, false, not}
-use mathlib.Core.List.{List}
+use Rattle.octets.proofs.Vocabulary.{_≡_, refl, sym, ap, _∙_, ℕ, _≤_, List, Bool, true, false, not, arith}
 use Rattle.octets.specs.Sentences.{pick}
 use Rattle.descriptors.specs.declared.limits.Limits.{Limits}
 use Rattle.sets.specs.Opening.{Board, goodDevices, goodConfigurations, goodBlock, opening}

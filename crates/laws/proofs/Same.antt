@@ -1,11 +1,6 @@
 -- The laws of the record's parts: `SameIn` and `Same` are equivalences, a record that fits is its parts and its rest (`whole`), and settling leaves every
 -- interface's part, may be done again and may change places. No axiom.
-use Prim.Native.Nat.{ℕ}
-use mathlib.Core.Path.{_≡_, refl, sym, ap, subst, _∙_}
-use mathlib.Core.List.{List}
-use mathlib.Core.Option.{Option, some, none}
-use lib.Seq.{ext-getD}
-use lib.Dec.{eqb}
+use Rattle.octets.proofs.Vocabulary.{_≡_, refl, sym, ap, subst, _∙_, ℕ, List, Option, some, none, eqb, ext-getD}
 use Rattle.octets.specs.Sentences.{pick, isSome}
 use Rattle.octets.proofs.Bits.{ext-bits}
 use Rattle.sets.specs.Opening.{Board, lent}

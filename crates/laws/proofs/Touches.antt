@@ -1,15 +1,5 @@
 -- An event that concerns interface j changes j's part alone, once it has settled what it settles. No axiom.
-use Prim.Native.Nat.{ℕ}
-use native.Mathlib.Omega.{arith}
-use mathlib.Core.Path.{_≡_, refl, sym, ap, _∙_}
-use mathlib.Core.Bool.{Bool, true, false, _&&_, not}
-use mathlib.Core.List.{List, List·Memᴰ}
-use mathlib.Core.Logic.{_⊎_, inl, inr}
-use mathlib.Core.Option.{Option, some, none, Option·some-injective}
-use lib.ListN.{getD, set}
-use lib.Seq.{getD-set-other}
-use lib.Dec.{eqb}
-use borrow.Author.Tests.{eqb-true}
+use Rattle.octets.proofs.Vocabulary.{_≡_, refl, sym, ap, _∙_, ℕ, List, List·Memᴰ, Bool, true, false, _&&_, not, Option, some, none, Option·some-injective, _⊎_, inl, inr, getD, set, eqb, getD-set-other, arith, eqb-true}
 use Rattle.octets.specs.Bit.{bit, flipBit}
 use Rattle.octets.specs.Sentences.{pick, only}
 use Rattle.octets.proofs.Sentences.{both, only-member}

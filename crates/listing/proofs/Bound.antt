@@ -1,12 +1,5 @@
 -- The room that the lister's text can need, for any set: three bytes of text for each byte of an accepted set are enough. No axiom.
-use Prim.Native.Nat.{ℕ, zero, suc, _+_, _-_, _*_, _/_, _%_, _≤_}
-use native.Mathlib.Omega.{arith}
-use mathlib.Core.Path.{_≡_, refl, ap, _∙_}
-use mathlib.Core.List.{List, [], _∷_, _++_, map, flatMap}
-use mathlib.Core.Bool.{Bool, true, false, not}
-use lib.ListN.{length, take, length-append, length-take}
-use lib.Dec.{eqb, leb, ltb}
-use borrow.Author.Tests.{eqb-true, leb-true}
+use Rattle.octets.proofs.Vocabulary.{_≡_, refl, ap, _∙_, ℕ, zero, suc, _+_, _-_, _*_, _/_, _%_, _≤_, List, [], _∷_, _++_, map, flatMap, Bool, true, false, not, length, take, length-append, length-take, eqb, leb, ltb, arith, eqb-true, leb-true}
 use Rattle.octets.specs.Octets.{byte}
 use Rattle.octets.specs.Sentences.{pick, _⇒_, every, only, neighbours}
 use Rattle.octets.proofs.Sentences.{both, conjunct, if-then}

@@ -1,12 +1,5 @@
 -- A number in decimal, digit by digit from the front. No axiom.
-use Prim.Native.Nat.{ℕ, zero, suc, _+_, _*_, _/_, _%_, _≤_, _<_}
-use native.Mathlib.Omega.{arith}
-use native.Mathlib.Nat.{div-div-eq-div-mul}
-use mathlib.Core.Path.{_≡_, refl, sym, ap, _∙_}
-use mathlib.Core.List.{List, [], _∷_, _++_, append-assoc}
-use mathlib.Core.Bool.{Bool, true, false}
-use lib.Dec.{leb, ltb}
-use borrow.Author.Tests.{ltb-true, ltb-false, leb-true, leb-false, lt-leb, le-leb, lt-ltb, le-ltb}
+use Rattle.octets.proofs.Vocabulary.{_≡_, refl, sym, ap, _∙_, ℕ, zero, suc, _+_, _*_, _/_, _%_, _≤_, _<_, List, [], _∷_, _++_, append-assoc, Bool, true, false, leb, ltb, arith, div-div-eq-div-mul, ltb-true, ltb-false, leb-true, leb-false, lt-leb, le-leb, lt-ltb, le-ltb}
 use Rattle.octets.specs.Sentences.{pick}
 use Rattle.listing.specs.Listing.{digits, decimal}
 use Rattle.listing.specs.Written.{lead}

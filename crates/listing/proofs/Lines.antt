@@ -1,10 +1,5 @@
 -- The lines of a configuration, descriptor by descriptor, and the fields of a line, one by one. No axiom.
-use Prim.Native.Nat.{ℕ, _+_, _≤_, _<_}
-use native.Mathlib.Omega.{arith}
-use mathlib.Core.Path.{_≡_, refl, sym, ap, _∙_}
-use mathlib.Core.List.{List, [], _∷_, _++_, map, flatMap, append-assoc}
-use mathlib.Core.Bool.{Bool, true, false}
-use lib.ListN.{length, drop, getD, drop-of-length-le}
+use Rattle.octets.proofs.Vocabulary.{_≡_, refl, sym, ap, _∙_, ℕ, _+_, _≤_, _<_, List, [], _∷_, _++_, map, flatMap, append-assoc, Bool, true, false, length, drop, getD, drop-of-length-le, arith}
 use Rattle.octets.specs.Octets.{byte}
 use Rattle.octets.specs.Sentences.{pick, every, pairs, isEmpty}
 use Rattle.octets.proofs.Sentences.{cases, both, conjunct}

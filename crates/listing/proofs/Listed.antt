@@ -1,13 +1,5 @@
 -- The text of a board that is refused and of one that is accepted, and a whole text at a buffer's start. No axiom.
-use Prim.Native.Nat.{ℕ, _≤_}
-use native.Mathlib.Nat.{zero-add}
-use native.Mathlib.Omega.{arith}
-use mathlib.Core.Path.{_≡_, sym, ap, _∙_}
-use mathlib.Core.List.{List, [], _∷_}
-use mathlib.Core.Bool.{true}
-use lib.ListN.{length}
-use lib.Seq.{length-sets, sets-eq, length-take-le}
-use borrow.Author.Tests.{eq-eqb, ne-eqb}
+use Rattle.octets.proofs.Vocabulary.{_≡_, sym, ap, _∙_, ℕ, _≤_, List, [], _∷_, true, length, length-sets, sets-eq, length-take-le, arith, zero-add, eq-eqb, ne-eqb}
 use Rattle.octets.specs.Sentences.{every}
 use Rattle.descriptors.specs.declared.limits.Limits.{Limits}
 use Rattle.descriptors.specs.Configuration.{goodConfiguration}

@@ -1,9 +1,5 @@
 -- The pieces of a type, of a device and numbered configurations, and in the set that is laid out from them. No axiom.
-use Prim.Native.Nat.{ℕ, _+_}
-use mathlib.Core.Path.{_≡_, refl, ap, _∙_}
-use mathlib.Core.Bool.{false}
-use mathlib.Core.List.{List, [], _∷_, map}
-use lib.Dec.{eqb}
+use Rattle.octets.proofs.Vocabulary.{_≡_, refl, ap, _∙_, ℕ, _+_, List, [], _∷_, map, false, eqb}
 use Rattle.octets.specs.Sentences.{only}
 use Rattle.sets.specs.Contents as contents
 use Rattle.sets.specs.Device.{deviceBodyOf, deviceBody}

@@ -1,12 +1,5 @@
 -- A set without references, exported and imported: its device and its configurations come back. No axiom.
-use Prim.Native.Nat.{ℕ, _+_, _≤_}
-use native.Mathlib.Omega.{arith}
-use mathlib.Core.Path.{_≡_, refl, sym, ap, _∙_}
-use mathlib.Core.Bool.{Bool, true}
-use mathlib.Core.List.{List, [], _∷_, _++_, map, List·Memᴰ, List·Memᴰ·head, List·Memᴰ·tail}
-use lib.ListN.{length, length-map}
-use lib.Dec.{eqb}
-use borrow.Author.Tests.{eqb-true, leb-true}
+use Rattle.octets.proofs.Vocabulary.{_≡_, refl, sym, ap, _∙_, ℕ, _+_, _≤_, List, [], _∷_, _++_, map, List·Memᴰ, List·Memᴰ·head, List·Memᴰ·tail, Bool, true, length, length-map, eqb, arith, eqb-true, leb-true}
 use Rattle.octets.specs.Sentences.{every}
 use Rattle.octets.proofs.Sentences.{never, conjunct, every-member, only-member}
 use Rattle.descriptors.specs.Limits.{fullSpeed}

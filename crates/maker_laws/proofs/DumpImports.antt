@@ -1,12 +1,5 @@
 -- What import accepts, and what it leaves. No axiom.
-use Prim.Native.Nat.{ℕ, _≤_}
-use native.Mathlib.Omega.{arith}
-use mathlib.Core.Path.{_≡_, refl, ap, _∙_}
-use mathlib.Core.Bool.{Bool, true, false, not}
-use mathlib.Core.List.{List, [], _∷_, map}
-use lib.ListN.{length, drop, length-append, length-drop}
-use lib.Dec.{eqb, leb, ltb}
-use borrow.Author.Tests.{eqb-true, eq-eqb, leb-true, leb-false, eqb-false, ltb-false, le-ltb, not-false}
+use Rattle.octets.proofs.Vocabulary.{_≡_, refl, ap, _∙_, ℕ, _≤_, List, [], _∷_, map, Bool, true, false, not, length, drop, length-append, length-drop, eqb, leb, ltb, arith, eqb-true, eq-eqb, leb-true, leb-false, eqb-false, ltb-false, le-ltb, not-false}
 use Rattle.octets.specs.Octets.{byte}
 use Rattle.octets.specs.Sentences.{pick, _⇒_, every, any, first}
 use Rattle.octets.proofs.Sentences.{cases, never, conjunct, any-none, member-every}

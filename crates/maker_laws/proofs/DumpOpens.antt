@@ -1,12 +1,5 @@
 -- A set of a device and numbered configurations opens with an empty serial block, if each of them is good and no reference is left: group by group. No axiom.
-use Prim.Native.Nat.{ℕ, _+_, _*_, _≤_}
-use native.Mathlib.Omega.{arith}
-use mathlib.Core.Path.{_≡_, refl, ap, _∙_}
-use mathlib.Core.Bool.{Bool, true, false}
-use mathlib.Core.List.{List, [], _∷_, _++_, List·Memᴰ, List·Memᴰ·head, List·Memᴰ·tail}
-use lib.ListN.{length}
-use lib.Dec.{eqb, leb}
-use borrow.Author.Tests.{eqb-true, eq-eqb, le-leb}
+use Rattle.octets.proofs.Vocabulary.{_≡_, refl, ap, _∙_, ℕ, _+_, _*_, _≤_, List, [], _∷_, _++_, List·Memᴰ, List·Memᴰ·head, List·Memᴰ·tail, Bool, true, false, length, eqb, leb, arith, eqb-true, eq-eqb, le-leb}
 use Rattle.octets.specs.Sentences.{every, any, pairs}
 use Rattle.octets.proofs.Sentences.{joined, every-member, none-any}
 use Rattle.descriptors.specs.Limits.{fullSpeed, named}

@@ -1,11 +1,5 @@
 -- Byte for byte: a set without references and strings comes back whole, and a dump imported twice gives one set. No axiom.
-use Prim.Native.Nat.{ℕ, _≤_}
-use native.Mathlib.Omega.{arith}
-use mathlib.Core.Path.{_≡_, refl, sym, ap, _∙_}
-use mathlib.Core.Bool.{true}
-use mathlib.Core.List.{List, [], _∷_, _++_, map}
-use lib.Dec.{eqb, leb}
-use borrow.Author.Tests.{eqb-true, eqb-false, eq-eqb, ne-eqb, leb-true}
+use Rattle.octets.proofs.Vocabulary.{_≡_, refl, sym, ap, _∙_, ℕ, _≤_, List, [], _∷_, _++_, map, true, eqb, leb, arith, eqb-true, eqb-false, eq-eqb, ne-eqb, leb-true}
 use Rattle.octets.specs.Sentences.{every, only, neighbours}
 use Rattle.octets.proofs.Sentences.{cases, both, conjunct}
 use Rattle.descriptors.specs.Limits.{fullSpeed, named}

@@ -1,12 +1,5 @@
 -- Import takes what was exported from a set that opens, with its references zeroed. No axiom.
-use Prim.Native.Nat.{ℕ, _+_, _*_, _≤_}
-use native.Mathlib.Omega.{arith}
-use mathlib.Core.Path.{_≡_, refl, sym, ap, _∙_}
-use mathlib.Core.Bool.{Bool, true, false}
-use mathlib.Core.List.{List, [], _∷_, map, flatMap}
-use lib.ListN.{length, drop, length-map, length-append}
-use lib.Dec.{eqb, leb, ltb}
-use borrow.Author.Tests.{eqb-true, eq-eqb, leb-true}
+use Rattle.octets.proofs.Vocabulary.{_≡_, refl, sym, ap, _∙_, ℕ, _+_, _*_, _≤_, List, [], _∷_, map, flatMap, Bool, true, false, length, drop, length-map, length-append, eqb, leb, ltb, arith, eqb-true, eq-eqb, leb-true}
 use Rattle.octets.specs.Octets.{byte}
 use Rattle.octets.specs.Sentences.{pick, every, only}
 use Rattle.octets.proofs.Sentences.{joined, conjunct, every-member, member-every, every-map}

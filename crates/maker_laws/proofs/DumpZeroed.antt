@@ -1,14 +1,5 @@
 -- References set to zero, descriptor by descriptor: a good device and a good body stay good, and no reference is left. No axiom.
-use Prim.Native.Nat.{ℕ, zero, suc, _+_, _-_, _≤_, _<_}
-use native.Mathlib.Nat.{zero-add}
-use native.Mathlib.Omega.{arith}
-use mathlib.Core.Path.{_≡_, refl, sym, ap, _∙_}
-use mathlib.Core.Bool.{Bool, true, false, _&&_}
-use mathlib.Core.List.{List, [], _∷_, _++_, map, append-assoc, List·Memᴰ, List·Memᴰ·head, List·Memᴰ·tail}
-use lib.ListN.{length, take, drop, set, length-set, length-append, take-append-drop, List·getD-append, List·getD-eq-default}
-use lib.Seq.{take-at, set-append-left, getD-set-other, set-getD, getD-take, length-take-le}
-use lib.Dec.{eqb, leb}
-use borrow.Author.Tests.{eqb-true, eqb-false, eq-eqb, ne-eqb, leb-true, leb-false, le-leb}
+use Rattle.octets.proofs.Vocabulary.{_≡_, refl, sym, ap, _∙_, ℕ, zero, suc, _+_, _-_, _≤_, _<_, List, [], _∷_, _++_, map, append-assoc, List·Memᴰ, List·Memᴰ·head, List·Memᴰ·tail, Bool, true, false, _&&_, length, take, drop, set, length-set, length-append, take-append-drop, List·getD-append, List·getD-eq-default, eqb, leb, take-at, set-append-left, getD-set-other, set-getD, getD-take, length-take-le, arith, zero-add, eqb-true, eqb-false, eq-eqb, ne-eqb, leb-true, leb-false, le-leb}
 use Rattle.octets.specs.Octets.{byte, word}
 use Rattle.octets.specs.Sentences.{pick, _⇒_, every, any, pairs, member}
 use Rattle.octets.proofs.Sentences.{cases, never, both, joined, conjunct, if-then, then-if, every-member, member-every, every-alike, every-map}

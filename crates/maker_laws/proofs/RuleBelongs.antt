@@ -1,12 +1,5 @@
 -- The rule that is named belongs to the group that opening names, for all inputs and kinds of set; an accepted set gives rule 0, and a refused one some rule. No axiom.
-use Prim.Native.Nat.{ℕ, _/_, _≤_}
-use native.Mathlib.Omega.{arith}
-use mathlib.Core.Path.{_≡_, refl, sym, _∙_}
-use mathlib.Core.List.{List, [], _∷_}
-use mathlib.Core.Bool.{Bool, true, false, not, false≢true}
-use mathlib.Core.Option.{some}
-use lib.Dec.{eqb, leb}
-use borrow.Author.Tests.{leb-true, le-leb}
+use Rattle.octets.proofs.Vocabulary.{_≡_, refl, sym, _∙_, ℕ, _/_, _≤_, List, [], _∷_, Bool, true, false, not, false≢true, some, eqb, leb, arith, leb-true, le-leb}
 use Rattle.octets.specs.Sentences.{pick, every, first}
 use Rattle.octets.proofs.Sentences.{both}
 use Rattle.descriptors.specs.declared.limits.Limits.{Limits}

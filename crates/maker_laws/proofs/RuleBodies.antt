@@ -1,14 +1,5 @@
 -- Group 4: all its rules hold exactly where opening's definition of the group does. No axiom.
-use Prim.Native.Nat.{ℕ, zero, suc, _+_, _-_, _<_, _≤_}
-use native.Mathlib.Omega.{arith}
-use mathlib.Core.Path.{_≡_, refl, sym, ap, _∙_}
-use mathlib.Core.List.{List, [], _∷_, _++_, map}
-use mathlib.Core.Bool.{Bool, true, false, _&&_, _||_, not, and-true, and-false, and-assoc, or-false, false≢true}
-use mathlib.Core.Option.{some, none}
-use lib.ListN.{length, take}
-use lib.Seq.{length-take-le, getD-take}
-use lib.Dec.{leb}
-use borrow.Author.Tests.{eqb-true, eq-eqb, ne-eqb, leb-true, leb-false}
+use Rattle.octets.proofs.Vocabulary.{_≡_, refl, sym, ap, _∙_, ℕ, zero, suc, _+_, _-_, _<_, _≤_, List, [], _∷_, _++_, map, Bool, true, false, _&&_, _||_, not, and-true, and-false, and-assoc, or-false, false≢true, some, none, length, take, leb, length-take-le, getD-take, arith, eqb-true, eq-eqb, ne-eqb, leb-true, leb-false}
 use Rattle.octets.specs.Octets.{byte}
 use Rattle.octets.specs.Sentences.{pick, _⇒_, every, only, first, pairs, isSome}
 use Rattle.octets.proofs.Sentences.{cases, conjunct, every-append}

@@ -1,13 +1,5 @@
 -- The rule that is named is broken, each before it holds, and its place lies inside what was lent. No axiom.
-use Prim.Native.Nat.{ℕ, _<_}
-use native.Mathlib.Omega.{arith}
-use mathlib.Core.Path.{_≡_, refl, sym, ap}
-use mathlib.Core.List.{List, [], _∷_}
-use mathlib.Core.Bool.{Bool, true, false, not}
-use mathlib.Core.Option.{some, none}
-use lib.ListN.{length}
-use lib.Dec.{ltb}
-use borrow.Author.Tests.{ltb-true, ltb-false}
+use Rattle.octets.proofs.Vocabulary.{_≡_, refl, sym, ap, ℕ, _<_, List, [], _∷_, Bool, true, false, not, some, none, length, ltb, arith, ltb-true, ltb-false}
 use Rattle.octets.specs.Sentences.{pick, every, first}
 use Rattle.octets.proofs.Sentences.{cases, joined}
 use Rattle.rules.specs.Explained.{inside}

@@ -1,10 +1,5 @@
 -- Groups 1, 2, 3 and 6: all their rules hold exactly where opening's definition of the group does. No axiom.
-use Prim.Native.Nat.{ℕ, _+_}
-use mathlib.Core.Path.{_≡_, refl, sym, ap, _∙_}
-use mathlib.Core.List.{List, [], _∷_, map}
-use mathlib.Core.Bool.{Bool, true, false, _&&_, and-true, and-assoc}
-use lib.ListN.{length}
-use lib.Dec.{eqb, leb}
+use Rattle.octets.proofs.Vocabulary.{_≡_, refl, sym, ap, _∙_, ℕ, _+_, List, [], _∷_, map, Bool, true, false, _&&_, and-true, and-assoc, length, eqb, leb}
 use Rattle.octets.specs.Octets.{word}
 use Rattle.octets.specs.Sentences.{pick, _⇒_, every}
 use Rattle.octets.proofs.Sentences.{row, every-append}

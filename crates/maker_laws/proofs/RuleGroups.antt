@@ -1,10 +1,5 @@
 -- The rule that is named is of the first group that is broken: opening's number. No axiom.
-use Prim.Native.Nat.{ℕ, _/_}
-use mathlib.Core.Path.{_≡_, refl}
-use mathlib.Core.List.{List, [], _∷_, _++_}
-use mathlib.Core.Bool.{Bool, true, false, _&&_, not}
-use mathlib.Core.Option.{Option, some}
-use borrow.Author.Tests.{eqb-true}
+use Rattle.octets.proofs.Vocabulary.{_≡_, refl, ℕ, _/_, List, [], _∷_, _++_, Bool, true, false, _&&_, not, Option, some, eqb-true}
 use Rattle.octets.specs.Sentences.{pick, every, first}
 use Rattle.octets.proofs.Sentences.{both}
 use Rattle.rules.specs.Findings.{Finding}

@@ -1,13 +1,5 @@
 -- A pair: all rules of one set beside the other hold exactly where opening's definition does, and the rule that is named belongs to the number of opening both. No axiom.
-use Prim.Native.Nat.{ℕ, _+_, _/_, _≤_}
-use native.Mathlib.Omega.{arith}
-use mathlib.Core.Path.{_≡_, refl, sym, ap, _∙_}
-use mathlib.Core.List.{List, [], _∷_, _++_, map}
-use mathlib.Core.Bool.{Bool, true, false, _&&_, not, and-true, and-assoc}
-use mathlib.Core.Option.{Option, some, none}
-use lib.ListN.{length}
-use lib.Dec.{eqb, leb}
-use borrow.Author.Tests.{leb-true, le-leb, ne-eqb}
+use Rattle.octets.proofs.Vocabulary.{_≡_, refl, sym, ap, _∙_, ℕ, _+_, _/_, _≤_, List, [], _∷_, _++_, map, Bool, true, false, _&&_, not, and-true, and-assoc, Option, some, none, length, eqb, leb, arith, leb-true, le-leb, ne-eqb}
 use Rattle.octets.specs.Sentences.{pick, every, only, first}
 use Rattle.octets.proofs.Sentences.{joined, every-append, every-member, first-some}
 use Rattle.descriptors.specs.declared.limits.Limits.{Limits}

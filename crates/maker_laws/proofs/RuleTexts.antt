@@ -1,11 +1,5 @@
 -- Group 5: where the configurations are good, all its rules hold exactly where opening's definition of the group does. No axiom.
-use Prim.Native.Nat.{ℕ, _+_}
-use native.Mathlib.Omega.{arith}
-use mathlib.Core.Path.{_≡_, refl, sym, ap, _∙_}
-use mathlib.Core.List.{List, [], _∷_, _++_, map}
-use mathlib.Core.Bool.{Bool, true, false, _&&_, _||_, not, and-true, and-false, and-assoc, or-true, false≢true}
-use lib.ListN.{length}
-use borrow.Author.Tests.{eqb-true, ne-eqb}
+use Rattle.octets.proofs.Vocabulary.{_≡_, refl, sym, ap, _∙_, ℕ, _+_, List, [], _∷_, _++_, map, Bool, true, false, _&&_, _||_, not, and-true, and-false, and-assoc, or-true, false≢true, length, arith, eqb-true, ne-eqb}
 use Rattle.octets.specs.Sentences.{pick, _⇒_, every, any, only, neighbours, isSome, isEmpty}
 use Rattle.octets.proofs.Sentences.{both, conjunct, every-append, first-any}
 use Rattle.descriptors.specs.declared.limits.Limits.{Limits}

@@ -1,15 +1,5 @@
 -- The trimmed set reads back, keeps what is named, and is trimmed already. Assumes nothing: not even that the set opens.
-use Prim.Native.Nat.{ℕ, _-_}
-use native.Mathlib.Nat.{sub-self}
-use native.Mathlib.Omega.{arith}
-use mathlib.Core.Path.{_≡_, refl, sym, ap, _∙_}
-use mathlib.Core.Bool.{Bool, true, false, _&&_, or-true}
-use mathlib.Core.List.{List, [], _∷_, map, append-nil, List·Memᴰ}
-use mathlib.Core.Option.{Option, some, none}
-use lib.ListN.{length, take, drop, replicate}
-use lib.Seq.{take-append-seam, drop-append-seam}
-use lib.Dec.{eqb, leb}
-use borrow.Author.Tests.{eqb-true, eq-eqb, ne-eqb, leb-true}
+use Rattle.octets.proofs.Vocabulary.{_≡_, refl, sym, ap, _∙_, ℕ, _-_, List, [], _∷_, map, append-nil, List·Memᴰ, Bool, true, false, _&&_, or-true, Option, some, none, length, take, drop, replicate, eqb, leb, take-append-seam, drop-append-seam, arith, sub-self, eqb-true, eq-eqb, ne-eqb, leb-true}
 use Rattle.octets.specs.Sentences.{pick, any, only, first, member}
 use Rattle.octets.proofs.Sentences.{cases, never, both, any-map, any-alike, only-alike, only-member, member-only, none-first}
 use Rattle.descriptors.specs.declared.limits.Limits.{Limits}

@@ -1,13 +1,5 @@
 -- L11's sentences about the buffer and the requests. No axiom.
-use Prim.Native.Nat.{ℕ, _-_, _<_}
-use native.Mathlib.Omega.{arith}
-use mathlib.Core.Path.{_≡_, refl, sym, ap, _∙_}
-use mathlib.Core.Bool.{Bool, true, false}
-use mathlib.Core.List.{List, [], _∷_, _++_, map}
-use mathlib.Core.Option.{Option, some, none, Option·map}
-use lib.ListN.{length, take, drop, length-append, length-replicate}
-use lib.Dec.{eqb, leb}
-use borrow.Author.Tests.{eq-eqb, eqb-true}
+use Rattle.octets.proofs.Vocabulary.{_≡_, refl, sym, ap, _∙_, ℕ, _-_, _<_, List, [], _∷_, _++_, map, Bool, true, false, Option, some, none, Option·map, length, take, drop, length-append, length-replicate, eqb, leb, arith, eq-eqb, eqb-true}
 use Rattle.octets.specs.Octets.{byte, Bytes}
 use Rattle.octets.specs.Sentences.{every, only, first}
 use Rattle.octets.proofs.Sentences.{cases, both, conjunct}

@@ -1,11 +1,5 @@
 -- "The trimmed set opens with the same serial block." No axiom.
-use Prim.Native.Nat.{ℕ, _≤_}
-use native.Mathlib.Omega.{arith}
-use mathlib.Core.Path.{_≡_, refl, sym, ap, _∙_}
-use mathlib.Core.Bool.{Bool, true, false, _&&_, _||_, and-assoc}
-use mathlib.Core.List.{List, [], _∷_, List·Memᴰ, List·Memᴰ·head, List·Memᴰ·tail}
-use lib.ListN.{length, drop, length-map}
-use lib.Dec.{leb}
+use Rattle.octets.proofs.Vocabulary.{_≡_, refl, sym, ap, _∙_, ℕ, _≤_, List, [], _∷_, List·Memᴰ, List·Memᴰ·head, List·Memᴰ·tail, Bool, true, false, _&&_, _||_, and-assoc, length, drop, length-map, leb, arith}
 use Rattle.octets.specs.Sentences.{pick, every, any, only, neighbours, member}
 use Rattle.octets.proofs.Sentences.{cases, never, joined, conjunct, any-alike, only-alike, only-member}
 use Rattle.descriptors.specs.declared.limits.Limits.{Limits}

@@ -1,15 +1,5 @@
 -- What events read of a board besides descriptors is the same before and after trimming, and what GET_DESCRIPTOR shows too. No axiom.
-use Prim.Native.Nat.{ℕ, zero, suc, _/_, _%_, _≤_, min}
-use native.Mathlib.Nat.{min-eq-left, min-eq-right}
-use native.Mathlib.Omega.{arith}
-use mathlib.Core.Path.{_≡_, refl, sym, ap, _∙_}
-use mathlib.Core.Bool.{Bool, true, false, _&&_, not}
-use mathlib.Core.List.{List, [], _∷_, map, List·Memᴰ, List·Memᴰ·not-nil}
-use mathlib.Core.Option.{Option, some, none}
-use lib.ListN.{length, take, drop, getElem?, length-take}
-use lib.Seq.{take-take, take-all}
-use lib.Dec.{eqb, leb}
-use borrow.Author.Tests.{eqb-true, leb-true, leb-false, eq-eqb, ne-eqb}
+use Rattle.octets.proofs.Vocabulary.{_≡_, refl, sym, ap, _∙_, ℕ, zero, suc, _/_, _%_, _≤_, min, List, [], _∷_, map, List·Memᴰ, List·Memᴰ·not-nil, Bool, true, false, _&&_, not, Option, some, none, length, take, drop, getElem?, length-take, eqb, leb, take-take, take-all, arith, min-eq-left, min-eq-right, eqb-true, leb-true, leb-false, eq-eqb, ne-eqb}
 use Rattle.octets.specs.Octets.{Bytes}
 use Rattle.octets.specs.Sentences.{pick, _⇒_, every, any, first, member}
 use Rattle.octets.proofs.Sentences.{cases, never, both, joined, neither, or-left, or-right, if-then, every-member, any-none, none-first}

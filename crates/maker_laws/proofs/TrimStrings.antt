@@ -1,13 +1,5 @@
 -- Group 5 holds of the strings that stay. No axiom.
-use Prim.Native.Nat.{ℕ, _≤_}
-use native.Mathlib.Omega.{arith}
-use mathlib.Core.Path.{_≡_, refl, sym, ap, _∙_}
-use mathlib.Core.Logic.{⊎-elim}
-use mathlib.Core.Bool.{Bool, true, false, _&&_, _||_, not}
-use mathlib.Core.List.{List, [], _∷_, List·Memᴰ, List·Memᴰ·head, List·Memᴰ·tail}
-use lib.ListN.{length}
-use lib.Dec.{eqb, leb, ltb}
-use borrow.Author.Tests.{eqb-true, eqb-false, eq-eqb, ne-eqb, leb-true, le-leb}
+use Rattle.octets.proofs.Vocabulary.{_≡_, refl, sym, ap, _∙_, ℕ, _≤_, List, [], _∷_, List·Memᴰ, List·Memᴰ·head, List·Memᴰ·tail, Bool, true, false, _&&_, _||_, not, ⊎-elim, length, eqb, leb, ltb, arith, eqb-true, eqb-false, eq-eqb, ne-eqb, leb-true, le-leb}
 use Rattle.octets.specs.Sentences.{pick, every, any, only, neighbours, member, isSome, isEmpty}
 use Rattle.octets.proofs.Sentences.{cases, never, both, joined, either, or-left, or-right, if-then, then-if, conjunct, every-member, member-every, any-member, member-any, none-any}
 use Rattle.sets.specs.Pieces.{Piece}

@@ -1,13 +1,7 @@
 -- The laws of a number's bits: set, cleared and flipped. Flipping is exclusive or with a power of two, and the others are by it. No axiom.
-use Prim.Native.Nat.{ℕ, zero, suc, _+_, _-_, _*_, _/_, _%_, _^_, _<_, _≤_, min}
-use native.Mathlib.Omega.{arith}
-use native.Mathlib.Nat.{pow-suc, zero-div, div-one, lt-of-lt-of-le, div-eq-of-lt, div-self, mul-div-cancel, pow-succ', div-div-eq-div-mul, one-mul, mod-eq-of-lt}
+use Rattle.octets.proofs.Vocabulary.{_≡_, refl, sym, ap, _∙_, ℕ, zero, suc, _+_, _-_, _*_, _/_, _%_, _^_, _<_, _≤_, min, true, false, not, eqb, ltb, arith, pow-suc, zero-div, div-one, lt-of-lt-of-le, div-eq-of-lt, div-self, mul-div-cancel, pow-succ', div-div-eq-div-mul, one-mul, mod-eq-of-lt, eqb-false, eqb-true, ltb-true, ltb-false}
 use lib.Pow.{pow-add, pow-pos, pow-lt, pow-mono}
 use lib.Bits.{bitAnd, bitOr, bitXor, and-step, and-high, or-add-and, xor-add-and, xor-shr, xor-mod, xor-zero-r, xor-lt}
-use lib.Dec.{eqb, ltb}
-use borrow.Author.Tests.{eqb-false, eqb-true, ltb-true, ltb-false}
-use mathlib.Core.Path.{_≡_, refl, sym, ap, _∙_}
-use mathlib.Core.Bool.{true, false, not}
 use Rattle.octets.specs.Bit.{bit, setBit, clearBit, flipBit}
 use Rattle.octets.proofs.Sentences.{cases}
 

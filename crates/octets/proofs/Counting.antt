@@ -1,14 +1,5 @@
 -- Counting along a list: what is told of each place is told of the list; and no more numbers below n than n differ. No axiom.
-use Prim.Native.Nat.{ℕ, zero, suc, _+_, _≤_, _<_}
-use native.Mathlib.Nat.{add-zero}
-use native.Mathlib.Omega.{arith}
-use mathlib.Core.Path.{_≡_, refl, sym, ap}
-use mathlib.Core.List.{List, [], _∷_, map, List·Memᴰ, List·Memᴰ·head, List·Memᴰ·tail}
-use mathlib.Core.Bool.{Bool, true, false, not}
-use mathlib.Core.Option.{Option, some, none}
-use lib.ListN.{length, getElem?}
-use lib.Dec.{eqb}
-use borrow.Author.Tests.{eqb-true, eqb-false, ne-eqb, not-true}
+use Rattle.octets.proofs.Vocabulary.{_≡_, refl, sym, ap, ℕ, zero, suc, _+_, _≤_, _<_, List, [], _∷_, map, List·Memᴰ, List·Memᴰ·head, List·Memᴰ·tail, Bool, true, false, not, Option, some, none, length, getElem?, eqb, arith, add-zero, eqb-true, eqb-false, ne-eqb, not-true}
 use Rattle.octets.specs.Sentences.{pick, every, only, pairs, from, upTo}
 use Rattle.octets.proofs.Sentences.{both, joined, every-member, member-every, every-map, only-member, pairs-split}
 

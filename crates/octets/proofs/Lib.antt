@@ -3,3 +3,5 @@ pub mod Bits
 pub mod Words
 pub mod Tables
 pub mod Counting
+pub mod Vocabulary
+pub mod Walking

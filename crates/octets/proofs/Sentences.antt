@@ -1,17 +1,6 @@
 -- The laws of the words in which the rules are written: of tests and of sentences about a list. No axiom.
-use Prim.Native.Nat.{ℕ, zero, suc, _+_, _<_, _≤_}
-use native.Mathlib.Omega.{arith}
+use Rattle.octets.proofs.Vocabulary.{_≡_, refl, sym, ap, _∙_, ℕ, zero, suc, _+_, _<_, _≤_, List, [], _∷_, _++_, map, List·Memᴰ, List·Memᴰ·head, List·Memᴰ·tail, List·Memᴰ·not-nil, List·Memᴰ·cases-cons, Bool, true, false, _&&_, _||_, false≢true, and-true, and-false, and-assoc, or-assoc, some, none, _⊎_, inl, inr, length, getD, drop, drop-of-length-le, eqb, drop-cons, arith, not-suc-le-zero, eqb-true, eqb-false}
 use native.Mathlib.Numerals.{add-one}
-use native.Mathlib.Nat.{not-suc-le-zero}
-use mathlib.Core.Path.{_≡_, refl, sym, ap, _∙_}
-use mathlib.Core.Logic.{_⊎_, inl, inr}
-use mathlib.Core.Bool.{Bool, true, false, _&&_, _||_, false≢true, and-true, and-false, and-assoc, or-assoc}
-use mathlib.Core.List.{List, [], _∷_, _++_, map, List·Memᴰ, List·Memᴰ·head, List·Memᴰ·tail, List·Memᴰ·not-nil, List·Memᴰ·cases-cons}
-use mathlib.Core.Option.{some, none}
-use lib.ListN.{length, getD, drop, drop-of-length-le}
-use lib.Seq.{drop-cons}
-use lib.Dec.{eqb}
-use borrow.Author.Tests.{eqb-true, eqb-false}
 use Rattle.octets.specs.Sentences.{pick, _⇒_, every, any, only, first, pairs, neighbours, below, isSome}
 
 -- ---- tests

@@ -1,13 +1,5 @@
 -- The laws of a table of numbers below 256. No axiom.
-use Prim.Native.Nat.{ℕ, _/_, _%_, _<_}
-use native.Mathlib.Omega.{arith}
-use mathlib.Core.Path.{_≡_, refl, sym, ap, _∙_}
-use mathlib.Core.List.{List}
-use mathlib.Core.Bool.{true, false, _||_}
-use lib.ListN.{length, getD, replicate, getD-replicate, length-set, List·getD-eq-default}
-use lib.Seq.{getD-set-same, getD-set-other}
-use lib.Dec.{eqb, ltb}
-use borrow.Author.Tests.{eqb-true, eqb-false, eq-eqb, ne-eqb, ltb-true, ltb-false}
+use Rattle.octets.proofs.Vocabulary.{_≡_, refl, sym, ap, _∙_, ℕ, _/_, _%_, _<_, List, true, false, _||_, length, getD, replicate, getD-replicate, length-set, List·getD-eq-default, eqb, ltb, getD-set-same, getD-set-other, arith, eqb-true, eqb-false, eq-eqb, ne-eqb, ltb-true, ltb-false}
 use Rattle.octets.specs.Bit.{bit, setBit}
 use Rattle.octets.specs.Sentences.{below}
 use Rattle.octets.proofs.Bits.{set-same, set-other, bit-zero}

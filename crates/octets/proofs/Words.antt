@@ -1,12 +1,6 @@
 -- The bits of a word that is made of others: with a bit set or cleared, and without the bits of a mask. No axiom.
-use Prim.Native.Nat.{ℕ, zero, suc, _-_, _*_, _/_, _%_, _^_, _<_}
-use native.Mathlib.Omega.{arith}
-use native.Mathlib.Nat.{pow-suc, mul-comm, div-one, div-div-eq-div-mul, not-suc-le-zero}
+use Rattle.octets.proofs.Vocabulary.{_≡_, refl, sym, ap, _∙_, ℕ, zero, suc, _-_, _*_, _/_, _%_, _^_, _<_, Bool, true, false, _&&_, _||_, not, or-false, and-true, eqb, arith, pow-suc, mul-comm, div-one, div-div-eq-div-mul, not-suc-le-zero, eqb-true, eqb-false, eq-eqb, ne-eqb}
 use lib.Bits.{bitAnd, and-shr, and-mod, and-le-l}
-use lib.Dec.{eqb}
-use borrow.Author.Tests.{eqb-true, eqb-false, eq-eqb, ne-eqb}
-use mathlib.Core.Path.{_≡_, refl, sym, ap, _∙_}
-use mathlib.Core.Bool.{Bool, true, false, _&&_, _||_, not, or-false, and-true}
 use Rattle.octets.specs.Bit.{bit, setBit, clearBit}
 use Rattle.octets.specs.Sentences.{below, _⇒_}
 use Rattle.octets.proofs.Sentences.{cases, same-test, below-at, at-below}

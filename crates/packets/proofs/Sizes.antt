@@ -1,10 +1,5 @@
 -- What follows from a size of 8, 16, 32 or 64: a packet below the count begins inside the reply. No axiom.
-use Prim.Native.Nat.{ℕ, _+_, _-_, _*_, _/_, _≤_, _<_, min}
-use native.Mathlib.Omega.{arith}
-use mathlib.Core.Path.{_≡_, refl, sym, subst}
-use mathlib.Core.Bool.{Bool, true, false, _&&_, _||_, false≢true}
-use lib.Dec.{eqb, leb, ltb}
-use borrow.Author.Tests.{eqb-true, leb-true, ltb-true, lt-ltb}
+use Rattle.octets.proofs.Vocabulary.{_≡_, refl, sym, subst, ℕ, _+_, _-_, _*_, _/_, _≤_, _<_, min, Bool, true, false, _&&_, _||_, false≢true, eqb, leb, ltb, arith, eqb-true, leb-true, ltb-true, lt-ltb}
 use Rattle.octets.specs.Sentences.{pick}
 use Rattle.packets.specs.Packets.{canCut, packetCount, packetWhere, packet}
 

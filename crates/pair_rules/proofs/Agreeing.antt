@@ -1,13 +1,5 @@
 -- How many leading bytes of two lists agree. No axiom.
-use Prim.Native.Nat.{ℕ, suc, _+_, _≤_, _<_}
-use native.Mathlib.Omega.{arith}
-use mathlib.Core.Path.{_≡_, refl, sym, ap, _∙_}
-use mathlib.Core.List.{List, [], _∷_}
-use mathlib.Core.Bool.{Bool, true, false, _&&_, and-false}
-use lib.ListN.{length, drop, getD, length-drop, drop-of-length-le}
-use lib.Seq.{drop-cons}
-use lib.Dec.{eqb}
-use borrow.Author.Tests.{eq-eqb, ne-eqb, eqb-true}
+use Rattle.octets.proofs.Vocabulary.{_≡_, refl, sym, ap, _∙_, ℕ, suc, _+_, _≤_, _<_, List, [], _∷_, Bool, true, false, _&&_, and-false, length, drop, getD, length-drop, drop-of-length-le, eqb, drop-cons, arith, eq-eqb, ne-eqb, eqb-true}
 use Rattle.octets.specs.Octets.{byte}
 use Rattle.octets.proofs.Sentences.{cases, same-test}
 use Rattle.sets.specs.Pair.{same, retyped}

@@ -1,12 +1,5 @@
 -- The entries of types 6 and 7, asked rule by rule: the one that was found, those beside the configurations that are left, and the end. No axiom.
-use Prim.Native.Nat.{ℕ, zero, suc, _+_, _*_}
-use native.Mathlib.Omega.{arith}
-use mathlib.Core.Path.{_≡_, refl, sym, _∙_}
-use mathlib.Core.List.{List, [], _∷_}
-use mathlib.Core.Bool.{false}
-use lib.ListN.{length, drop, getElem?}
-use lib.Dec.{leb}
-use borrow.Author.Tests.{eq-eqb, ne-eqb, lt-leb, le-leb, leb-true}
+use Rattle.octets.proofs.Vocabulary.{_≡_, refl, sym, _∙_, ℕ, zero, suc, _+_, _*_, List, [], _∷_, false, length, drop, getElem?, leb, arith, eq-eqb, ne-eqb, lt-leb, le-leb, leb-true}
 use Rattle.octets.specs.Sentences.{isEmpty}
 use Rattle.octets.proofs.Sentences.{same-test}
 use Rattle.sets.specs.declared.Entry.{Entry}

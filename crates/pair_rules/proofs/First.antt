@@ -1,12 +1,5 @@
 -- The first of a pair's rules that is broken: of one list of them, with its block, or of the lists behind it. No axiom.
-use Prim.Native.Nat.{ℕ, _/_}
-use native.Mathlib.Omega.{arith}
-use mathlib.Core.Path.{_≡_, refl, sym, ap, _∙_}
-use mathlib.Core.List.{List, [], _∷_, _++_, map}
-use mathlib.Core.Bool.{Bool, true, false, not, false≢true}
-use mathlib.Core.Option.{Option, some, none}
-use lib.Dec.{eqb}
-use borrow.Author.Tests.{eq-eqb}
+use Rattle.octets.proofs.Vocabulary.{_≡_, refl, sym, ap, _∙_, ℕ, _/_, List, [], _∷_, _++_, map, Bool, true, false, not, false≢true, Option, some, none, eqb, arith, eq-eqb}
 use Rattle.octets.specs.Sentences.{pick, every, first}
 use Rattle.octets.proofs.Sentences.{both}
 use Rattle.descriptors.specs.Limits.{pairedFull, highSpeed}

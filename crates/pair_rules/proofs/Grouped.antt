@@ -1,9 +1,5 @@
 -- Every rule of a set beside another carries number 24, and so one other than 0. No axiom.
-use Prim.Native.Nat.{ℕ, _+_}
-use native.Mathlib.Omega.{arith}
-use mathlib.Core.Path.{_≡_, refl}
-use mathlib.Core.List.{List, [], _∷_}
-use mathlib.Core.Bool.{true}
+use Rattle.octets.proofs.Vocabulary.{_≡_, refl, ℕ, _+_, List, [], _∷_, true, arith}
 use Rattle.octets.specs.Sentences.{every}
 use Rattle.sets.specs.declared.Entry.{Entry}
 use Rattle.sets.specs.Contents.{isKind, entries, entriesOf}

@@ -1,14 +1,6 @@
 -- An address is taken at the end of its own status stage, and never otherwise: the address byte changes only at a packet taken in status in, after a
 -- SET_ADDRESS that was answered with 0 and no SETUP or reset since, or at a reset. No axiom.
-use Prim.Native.Nat.{ℕ, _≤_}
-use native.Mathlib.Omega.{arith}
-use mathlib.Core.Path.{_≡_, refl, sym, ap, subst, _∙_}
-use mathlib.Core.Logic.{_⊎_, inl, inr}
-use mathlib.Core.Bool.{Bool, true, false, false≢true}
-use mathlib.Core.List.{List, [], _∷_}
-use lib.ListN.{length}
-use lib.Dec.{eqb}
-use borrow.Author.Tests.{eq-eqb, eqb-true, eqb-false}
+use Rattle.octets.proofs.Vocabulary.{_≡_, refl, sym, ap, subst, _∙_, ℕ, _≤_, List, [], _∷_, Bool, true, false, false≢true, _⊎_, inl, inr, length, eqb, arith, eq-eqb, eqb-true, eqb-false}
 use Rattle.octets.specs.Sentences.{pick}
 use Rattle.octets.proofs.Sentences.{cases}
 use Rattle.sets.specs.Opening.{Board}

@@ -1,12 +1,5 @@
 -- The application's reply goes out as the library's does: its first wLength bytes. No axiom.
-use Prim.Native.Nat.{ℕ, _+_, _≤_, _<_, min}
-use native.Mathlib.Omega.{arith}
-use mathlib.Core.Path.{_≡_, refl, sym, ap, subst, _∙_}
-use mathlib.Core.Bool.{Bool, true, false, not}
-use mathlib.Core.List.{List, [], _∷_, _++_}
-use lib.ListN.{length, take, length-take}
-use lib.Dec.{eqb, leb}
-use borrow.Author.Tests.{eq-eqb, eqb-true, le-leb}
+use Rattle.octets.proofs.Vocabulary.{_≡_, refl, sym, ap, subst, _∙_, ℕ, _+_, _≤_, _<_, min, List, [], _∷_, _++_, Bool, true, false, not, length, take, length-take, eqb, leb, arith, eq-eqb, eqb-true, le-leb}
 use Rattle.octets.specs.Octets.{Bytes}
 use Rattle.octets.proofs.Sentences.{conjunct}
 use Rattle.sets.specs.Opening.{Board}

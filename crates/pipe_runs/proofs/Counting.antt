@@ -1,12 +1,5 @@
 -- The numbers of a run are the library's, a status end is told at the end of a transfer alone, and there are never more of them than SETUPs. No axiom.
-use Prim.Native.Nat.{ℕ, suc, _+_, _≤_}
-use native.Mathlib.Omega.{arith}
-use mathlib.Core.Path.{_≡_, refl, ap, _∙_}
-use mathlib.Core.Bool.{Bool, true, false}
-use mathlib.Core.List.{List, [], _∷_, _++_}
-use lib.ListN.{length}
-use lib.Dec.{eqb}
-use borrow.Author.Tests.{eq-eqb}
+use Rattle.octets.proofs.Vocabulary.{_≡_, refl, ap, _∙_, ℕ, suc, _+_, _≤_, List, [], _∷_, _++_, Bool, true, false, length, eqb, arith, eq-eqb}
 use Rattle.octets.specs.Sentences.{pick}
 use Rattle.octets.proofs.Sentences.{conjunct, cases}
 use Rattle.sets.specs.Opening.{Board}

@@ -1,15 +1,6 @@
 -- What the host reads is the reply: of a transfer's packets the k-th that is handed over is the cutter's packet k, each once, in order, none after the
 -- last, and all of them were when the host's empty packet is awaited. No axiom.
-use Prim.Native.Nat.{ℕ, zero, suc, _+_, _-_, _/_, _≤_, _<_}
-use native.Mathlib.Omega.{arith}
-use mathlib.Core.Path.{_≡_, refl, sym, ap, subst, _∙_}
-use mathlib.Core.Logic.{_⊎_, inl, inr}
-use mathlib.Core.Bool.{Bool, true, false, _&&_, _||_, false≢true}
-use mathlib.Core.List.{List, [], _∷_, _++_, map}
-use lib.ListN.{length, take, drop}
-use lib.Seq.{drop-drop, take-take}
-use lib.Dec.{eqb, leb, ltb}
-use borrow.Author.Tests.{eq-eqb, ne-eqb, eqb-true, eqb-false, ltb-false, leb-true, le-leb}
+use Rattle.octets.proofs.Vocabulary.{_≡_, refl, sym, ap, subst, _∙_, ℕ, zero, suc, _+_, _-_, _/_, _≤_, _<_, List, [], _∷_, _++_, map, Bool, true, false, _&&_, _||_, false≢true, _⊎_, inl, inr, length, take, drop, eqb, leb, ltb, drop-drop, take-take, arith, eq-eqb, ne-eqb, eqb-true, eqb-false, ltb-false, leb-true, le-leb}
 use Rattle.octets.specs.Octets.{part}
 use Rattle.octets.specs.Sentences.{pick, from}
 use Rattle.octets.proofs.Sentences.{both, either, neither, conjunct}

@@ -1,14 +1,5 @@
 -- The packets of a reply, put together: the first ones are its beginning, all of them are the reply, and a reply of at most two bytes is one packet. No axiom.
-use Prim.Native.Nat.{ℕ, zero, suc, _+_, _-_, _*_, _/_, _≤_, _<_, min}
-use native.Mathlib.Omega.{arith}
-use native.Mathlib.Nat.{suc-mul, zero-mul}
-use mathlib.Core.Path.{_≡_, refl, sym, ap, _∙_}
-use mathlib.Core.Bool.{Bool, true, false}
-use mathlib.Core.List.{List, [], _∷_, flatMap, map}
-use lib.ListN.{length, take, drop, length-drop}
-use lib.Seq.{take-all, take-add, drop-drop}
-use lib.Dec.{eqb}
-use borrow.Author.Tests.{lt-ltb, eqb-true}
+use Rattle.octets.proofs.Vocabulary.{_≡_, refl, sym, ap, _∙_, ℕ, zero, suc, _+_, _-_, _*_, _/_, _≤_, _<_, min, List, [], _∷_, flatMap, map, Bool, true, false, length, take, drop, length-drop, eqb, take-all, take-add, drop-drop, arith, suc-mul, zero-mul, lt-ltb, eqb-true}
 use Rattle.octets.specs.Octets.{part}
 use Rattle.octets.specs.Sentences.{pick, from, upTo}
 use Rattle.packets.specs.declared.Packet.{Packet}

@@ -1,12 +1,5 @@
 -- A status end is told once for each transfer that ended, and never for one that was dropped. No axiom.
-use Prim.Native.Nat.{ℕ, _+_}
-use mathlib.Core.Path.{_≡_, refl, sym, ap, _∙_}
-use mathlib.Core.Logic.{_⊎_, inl, inr}
-use mathlib.Core.Bool.{Bool, true, false, _||_, false≢true}
-use mathlib.Core.List.{List, [], _∷_}
-use lib.ListN.{length}
-use lib.Dec.{eqb, ltb}
-use borrow.Author.Tests.{eq-eqb, eqb-true}
+use Rattle.octets.proofs.Vocabulary.{_≡_, refl, sym, ap, _∙_, ℕ, _+_, List, [], _∷_, Bool, true, false, _||_, false≢true, _⊎_, inl, inr, length, eqb, ltb, eq-eqb, eqb-true}
 use Rattle.octets.specs.Sentences.{pick}
 use Rattle.octets.proofs.Sentences.{either, conjunct}
 use Rattle.laws.proofs.Outcomes.{chosen}

@@ -1,11 +1,5 @@
 -- Enumeration, packet by packet (PIPE 57): from every record that fits, with whatever sixteen bytes as pipe record, and so after every run from power-on. No axiom.
-use Prim.Native.Nat.{ℕ, _≤_, _<_}
-use mathlib.Core.Path.{_≡_, refl, sym, ap, subst, _∙_}
-use mathlib.Core.Bool.{true, false}
-use mathlib.Core.List.{List, [], _∷_, _++_, map, flatMap, append-assoc}
-use lib.ListN.{length}
-use lib.Dec.{eqb}
-use borrow.Author.Tests.{eq-eqb}
+use Rattle.octets.proofs.Vocabulary.{_≡_, refl, sym, ap, subst, _∙_, ℕ, _≤_, _<_, List, [], _∷_, _++_, map, flatMap, append-assoc, true, false, length, eqb, eq-eqb}
 use Rattle.octets.specs.Sentences.{pick, only, upTo, isSome, isEmpty}
 use Rattle.descriptors.specs.Configuration.{wTotalLength, bConfigurationValue}
 use Rattle.sets.specs.Device.{deviceBody, bNumConfigurations}

@@ -1,11 +1,5 @@
 -- The promises at work: on the bench set S, on the titrator T and on a pair, so that none is empty. No axiom.
-use Prim.Native.Nat.{ℕ, zero, suc}
-use native.Mathlib.Omega.{arith}
-use mathlib.Core.Path.{_≡_, refl, sym, ap, subst, _∙_}
-use mathlib.Core.Bool.{true, false}
-use mathlib.Core.List.{List, [], _∷_, _++_, map}
-use lib.ListN.{take, replicate}
-use borrow.Author.Tests.{ne-eqb}
+use Rattle.octets.proofs.Vocabulary.{_≡_, refl, sym, ap, subst, _∙_, ℕ, zero, suc, List, [], _∷_, _++_, map, true, false, take, replicate, arith, ne-eqb}
 use Rattle.octets.specs.Octets.{Bytes}
 use Rattle.descriptors.specs.Configuration.{bConfigurationValue}
 use Rattle.sets.specs.Device.{deviceBody, bNumConfigurations}

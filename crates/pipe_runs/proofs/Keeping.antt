@@ -1,13 +1,5 @@
 -- A pipe record that a run from a pipe at rest leaves fits, where the application's reply is lent while it goes out: so no event gets 8 for it. No axiom.
-use Prim.Native.Nat.{ℕ, _+_, _≤_, _<_, min}
-use native.Mathlib.Omega.{arith}
-use mathlib.Core.Path.{_≡_, refl, sym, ap, subst, _∙_}
-use mathlib.Core.Logic.{_⊎_, inl, inr}
-use mathlib.Core.Bool.{Bool, true, false, _&&_, _||_, not}
-use mathlib.Core.List.{List, [], _∷_}
-use lib.ListN.{length}
-use lib.Dec.{eqb, leb, ltb}
-use borrow.Author.Tests.{eq-eqb, ne-eqb, eqb-true, eqb-false, leb-true, le-leb}
+use Rattle.octets.proofs.Vocabulary.{_≡_, refl, sym, ap, subst, _∙_, ℕ, _+_, _≤_, _<_, min, List, [], _∷_, Bool, true, false, _&&_, _||_, not, _⊎_, inl, inr, length, eqb, leb, ltb, arith, eq-eqb, ne-eqb, eqb-true, eqb-false, leb-true, le-leb}
 use Rattle.octets.specs.Octets.{Bytes}
 use Rattle.octets.specs.Sentences.{pick}
 use Rattle.octets.proofs.Sentences.{either, conjunct, cases, if-then, or-left}

@@ -1,9 +1,5 @@
 -- The host of the enumeration on the wire keeps to what it is ordered. No axiom.
-use Prim.Native.Nat.{ℕ, _-_}
-use mathlib.Core.Path.{_≡_, refl}
-use mathlib.Core.Bool.{Bool, true, false}
-use mathlib.Core.List.{List, [], _∷_, _++_, map, flatMap, append-assoc}
-use lib.Dec.{eqb}
+use Rattle.octets.proofs.Vocabulary.{_≡_, refl, ℕ, _-_, List, [], _∷_, _++_, map, flatMap, append-assoc, Bool, true, false, eqb}
 use Rattle.octets.specs.Sentences.{pick, from}
 use Rattle.descriptors.specs.Configuration.{bConfigurationValue}
 use Rattle.sets.specs.Device.{deviceBody}

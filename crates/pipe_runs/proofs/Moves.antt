@@ -1,9 +1,5 @@
 -- Nothing else moves the device: the device record after a run of pipe events is that of the library's own events. No axiom.
-use mathlib.Core.Path.{_≡_, refl, sym, ap, _∙_}
-use mathlib.Core.Bool.{Bool, true, false}
-use mathlib.Core.List.{List, [], _∷_, _++_}
-use lib.ListN.{length}
-use lib.Dec.{eqb}
+use Rattle.octets.proofs.Vocabulary.{_≡_, refl, sym, ap, _∙_, List, [], _∷_, _++_, Bool, true, false, length, eqb}
 use Rattle.octets.specs.Sentences.{pick}
 use Rattle.sets.specs.Opening.{Board}
 use Rattle.events.specs.Step.{event}

@@ -1,12 +1,5 @@
 -- A host's script is played packet by packet: each request that is answered 0, from idle to idle (PIPE 57). No axiom.
-use Prim.Native.Nat.{ℕ, zero, suc, _+_, _-_, _*_, _/_, _%_, _≤_, _<_}
-use native.Mathlib.Omega.{arith}
-use mathlib.Core.Path.{_≡_, refl, sym, ap, subst, _∙_}
-use mathlib.Core.Bool.{Bool, true, false, _&&_}
-use mathlib.Core.List.{List, [], _∷_, _++_, map, flatMap}
-use lib.ListN.{length}
-use lib.Dec.{eqb, leb}
-use borrow.Author.Tests.{eqb-true, eqb-false, lt-ltb, leb-true}
+use Rattle.octets.proofs.Vocabulary.{_≡_, refl, sym, ap, subst, _∙_, ℕ, zero, suc, _+_, _-_, _*_, _/_, _%_, _≤_, _<_, List, [], _∷_, _++_, map, flatMap, Bool, true, false, _&&_, length, eqb, leb, arith, eqb-true, eqb-false, lt-ltb, leb-true}
 use Rattle.octets.specs.Octets.{Bytes}
 use Rattle.octets.specs.Sentences.{pick, from, every, isSome, upTo}
 use Rattle.octets.proofs.Sentences.{cases, conjunct, every-member}

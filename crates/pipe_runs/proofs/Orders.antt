@@ -1,10 +1,6 @@
 -- Demand 3 from packet to packet: in Configured, with nothing waiting, a status end changes nothing, so that the order of setups that concern different interfaces does not count.
 -- No axiom.
-use Prim.Native.Nat.{ℕ}
-use mathlib.Core.Path.{_≡_, refl, sym, ap, _∙_}
-use mathlib.Core.Bool.{Bool, true, false, not, false≢true}
-use mathlib.Core.List.{List, [], _∷_}
-use borrow.Author.Tests.{eq-eqb}
+use Rattle.octets.proofs.Vocabulary.{_≡_, refl, sym, ap, _∙_, ℕ, List, [], _∷_, Bool, true, false, not, false≢true, eq-eqb}
 use Rattle.octets.specs.Sentences.{pick, every, only, isSome}
 use Rattle.octets.proofs.Sentences.{both, joined, every-alike}
 use Rattle.sets.specs.Opening.{Board, BytesOf}

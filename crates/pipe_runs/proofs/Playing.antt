@@ -1,11 +1,5 @@
 -- A transfer on the wire, packet by packet: from idle to idle, with the status end at its end. No axiom.
-use Prim.Native.Nat.{ℕ, zero, suc, _+_, _≤_, _<_}
-use native.Mathlib.Omega.{arith}
-use mathlib.Core.Path.{_≡_, refl, ap, _∙_}
-use mathlib.Core.Bool.{Bool, true, false}
-use mathlib.Core.List.{List, [], _∷_, _++_, map}
-use lib.Dec.{eqb, leb, ltb}
-use borrow.Author.Tests.{eq-eqb, lt-ltb, ltb-true}
+use Rattle.octets.proofs.Vocabulary.{_≡_, refl, ap, _∙_, ℕ, zero, suc, _+_, _≤_, _<_, List, [], _∷_, _++_, map, Bool, true, false, eqb, leb, ltb, arith, eq-eqb, lt-ltb, ltb-true}
 use Rattle.octets.specs.Sentences.{pick, from}
 use Rattle.sets.specs.Opening.{Board}
 use Rattle.records.specs.Image.{deviceOf}

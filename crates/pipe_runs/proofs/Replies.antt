@@ -1,12 +1,5 @@
 -- What the host reads is the reply (PIPE 52): of the library's answer to a SETUP, and of the application's. No axiom.
-use Prim.Native.Nat.{ℕ, suc, _+_, _≤_, _<_}
-use native.Mathlib.Omega.{arith}
-use mathlib.Core.Path.{_≡_, refl, sym, ap, subst, _∙_}
-use mathlib.Core.Bool.{Bool, true, false, false≢true}
-use mathlib.Core.List.{List, [], _∷_, _++_, flatMap}
-use lib.ListN.{length, length-take, length-drop}
-use lib.Dec.{eqb, leb}
-use borrow.Author.Tests.{eq-eqb, ne-eqb, leb-true}
+use Rattle.octets.proofs.Vocabulary.{_≡_, refl, sym, ap, subst, _∙_, ℕ, suc, _+_, _≤_, _<_, List, [], _∷_, _++_, flatMap, Bool, true, false, false≢true, length, length-take, length-drop, eqb, leb, arith, eq-eqb, ne-eqb, leb-true}
 use Rattle.octets.specs.Octets.{part, Bytes}
 use Rattle.octets.specs.Sentences.{pick, from, upTo}
 use Rattle.sets.specs.Opening.{Board}

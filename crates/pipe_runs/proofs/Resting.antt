@@ -1,12 +1,5 @@
 -- A pipe at rest: idle or stalled. Until the next SETUP or reset nothing goes out, nothing may come in, and no status end is told. No axiom.
-use Prim.Native.Nat.{ℕ}
-use native.Mathlib.Omega.{arith}
-use mathlib.Core.Path.{_≡_, refl}
-use mathlib.Core.Bool.{true, false, false≢true}
-use mathlib.Core.List.{List, [], _∷_, _++_}
-use lib.ListN.{length}
-use lib.Dec.{eqb}
-use borrow.Author.Tests.{eq-eqb}
+use Rattle.octets.proofs.Vocabulary.{_≡_, refl, ℕ, List, [], _∷_, _++_, true, false, false≢true, length, eqb, arith, eq-eqb}
 use Rattle.sets.specs.Opening.{Board}
 use Rattle.sets.specs.View.{accepted}
 use Rattle.records.specs.Image.{deviceOf}

@@ -1,11 +1,5 @@
 -- A SETUP drops the transfer under way, whatever the pipe record: no pipe record locks the device out; and one that is refused stalls. No axiom.
-use Prim.Native.Nat.{ℕ}
-use mathlib.Core.Path.{_≡_, refl, sym, ap, subst, _∙_}
-use mathlib.Core.Bool.{Bool, true, false, _&&_, false≢true}
-use mathlib.Core.List.{List}
-use lib.ListN.{length}
-use lib.Dec.{eqb}
-use borrow.Author.Tests.{eq-eqb, ne-eqb}
+use Rattle.octets.proofs.Vocabulary.{_≡_, refl, sym, ap, subst, _∙_, ℕ, List, Bool, true, false, _&&_, false≢true, length, eqb, eq-eqb, ne-eqb}
 use Rattle.octets.specs.Sentences.{pick}
 use Rattle.sets.specs.Opening.{Board}
 use Rattle.sets.specs.View.{accepted}

@@ -1,12 +1,6 @@
 -- The transfer that a setup starts fits the blocks that are lent: the library's reply lies inside its block, is no longer than wLength, and its place and
 -- length are numbers of two bytes. No axiom.
-use Prim.Native.Nat.{ℕ, _+_, _/_, _≤_, _<_}
-use native.Mathlib.Omega.{arith}
-use mathlib.Core.Path.{_≡_, refl}
-use mathlib.Core.Bool.{true, _||_}
-use mathlib.Core.List.{List}
-use lib.Dec.{eqb, leb}
-use borrow.Author.Tests.{le-leb}
+use Rattle.octets.proofs.Vocabulary.{_≡_, refl, ℕ, _+_, _/_, _≤_, _<_, List, true, _||_, eqb, leb, arith, le-leb}
 use Rattle.octets.specs.Octets.{byte, Bytes}
 use Rattle.octets.proofs.Sentences.{both}
 use Rattle.sets.specs.Opening.{Board}

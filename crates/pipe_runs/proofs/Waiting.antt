@@ -1,15 +1,6 @@
 -- What the library's own events do to the address and to what waits: a setup never changes the address, and an address waits after it only if it was a
 -- SET_ADDRESS that was answered with 0. No axiom.
-use Prim.Native.Nat.{ℕ, _≤_, _<_}
-use native.Mathlib.Omega.{arith}
-use mathlib.Core.Path.{_≡_, refl, _∙_}
-use mathlib.Core.Logic.{_⊎_, inl, inr}
-use mathlib.Core.Bool.{Bool, true, false, _&&_, _||_, not}
-use mathlib.Core.List.{List, [], _∷_}
-use mathlib.Core.Option.{Option, some, none}
-use lib.ListN.{length}
-use lib.Dec.{eqb, leb, lit≤}
-use borrow.Author.Tests.{eq-eqb, eqb-true, leb-true}
+use Rattle.octets.proofs.Vocabulary.{_≡_, refl, _∙_, ℕ, _≤_, _<_, List, [], _∷_, Bool, true, false, _&&_, _||_, not, Option, some, none, _⊎_, inl, inr, length, eqb, leb, lit≤, arith, eq-eqb, eqb-true, leb-true}
 use Rattle.octets.specs.Bit.{bit, flipBit}
 use Rattle.octets.specs.Sentences.{_⇒_, any, every}
 use Rattle.octets.proofs.Sentences.{if-then, conjunct}

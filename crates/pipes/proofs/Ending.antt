@@ -1,8 +1,5 @@
 -- A transfer that has ended leaves the pipe idle. No axiom.
-use Prim.Native.Nat.{ℕ, _+_}
-use mathlib.Core.Path.{_≡_, refl, sym, _∙_}
-use mathlib.Core.Bool.{Bool, true, false, _||_, false≢true}
-use lib.Dec.{eqb, ltb}
+use Rattle.octets.proofs.Vocabulary.{_≡_, refl, sym, _∙_, ℕ, _+_, Bool, true, false, _||_, false≢true, eqb, ltb}
 use Rattle.octets.specs.Sentences.{pick}
 use Rattle.packets.specs.Packets.{packet}
 use Rattle.pipes.specs.declared.Transfer.{Transfer}

@@ -1,10 +1,5 @@
 -- What an event gets before the library hears of it, where it looks at the transfer. No axiom.
-use Prim.Native.Nat.{ℕ}
-use mathlib.Core.Path.{_≡_, ap, _∙_}
-use mathlib.Core.Bool.{Bool, true, false}
-use mathlib.Core.List.{List}
-use lib.ListN.{length}
-use borrow.Author.Tests.{eq-eqb}
+use Rattle.octets.proofs.Vocabulary.{_≡_, ap, _∙_, ℕ, List, Bool, true, false, length, eq-eqb}
 use Rattle.octets.specs.Sentences.{pick}
 use Rattle.pipes.specs.declared.Lengths.{Lengths}
 use Rattle.pipes.specs.declared.Wire.{Wire}

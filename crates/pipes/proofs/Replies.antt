@@ -1,13 +1,5 @@
 -- An answer's reply: its length, and that its place is a number of two bytes. No axiom.
-use Prim.Native.Nat.{ℕ, _+_, _≤_, _<_}
-use native.Mathlib.Omega.{arith}
-use native.Mathlib.Nat.{zero-add}
-use mathlib.Core.Path.{_≡_, refl, sym}
-use mathlib.Core.Bool.{true}
-use mathlib.Core.List.{[], _∷_}
-use lib.ListN.{length}
-use lib.Dec.{eqb, leb}
-use borrow.Author.Tests.{eqb-true, leb-true}
+use Rattle.octets.proofs.Vocabulary.{_≡_, refl, sym, ℕ, _+_, _≤_, _<_, [], _∷_, true, length, eqb, leb, arith, zero-add, eqb-true, leb-true}
 use Rattle.octets.specs.Octets.{byte}
 use Rattle.octets.proofs.Sentences.{conjunct}
 use Rattle.sets.specs.Contents.{total, count, bodiesAt, goodFrame}

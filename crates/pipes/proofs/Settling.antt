@@ -1,12 +1,5 @@
 -- What the library's answer settles, and what is handed over, in clean contexts: for the proofs of src/response.rt. No axiom.
-use Prim.Native.Nat.{ℕ, _≤_}
-use native.Mathlib.Omega.{arith}
-use mathlib.Core.Path.{_≡_, refl, sym, ap, _∙_}
-use mathlib.Core.Bool.{Bool, true, false}
-use mathlib.Core.List.{List, [], _∷_}
-use lib.ListN.{length}
-use lib.Dec.{eqb, leb}
-use borrow.Author.Tests.{eqb-true, leb-true}
+use Rattle.octets.proofs.Vocabulary.{_≡_, refl, sym, ap, _∙_, ℕ, _≤_, List, [], _∷_, Bool, true, false, length, eqb, leb, arith, eqb-true, leb-true}
 use Rattle.octets.specs.Sentences.{pick}
 use Rattle.octets.proofs.Sentences.{conjunct}
 use Rattle.requests.specs.declared.Setup.{Setup}

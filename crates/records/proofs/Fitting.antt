@@ -1,12 +1,6 @@
 -- A record fits, from what is told of the configuration with its value, which is the selected one if it does. No axiom.
-use Prim.Native.Nat.{ℕ, _≤_}
-use native.Mathlib.Omega.{arith}
+use Rattle.octets.proofs.Vocabulary.{_≡_, refl, sym, ap, _∙_, ℕ, _≤_, List, [], _∷_, Bool, true, false, _&&_, _||_, not, eqb, leb, arith, eqb-true, eqb-false, eq-eqb, leb-true}
 use native.Mathlib.Decide.{ℕ-discrete}
-use mathlib.Core.Path.{_≡_, refl, sym, ap, _∙_}
-use mathlib.Core.Bool.{Bool, true, false, _&&_, _||_, not}
-use mathlib.Core.List.{List, [], _∷_}
-use lib.Dec.{eqb, leb}
-use borrow.Author.Tests.{eqb-true, eqb-false, eq-eqb, leb-true}
 use Rattle.octets.specs.Bit.{bit}
 use Rattle.octets.specs.Sentences.{pick, _⇒_, only, below}
 use Rattle.octets.proofs.Sentences.{cases, both, conjunct, if-then, any-none, none-first}

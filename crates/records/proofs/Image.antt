@@ -1,11 +1,5 @@
 -- A record and its 32-byte image are inverse. No axiom.
-use Prim.Native.Nat.{ℕ, zero, suc, _+_, _*_, _/_, _%_, _^_, _<_, _≤_}
-use native.Mathlib.Omega.{arith}
-use native.Mathlib.Nat.{add-zero, zero-add, le-of-eq, min-le-left, div-div-eq-div-mul}
-use mathlib.Core.Path.{_≡_, sym, ap, _∙_}
-use mathlib.Core.List.{List, [], _∷_, _++_, append-assoc, append-nil}
-use lib.ListN.{length, set, take, drop, length-append, length-take, length-drop, take-append-drop, drop-of-length-le}
-use lib.Seq.{drop-cons, drop-drop, getD-append-add, take-at, take-length}
+use Rattle.octets.proofs.Vocabulary.{_≡_, sym, ap, _∙_, ℕ, zero, suc, _+_, _*_, _/_, _%_, _^_, _<_, _≤_, List, [], _∷_, _++_, append-assoc, append-nil, length, set, take, drop, length-append, length-take, length-drop, take-append-drop, drop-of-length-le, drop-cons, drop-drop, getD-append-add, take-at, take-length, arith, add-zero, zero-add, le-of-eq, min-le-left, div-div-eq-div-mul}
 use Rattle.octets.specs.Octets.{byte, part}
 use Rattle.records.specs.declared.Device.{Device}
 use Rattle.records.specs.Device.{withEndpoints, Sized}

@@ -1,9 +1,5 @@
 -- The set in use of an accepted board opens, by the row of limits of its speed: so what opening tells of a set holds of it. No axiom.
-use Prim.Native.Nat.{ℕ}
-use mathlib.Core.Path.{_≡_}
-use mathlib.Core.List.{List}
-use mathlib.Core.Option.{Option, some, none}
-use lib.Dec.{eqb}
+use Rattle.octets.proofs.Vocabulary.{_≡_, ℕ, List, Option, some, none, eqb}
 use Rattle.octets.specs.Sentences.{pick}
 use Rattle.octets.proofs.Sentences.{cases}
 use Rattle.descriptors.specs.declared.limits.Limits.{Limits}

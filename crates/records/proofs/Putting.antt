@@ -1,16 +1,7 @@
 -- An image whose bytes are written one by one, or part by part. No axiom.
-use Prim.Native.Nat.{ℕ, zero, suc, _+_, _<_}
-use native.Mathlib.Omega.{arith}
-use native.Mathlib.Nat.{le-of-eq, le-of-suc-le-suc, not-suc-le-zero}
+use Rattle.octets.proofs.Vocabulary.{_≡_, refl, sym, ap, subst, _∙_, ℕ, zero, suc, _+_, _<_, List, [], _∷_, _++_, append-assoc, append-nil, Bool, true, false, length, set, take, drop, replicate, getD, length-append, length-take, length-set, drop-of-length-le, ltb, take-at, take-all, drop-at, arith, le-of-eq, le-of-suc-le-suc, not-suc-le-zero, lt-ltb}
 use native.Mathlib.Numerals.{add-one}
-use mathlib.Core.Path.{_≡_, refl, sym, ap, subst, _∙_}
-use mathlib.Core.Bool.{Bool, true, false}
-use mathlib.Core.List.{List, [], _∷_, _++_, append-assoc, append-nil}
-use lib.ListN.{length, set, take, drop, replicate, getD, length-append, length-take, length-set, drop-of-length-le}
-use lib.Seq.{take-at, take-all, drop-at}
-use lib.Dec.{ltb}
 use Rattle.octets.specs.Sentences.{pick}
-use borrow.Author.Tests.{lt-ltb}
 use borrow.Rule.Slice.PartMut.{putMid}
 use Rattle.records.specs.declared.Device.{Device}
 use Rattle.records.specs.declared.Change.{Change}

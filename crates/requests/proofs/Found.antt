@@ -1,9 +1,5 @@
 -- What a search of the table tells, and what `refusal` is then. No axiom.
-use Prim.Native.Nat.{ℕ}
-use native.Mathlib.Omega.{arith}
-use mathlib.Core.Path.{_≡_, refl}
-use mathlib.Core.Bool.{true, false}
-use mathlib.Core.Option.{Option, some, none}
+use Rattle.octets.proofs.Vocabulary.{_≡_, refl, ℕ, true, false, Option, some, none, arith}
 use Rattle.octets.specs.Sentences.{pick}
 use Rattle.requests.specs.declared.Setup.{Setup}
 use Rattle.requests.specs.declared.Row.{Row}

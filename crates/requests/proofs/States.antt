@@ -1,11 +1,6 @@
 -- The table's states are document 01's sentence: "Default allows 05 and 06. Address allows all but 0A and 0B. Configured allows all but 05."
 -- Computed over the table, and so of each setup that has a row. No axiom.
-use Prim.Native.Nat.{ℕ}
-use mathlib.Core.Path.{_≡_, refl, ap, _∙_}
-use mathlib.Core.Bool.{Bool, true, false, _&&_, _||_, not, Bool·beq, false≢true}
-use mathlib.Core.Option.{some}
-use lib.Dec.{eqb}
-use borrow.Author.Tests.{eqb-true}
+use Rattle.octets.proofs.Vocabulary.{_≡_, refl, ap, _∙_, ℕ, Bool, true, false, _&&_, _||_, not, Bool·beq, false≢true, some, eqb, eqb-true}
 use Rattle.octets.specs.Sentences.{every}
 use Rattle.octets.proofs.Sentences.{both, every-member, first-some}
 use Rattle.requests.specs.declared.Setup.{Setup}

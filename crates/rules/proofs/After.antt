@@ -1,9 +1,5 @@
 -- One rule asked after another: the first fault stays, and is that of the first rule that is broken. No axiom.
-use mathlib.Core.Path.{_≡_, refl, sym, ap, _∙_}
-use mathlib.Core.List.{List, [], _∷_, _++_}
-use mathlib.Core.Bool.{Bool, true, false, _&&_, not, and-false}
-use mathlib.Core.Option.{some}
-use lib.Dec.{eqb}
+use Rattle.octets.proofs.Vocabulary.{_≡_, refl, sym, ap, _∙_, List, [], _∷_, _++_, Bool, true, false, _&&_, not, and-false, some, eqb}
 use Rattle.octets.specs.Sentences.{pick, every, first}
 use Rattle.octets.proofs.Sentences.{both}
 use Rattle.rules.specs.declared.Fault.{Fault}

@@ -1,14 +1,5 @@
 -- A pass over the entries, asking rules: one entry, one that is passed by, and the end. No axiom.
-use Prim.Native.Nat.{ℕ, zero, suc, _+_, _-_, _*_, _/_, _≤_, _<_}
-use native.Mathlib.Omega.{arith}
-use mathlib.Core.Path.{_≡_, refl, sym, ap, _∙_}
-use mathlib.Core.Logic.{_⊎_, inl, inr}
-use mathlib.Core.List.{List, [], _∷_, List·Memᴰ, List·Memᴰ·not-nil, List·Memᴰ·cases-cons}
-use mathlib.Core.Bool.{Bool, true, false, _&&_, _||_, not}
-use lib.ListN.{length, drop, getElem?, length-drop, length-take}
-use lib.Seq.{getD-drop, drop-drop}
-use lib.Dec.{eqb, leb, ltb}
-use borrow.Author.Tests.{eq-eqb, ne-eqb, le-leb, lt-leb, leb-true}
+use Rattle.octets.proofs.Vocabulary.{_≡_, refl, sym, ap, _∙_, ℕ, zero, suc, _+_, _-_, _*_, _/_, _≤_, _<_, List, [], _∷_, List·Memᴰ, List·Memᴰ·not-nil, List·Memᴰ·cases-cons, Bool, true, false, _&&_, _||_, not, _⊎_, inl, inr, length, drop, getElem?, length-drop, length-take, eqb, leb, ltb, getD-drop, drop-drop, arith, eq-eqb, ne-eqb, le-leb, lt-leb, leb-true}
 use Rattle.octets.specs.Octets.{byte, Bytes}
 use Rattle.octets.specs.Sentences.{every, first, isEmpty}
 use Rattle.octets.specs.Table.{has, with}

@@ -1,13 +1,5 @@
 -- Every rule carries its group's number, and so one other than 0. No axiom.
-use Prim.Native.Nat.{ℕ, _+_, _/_, _≤_, _<_}
-use native.Mathlib.Omega.{arith}
-use mathlib.Core.Path.{_≡_, refl, ap, _∙_}
-use mathlib.Core.List.{List, [], _∷_, _++_}
-use mathlib.Core.Bool.{Bool, true, false, _&&_, not}
-use mathlib.Core.Option.{Option, some, none}
-use lib.ListN.{length}
-use lib.Dec.{eqb}
-use borrow.Author.Tests.{eqb-true, ne-eqb}
+use Rattle.octets.proofs.Vocabulary.{_≡_, refl, ap, _∙_, ℕ, _+_, _/_, _≤_, _<_, List, [], _∷_, _++_, Bool, true, false, _&&_, not, Option, some, none, length, eqb, arith, eqb-true, ne-eqb}
 use Rattle.octets.specs.Sentences.{pick, every}
 use Rattle.octets.proofs.Sentences.{both, joined, every-append}
 use Rattle.descriptors.specs.declared.limits.Limits.{Limits}

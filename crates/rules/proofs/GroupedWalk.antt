@@ -1,9 +1,5 @@
 -- Every rule that the code's walk asks carries group 4's number. No axiom.
-use Prim.Native.Nat.{ℕ, _+_}
-use mathlib.Core.Path.{refl}
-use mathlib.Core.List.{List, [], _∷_}
-use mathlib.Core.Bool.{Bool, true, false}
-use lib.ListN.{length}
+use Rattle.octets.proofs.Vocabulary.{refl, ℕ, _+_, List, [], _∷_, Bool, true, false, length}
 use Rattle.octets.specs.Sentences.{pick, every}
 use Rattle.descriptors.specs.declared.limits.Limits.{Limits}
 use Rattle.descriptors.specs.declared.Setting.{Setting}

@@ -1,13 +1,5 @@
 -- A walk over the descriptors of a body, asking rules: where it is stuck, where it goes on, and where it ends. No axiom.
-use Prim.Native.Nat.{ℕ, _+_, _-_, _≤_, _<_}
-use native.Mathlib.Omega.{arith}
-use mathlib.Core.Path.{_≡_, refl, ap, _∙_}
-use mathlib.Core.List.{List, [], _∷_}
-use mathlib.Core.Bool.{Bool, true, false, not}
-use lib.ListN.{length, drop, length-take, length-drop}
-use lib.Seq.{getD-take, getD-drop}
-use lib.Dec.{leb}
-use borrow.Author.Tests.{eq-eqb, ne-eqb, leb-true, leb-false, lt-ltb}
+use Rattle.octets.proofs.Vocabulary.{_≡_, refl, ap, _∙_, ℕ, _+_, _-_, _≤_, _<_, List, [], _∷_, Bool, true, false, not, length, drop, length-take, length-drop, leb, getD-take, getD-drop, arith, eq-eqb, ne-eqb, leb-true, leb-false, lt-ltb}
 use Rattle.octets.specs.Octets.{byte, part}
 use Rattle.octets.specs.Sentences.{pick}
 use Rattle.octets.proofs.Sentences.{cases}

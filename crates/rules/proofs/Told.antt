@@ -1,5 +1,5 @@
 -- What explain tells is opening's number. No axiom.
-use mathlib.Core.Path.{_≡_, refl}
+use Rattle.octets.proofs.Vocabulary.{_≡_, refl}
 use Rattle.descriptors.specs.declared.limits.Limits.{Limits}
 use Rattle.sets.specs.Opening.{Board, opening}
 use Rattle.rules.specs.Explained.{explained}

@@ -1,9 +1,5 @@
 -- All rules as the code asks them: they break first where the list of rules does. No axiom.
-use native.Mathlib.Omega.{arith}
-use mathlib.Core.Path.{_≡_, refl}
-use mathlib.Core.List.{List, [], _++_}
-use mathlib.Core.Bool.{true}
-use lib.Dec.{eqb}
+use Rattle.octets.proofs.Vocabulary.{_≡_, refl, List, [], _++_, true, eqb, arith}
 use Rattle.octets.specs.Sentences.{every, first}
 use Rattle.descriptors.specs.declared.limits.Limits.{Limits}
 use Rattle.sets.specs.Contents.{entries, total, bodiesAt}

@@ -1,14 +1,5 @@
 -- What the number 0 tells of a stream, and what an accepted set tells of its pieces: the laws behind the promises. No axiom.
-use Prim.Native.Nat.{ℕ}
-use native.Mathlib.Omega.{arith}
-use mathlib.Core.Path.{_≡_, refl, sym, ap, _∙_}
-use mathlib.Core.Logic.{_⊎_, inl, inr, ⊎-elim}
-use mathlib.Core.Bool.{Bool, true, false, _&&_, not}
-use mathlib.Core.Option.{some}
-use mathlib.Core.List.{List, [], _∷_, map, List·Memᴰ, List·Memᴰ·head, List·Memᴰ·tail, List·Memᴰ·cases-cons, List·Memᴰ·not-nil}
-use lib.ListN.{length}
-use lib.Dec.{eqb, leb, ltb}
-use borrow.Author.Tests.{eqb-true, eq-eqb, not-false}
+use Rattle.octets.proofs.Vocabulary.{_≡_, refl, sym, ap, _∙_, ℕ, List, [], _∷_, map, List·Memᴰ, List·Memᴰ·head, List·Memᴰ·tail, List·Memᴰ·cases-cons, List·Memᴰ·not-nil, Bool, true, false, _&&_, not, some, _⊎_, inl, inr, ⊎-elim, length, eqb, leb, ltb, arith, eqb-true, eq-eqb, not-false}
 use Rattle.octets.specs.Sentences.{pick, every, neighbours, first}
 use Rattle.octets.proofs.Sentences.{both, never, conjunct, joined}
 use Rattle.descriptors.specs.declared.limits.Limits.{Limits}

@@ -1,11 +1,5 @@
 -- Pieces of bytes make a set of bytes. No axiom.
-use Prim.Native.Nat.{ℕ, zero, suc, _+_, _/_, _%_, _<_}
-use native.Mathlib.Omega.{arith}
-use mathlib.Core.Path.{_≡_, refl}
-use mathlib.Core.Logic.{⊎-elim}
-use mathlib.Core.List.{List, [], _∷_, _++_, List·Memᴰ, List·Memᴰ·head, List·Memᴰ·tail, List·Memᴰ·cases-cons, List·Memᴰ·not-nil}
-use lib.ListN.{length, take, drop, length-append}
-use lib.Seq.{getD-drop}
+use Rattle.octets.proofs.Vocabulary.{_≡_, refl, ℕ, zero, suc, _+_, _/_, _%_, _<_, List, [], _∷_, _++_, List·Memᴰ, List·Memᴰ·head, List·Memᴰ·tail, List·Memᴰ·cases-cons, List·Memᴰ·not-nil, ⊎-elim, length, take, drop, length-append, getD-drop, arith}
 use Rattle.octets.specs.Octets.{word, Bytes}
 use Rattle.set_writer.specs.Writer.{pieceOf, piecesAfter, pieces, entryBytes, contents, bodyBytes, front, header, laidLength, laid}
 use Rattle.sets.specs.Pieces.{Piece}

@@ -1,13 +1,5 @@
 -- A set that passes groups 1 and 2 is its own pieces, laid out. Assumes that it is bytes.
-use Prim.Native.Nat.{ℕ, zero, suc, _+_, _*_, _/_, _%_, _≤_, _<_}
-use native.Mathlib.Omega.{arith}
-use mathlib.Core.Path.{_≡_, refl, sym, ap, _∙_}
-use mathlib.Core.Bool.{true}
-use mathlib.Core.List.{List, [], _∷_, _++_, map}
-use lib.ListN.{length, take, drop, length-drop, length-map, take-append-drop, drop-of-length-le}
-use lib.Seq.{drop-drop, take-add, length-take-le}
-use lib.Dec.{eqb, leb}
-use borrow.Author.Tests.{eqb-true, leb-true}
+use Rattle.octets.proofs.Vocabulary.{_≡_, refl, sym, ap, _∙_, ℕ, zero, suc, _+_, _*_, _/_, _%_, _≤_, _<_, List, [], _∷_, _++_, map, true, length, take, drop, length-drop, length-map, take-append-drop, drop-of-length-le, eqb, leb, drop-drop, take-add, length-take-le, arith, eqb-true, leb-true}
 use Rattle.octets.specs.Octets.{byte, Bytes}
 use Rattle.octets.specs.Sentences.{every, neighbours}
 use Rattle.octets.proofs.Sentences.{both, conjunct}

@@ -1,10 +1,5 @@
 -- The buffer after a call that fills one. No axiom.
-use Prim.Native.Nat.{ℕ}
-use mathlib.Core.Path.{_≡_, _∙_}
-use mathlib.Core.List.{List}
-use lib.ListN.{length, take, drop}
-use lib.Seq.{take-append-seam, drop-append-seam}
-use borrow.Author.Tests.{eq-eqb, ne-eqb}
+use Rattle.octets.proofs.Vocabulary.{_≡_, _∙_, ℕ, List, length, take, drop, take-append-seam, drop-append-seam, eq-eqb, ne-eqb}
 use Rattle.set_writer.specs.Writer.{Filled}
 
 module _ {text buffer after : List ℕ} {asked n : ℕ} (w : Filled text buffer after asked n) where

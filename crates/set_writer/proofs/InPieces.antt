@@ -1,8 +1,5 @@
 -- Tests of those for which another test holds; and that two sets with the same device, BOS and configurations are judged alike in groups 3, 4 and 6. No axiom.
-use Prim.Native.Nat.{ℕ}
-use mathlib.Core.Path.{_≡_, refl, sym, ap, _∙_}
-use mathlib.Core.Bool.{Bool, true}
-use mathlib.Core.List.{List, [], _∷_, map}
+use Rattle.octets.proofs.Vocabulary.{_≡_, refl, sym, ap, _∙_, ℕ, List, [], _∷_, map, Bool, true}
 use Rattle.octets.specs.Sentences.{any, only, first}
 use Rattle.octets.proofs.Sentences.{cases, never}
 use Rattle.descriptors.specs.declared.limits.Limits.{Limits}

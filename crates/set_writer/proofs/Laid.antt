@@ -1,9 +1,5 @@
 -- The laws of the set that is laid out: its parts, piece by piece, and its length. No axiom.
-use Prim.Native.Nat.{ℕ, _+_, _*_}
-use native.Mathlib.Omega.{arith}
-use mathlib.Core.Path.{_≡_, refl}
-use mathlib.Core.List.{List, [], _∷_, _++_}
-use lib.ListN.{length, length-append}
+use Rattle.octets.proofs.Vocabulary.{_≡_, refl, ℕ, _+_, _*_, List, [], _∷_, _++_, length, length-append, arith}
 use Rattle.sets.specs.Pieces.{Piece}
 use Rattle.set_writer.specs.Writer.{entryBytes, contents, bodyBytes, front, header, laidLength, laid}
 

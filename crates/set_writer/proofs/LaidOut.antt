@@ -1,12 +1,5 @@
 -- Groups 1 and 2 of a set that is laid out, asked of its pieces. No axiom.
-use Prim.Native.Nat.{ℕ, _+_, _*_, _≤_}
-use native.Mathlib.Omega.{arith}
-use mathlib.Core.Path.{_≡_, refl, sym, ap, _∙_}
-use mathlib.Core.Bool.{Bool, true, _&&_, and-true}
-use mathlib.Core.List.{List, [], _∷_, List·Memᴰ·head}
-use lib.ListN.{length, length-append}
-use lib.Dec.{leb}
-use borrow.Author.Tests.{eq-eqb, le-leb}
+use Rattle.octets.proofs.Vocabulary.{_≡_, refl, sym, ap, _∙_, ℕ, _+_, _*_, _≤_, List, [], _∷_, List·Memᴰ·head, Bool, true, _&&_, and-true, length, length-append, leb, arith, eq-eqb, le-leb}
 use Rattle.octets.specs.Octets.{byte}
 use Rattle.octets.specs.Sentences.{every, only, neighbours}
 use Rattle.octets.proofs.Sentences.{cases, both, joined, only-member}

@@ -1,9 +1,5 @@
 -- Pieces at the places that are left. No axiom.
-use Prim.Native.Nat.{ℕ, _+_, _/_, _%_, _≤_, _<_}
-use native.Mathlib.Omega.{arith}
-use mathlib.Core.Path.{_≡_, ap, _∙_}
-use mathlib.Core.List.{List, [], _∷_, _++_, map}
-use lib.ListN.{length, drop, getD, length-map, drop-of-length-le}
+use Rattle.octets.proofs.Vocabulary.{_≡_, ap, _∙_, ℕ, _+_, _/_, _%_, _≤_, _<_, List, [], _∷_, _++_, map, length, drop, getD, length-map, drop-of-length-le, arith}
 use Rattle.sets.specs.Pieces.{Piece}
 use Rattle.set_writer.specs.Writer.{entryBytes, contents, bodyBytes, front, header, laidLength, laid}
 use Rattle.set_writer.proofs.Laid.{contents-none, contents-more, bodies-none, bodies-more, laid-parts, laid-length}

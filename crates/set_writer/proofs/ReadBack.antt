@@ -1,10 +1,5 @@
 -- What is laid out reads back: the entries of the set, with the bodies that they name, are the pieces. No axiom.
-use Prim.Native.Nat.{ℕ, _+_}
-use native.Mathlib.Omega.{arith}
-use mathlib.Core.Path.{_≡_, refl}
-use mathlib.Core.List.{List, [], _∷_, _++_, map, append-assoc}
-use lib.ListN.{length, length-append}
-use lib.Seq.{drop-append-seam, take-append-seam}
+use Rattle.octets.proofs.Vocabulary.{_≡_, refl, ℕ, _+_, List, [], _∷_, _++_, map, append-assoc, length, length-append, drop-append-seam, take-append-seam, arith}
 use Rattle.sets.specs.declared.Entry.{Entry}
 use Rattle.sets.specs.Contents.{entryOf, entriesFrom}
 use Rattle.sets.specs.Pieces.{Piece, pieceFor, piecesIn}

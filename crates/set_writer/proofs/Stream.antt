@@ -1,13 +1,5 @@
 -- The laws of a stream, piece by piece: what stands at a place, and what is behind it. No axiom.
-use Prim.Native.Nat.{ℕ, zero, suc, _+_, _-_, _*_, _/_, _%_, _≤_, _<_}
-use native.Mathlib.Omega.{arith}
-use mathlib.Core.Path.{_≡_, refl, sym, ap, _∙_}
-use mathlib.Core.Bool.{true, false}
-use mathlib.Core.List.{List, [], _∷_, _++_}
-use lib.ListN.{length, drop, length-append, length-drop, drop-of-length-le}
-use lib.Seq.{drop-drop, drop-append-seam, take-append-seam}
-use lib.Dec.{leb}
-use borrow.Author.Tests.{leb-true, leb-false}
+use Rattle.octets.proofs.Vocabulary.{_≡_, refl, sym, ap, _∙_, ℕ, zero, suc, _+_, _-_, _*_, _/_, _%_, _≤_, _<_, List, [], _∷_, _++_, true, false, length, drop, length-append, length-drop, drop-of-length-le, leb, drop-drop, drop-append-seam, take-append-seam, arith, leb-true, leb-false}
 use Rattle.octets.proofs.Sentences.{cases, never}
 use Rattle.octets.specs.Octets.{word}
 use Rattle.set_writer.specs.Writer.{pieceOf, endsAfter, piecesAfter, ends, pieces}

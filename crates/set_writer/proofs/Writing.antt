@@ -1,14 +1,5 @@
 -- What the writer answers, case by case, in the terms of its contract. No axiom.
-use Prim.Native.Nat.{ℕ, _+_, _-_, _*_, _≤_, _<_}
-use native.Mathlib.Nat.{sub-zero}
-use native.Mathlib.Omega.{arith}
-use mathlib.Core.Path.{_≡_, refl, sym, _∙_}
-use mathlib.Core.Bool.{Bool, true, false}
-use mathlib.Core.List.{List, _++_}
-use lib.ListN.{length, take, drop, length-take}
-use lib.Seq.{sets-eq, take-at, take-length}
-use lib.Dec.{eqb, ltb}
-use borrow.Author.Tests.{ne-eqb, eq-eqb, lt-ltb, le-ltb}
+use Rattle.octets.proofs.Vocabulary.{_≡_, refl, sym, _∙_, ℕ, _+_, _-_, _*_, _≤_, _<_, List, _++_, Bool, true, false, length, take, drop, length-take, eqb, ltb, sets-eq, take-at, take-length, arith, sub-zero, ne-eqb, eq-eqb, lt-ltb, le-ltb}
 use Rattle.octets.specs.Octets.{word}
 use Rattle.octets.specs.Sentences.{pick}
 use Rattle.octets.proofs.Sentences.{or-left, or-right}

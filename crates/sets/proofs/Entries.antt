@@ -1,16 +1,6 @@
 -- The laws of a set's contents: its entries, one after another, and the bodies that they name. No axiom.
-use Prim.Native.Nat.{ℕ, zero, suc, _+_, _-_, _*_, _≤_, _<_}
-use native.Mathlib.Nat.{sub-zero, zero-add}
-use native.Mathlib.Omega.{arith}
-use mathlib.Core.Path.{_≡_, refl, sym, ap, _∙_}
-use mathlib.Core.List.{List, [], _∷_, List·Memᴰ, List·Memᴰ·head, List·Memᴰ·tail}
-use mathlib.Core.Bool.{Bool, true, false, _&&_, _||_, and-false}
-use mathlib.Core.Option.{some, none}
-use lib.Dec.{eqb, leb, ltb}
-use borrow.Author.Tests.{eqb-true, eqb-false, ltb-true, ltb-false, lt-ltb, le-ltb, eq-eqb, ne-eqb}
+use Rattle.octets.proofs.Vocabulary.{_≡_, refl, sym, ap, _∙_, ℕ, zero, suc, _+_, _-_, _*_, _≤_, _<_, List, [], _∷_, List·Memᴰ, List·Memᴰ·head, List·Memᴰ·tail, Bool, true, false, _&&_, _||_, and-false, some, none, length, take, drop, getElem?, length-drop, drop-of-length-le, eqb, leb, ltb, getD-take, drop-drop, take-all, take-nil, arith, sub-zero, zero-add, eqb-true, eqb-false, ltb-true, ltb-false, lt-ltb, le-ltb, eq-eqb, ne-eqb}
 use Rattle.octets.proofs.Sentences.{cases}
-use lib.ListN.{length, take, drop, getElem?, length-drop, drop-of-length-le}
-use lib.Seq.{getD-take, drop-drop, take-all, take-nil}
 use Rattle.octets.specs.Octets.{byte, part}
 use Rattle.octets.specs.Sentences.{pick, every, any, only, first, neighbours}
 use Rattle.descriptors.specs.declared.limits.Limits.{Limits}

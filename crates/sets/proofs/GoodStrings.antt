@@ -1,13 +1,5 @@
 -- Group 5 as the code asks it: by whether string 0 is there. No axiom.
-use Prim.Native.Nat.{ℕ}
-use native.Mathlib.Omega.{arith}
-use mathlib.Core.Path.{_≡_, refl, sym, ap, _∙_}
-use mathlib.Core.List.{List, [], _∷_, List·Memᴰ, List·Memᴰ·head, List·Memᴰ·tail}
-use mathlib.Core.Bool.{Bool, true, false, _&&_, _||_, not, and-true, and-false, or-true, or-false}
-use mathlib.Core.Option.{Option, some, none}
-use lib.ListN.{drop}
-use lib.Dec.{eqb, leb}
-use borrow.Author.Tests.{eqb-true, eqb-false, lt-leb, le-leb}
+use Rattle.octets.proofs.Vocabulary.{_≡_, refl, sym, ap, _∙_, ℕ, List, [], _∷_, List·Memᴰ, List·Memᴰ·head, List·Memᴰ·tail, Bool, true, false, _&&_, _||_, not, and-true, and-false, or-true, or-false, Option, some, none, drop, eqb, leb, arith, eqb-true, eqb-false, lt-leb, le-leb}
 use Rattle.octets.specs.Sentences.{pick, _⇒_, every, any, isEmpty}
 use Rattle.octets.proofs.Sentences.{cases, member-every, first-some}
 use Rattle.octets.specs.Table.{has}

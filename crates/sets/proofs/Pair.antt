@@ -1,11 +1,5 @@
 -- What the opening of a pair tells: both sets open, each by its row, and they agree both ways. No axiom.
-use Prim.Native.Nat.{ℕ}
-use native.Mathlib.Omega.{arith}
-use mathlib.Core.Path.{_≡_, refl}
-use mathlib.Core.List.{List}
-use mathlib.Core.Bool.{Bool, true, false}
-use lib.Dec.{eqb}
-use borrow.Author.Tests.{eqb-true, eqb-false}
+use Rattle.octets.proofs.Vocabulary.{_≡_, refl, ℕ, List, Bool, true, false, eqb, arith, eqb-true, eqb-false}
 use Rattle.octets.specs.Sentences.{pick}
 use Rattle.octets.proofs.Sentences.{both, cases}
 use Rattle.descriptors.specs.Limits.{pairedFull, highSpeed}

@@ -1,13 +1,5 @@
 -- The laws of the one pass over the strings: entries and languages ascend together. No axiom.
-use Prim.Native.Nat.{ℕ, _+_, _≤_, _<_}
-use native.Mathlib.Omega.{arith}
-use mathlib.Core.Path.{_≡_, refl, sym, ap, _∙_}
-use mathlib.Core.List.{List, [], _∷_, map}
-use mathlib.Core.Bool.{Bool, true, false, _&&_, _||_, not, and-true, and-false, or-true, or-false}
-use mathlib.Core.Logic.{_⊎_, inl, inr}
-use lib.ListN.{length, drop}
-use lib.Dec.{eqb, leb, ltb}
-use borrow.Author.Tests.{eqb-true, leb-true, leb-false, ltb-true, ltb-false, eq-eqb, ne-eqb, le-leb}
+use Rattle.octets.proofs.Vocabulary.{_≡_, refl, sym, ap, _∙_, ℕ, _+_, _≤_, _<_, List, [], _∷_, map, Bool, true, false, _&&_, _||_, not, and-true, and-false, or-true, or-false, _⊎_, inl, inr, length, drop, eqb, leb, ltb, arith, eqb-true, leb-true, leb-false, ltb-true, ltb-false, eq-eqb, ne-eqb, le-leb}
 use Rattle.octets.specs.Octets.{byte, word}
 use Rattle.octets.specs.Sentences.{pick, _⇒_, every, any, only, neighbours, member}
 use Rattle.octets.proofs.Sentences.{cases, never, conjunct, both, either, or-right}

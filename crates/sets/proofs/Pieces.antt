@@ -1,13 +1,5 @@
 -- The pieces of a set by its entries: what the rules ask of the one is what the code reads of the other. No axiom.
-use Prim.Native.Nat.{ℕ}
-use native.Mathlib.Omega.{arith}
-use mathlib.Core.Path.{_≡_, refl, sym, ap, _∙_}
-use mathlib.Core.Bool.{Bool, true, false, _&&_, false≢true}
-use mathlib.Core.List.{List, [], _∷_, map}
-use mathlib.Core.Option.{Option·map, some}
-use lib.ListN.{length, length-map}
-use lib.Dec.{eqb}
-use borrow.Author.Tests.{ne-eqb}
+use Rattle.octets.proofs.Vocabulary.{_≡_, refl, sym, ap, _∙_, ℕ, List, [], _∷_, map, Bool, true, false, _&&_, false≢true, Option·map, some, length, length-map, eqb, arith, ne-eqb}
 use Rattle.octets.specs.Sentences.{pick, only, first, isEmpty}
 use Rattle.octets.proofs.Sentences.{both}
 use Rattle.sets.specs.declared.Entry.{Entry}

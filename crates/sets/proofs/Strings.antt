@@ -1,15 +1,6 @@
 -- The laws of strings: the languages that string 0 lists. No axiom.
-use Prim.Native.Nat.{ℕ, suc, _+_, _-_, _*_, _/_, _≤_, _<_}
+use Rattle.octets.proofs.Vocabulary.{_≡_, refl, sym, ap, _∙_, ℕ, suc, _+_, _-_, _*_, _/_, _≤_, _<_, List, [], _∷_, map, Bool, true, false, _&&_, _||_, and-false, and-assoc, or-true, or-false, or-assoc, Option, some, none, Option·map, length, drop, length-drop, eqb, leb, ltb, drop-cons, arith, leb-true, ltb-true, eqb-true, eqb-false, eq-eqb, ne-eqb, le-leb, lt-leb}
 use native.Mathlib.Numerals.{add-one}
-use native.Mathlib.Omega.{arith}
-use mathlib.Core.Path.{_≡_, refl, sym, ap, _∙_}
-use mathlib.Core.List.{List, [], _∷_, map}
-use mathlib.Core.Bool.{Bool, true, false, _&&_, _||_, and-false, and-assoc, or-true, or-false, or-assoc}
-use mathlib.Core.Option.{Option, some, none, Option·map}
-use lib.ListN.{length, drop, length-drop}
-use lib.Seq.{drop-cons}
-use lib.Dec.{eqb, leb, ltb}
-use borrow.Author.Tests.{leb-true, ltb-true, eqb-true, eqb-false, eq-eqb, ne-eqb, le-leb, lt-leb}
 use Rattle.octets.specs.Octets.{byte, word}
 use Rattle.octets.specs.Sentences.{pick, every, any, only, first, neighbours}
 use Rattle.octets.proofs.Sentences.{cases, both, joined, same-test, first-alike, first-only}

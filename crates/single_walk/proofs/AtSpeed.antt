@@ -1,9 +1,5 @@
 -- Limits that ask of a configuration what those of their speed ask. No axiom.
-use Prim.Native.Nat.{ℕ}
-use mathlib.Core.Path.{_≡_, refl, ap}
-use mathlib.Core.List.{List, [], _∷_}
-use mathlib.Core.Bool.{_&&_}
-use lib.ListN.{length}
+use Rattle.octets.proofs.Vocabulary.{_≡_, refl, ap, ℕ, List, [], _∷_, _&&_, length}
 use Rattle.descriptors.specs.Limits.{fullSpeed, pairedFull}
 use Rattle.descriptors.specs.Cut.{cut, descriptorsOf, wellCut}
 use Rattle.descriptors.specs.Configuration.{goodDescriptors, goodConfiguration}

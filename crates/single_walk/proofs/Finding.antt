@@ -1,13 +1,5 @@
 -- What the walk finds is what a survey sees: one descriptor after another. No axiom.
-use Prim.Native.Nat.{ℕ, _+_, _*_, _/_, _%_, _≤_, _<_}
-use native.Mathlib.Omega.{arith}
-use native.Mathlib.Nat.{lt-of-not-le, add-mul-mod-self-left, mod-eq-of-lt}
-use mathlib.Core.Path.{_≡_, refl, sym, ap, _∙_}
-use mathlib.Core.List.{List}
-use mathlib.Core.Bool.{Bool, true, false, _&&_, _||_, or-false}
-use lib.ListN.{getD}
-use lib.Dec.{eqb, leb}
-use borrow.Author.Tests.{eq-eqb, ne-eqb, le-leb, lt-leb, lt-ltb, eqb-true, eqb-false, leb-true, leb-false}
+use Rattle.octets.proofs.Vocabulary.{_≡_, refl, sym, ap, _∙_, ℕ, _+_, _*_, _/_, _%_, _≤_, _<_, List, Bool, true, false, _&&_, _||_, or-false, getD, eqb, leb, arith, lt-of-not-le, add-mul-mod-self-left, mod-eq-of-lt, eq-eqb, ne-eqb, le-leb, lt-leb, lt-ltb, eqb-true, eqb-false, leb-true, leb-false}
 use Rattle.octets.specs.Bit.{bit, setBit}
 use Rattle.octets.specs.Octets.{byte, word}
 use Rattle.octets.specs.Sentences.{pick}

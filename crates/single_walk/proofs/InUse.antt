@@ -1,10 +1,5 @@
 -- Two sets, one for each speed: of those that open the one in use opens. No axiom.
-use Prim.Native.Nat.{ℕ}
-use mathlib.Core.Path.{_≡_}
-use mathlib.Core.Bool.{Bool, true, false}
-use mathlib.Core.List.{List}
-use mathlib.Core.Option.{some}
-use lib.Dec.{eqb}
+use Rattle.octets.proofs.Vocabulary.{_≡_, ℕ, List, Bool, true, false, some, eqb}
 use Rattle.octets.specs.Octets.{Bytes}
 use Rattle.octets.specs.Sentences.{pick}
 use Rattle.sets.specs.Opening.{lentTwo, opening}

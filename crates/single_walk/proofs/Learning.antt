@@ -1,10 +1,5 @@
 -- What is known of the configurations, entry by entry. No axiom.
-use Prim.Native.Nat.{ℕ}
-use mathlib.Core.Path.{_≡_, refl, sym, ap, _∙_}
-use mathlib.Core.List.{List, [], _∷_, map}
-use mathlib.Core.Bool.{Bool, true, false, _&&_, _||_, not, and-false, or-assoc, or-false}
-use mathlib.Core.Option.{Option, some, none}
-use lib.Dec.{eqb, leb}
+use Rattle.octets.proofs.Vocabulary.{_≡_, refl, sym, ap, _∙_, ℕ, List, [], _∷_, map, Bool, true, false, _&&_, _||_, not, and-false, or-assoc, or-false, Option, some, none, eqb, leb}
 use Rattle.octets.specs.Sentences.{pick, any, first, isSome}
 use Rattle.descriptors.specs.declared.limits.Limits.{Limits}
 use Rattle.descriptors.specs.declared.survey.Asked.{Asked}

@@ -1,12 +1,5 @@
 -- The loop: beside what the check knows at a place, what a survey has seen there, and that what was found says the same. No axiom.
-use Prim.Native.Nat.{ℕ, _+_, _-_, _≤_, _<_}
-use native.Mathlib.Omega.{arith}
-use mathlib.Core.Path.{_≡_, refl, sym, _∙_}
-use mathlib.Core.List.{List, [], _∷_}
-use mathlib.Core.Bool.{Bool, true, false, _&&_, and-true, and-false}
-use lib.ListN.{length, drop}
-use lib.Dec.{eqb, leb, ltb}
-use borrow.Author.Tests.{ne-eqb, le-leb, lt-leb, eqb-true, ltb-true, ltb-false, not-true}
+use Rattle.octets.proofs.Vocabulary.{_≡_, refl, sym, _∙_, ℕ, _+_, _-_, _≤_, _<_, List, [], _∷_, Bool, true, false, _&&_, and-true, and-false, length, drop, eqb, leb, ltb, arith, ne-eqb, le-leb, lt-leb, eqb-true, ltb-true, ltb-false, not-true}
 use Rattle.octets.specs.Octets.{byte, word, Bytes}
 use Rattle.octets.specs.Sentences.{pick}
 use Rattle.octets.specs.Table.{has}

@@ -1,12 +1,6 @@
 -- The limits of a speed, and bits of words that are made of others. No axiom.
-use Prim.Native.Nat.{ℕ, zero, suc, _-_, _^_}
-use native.Mathlib.Omega.{arith}
-use native.Mathlib.Nat.{le-refl, pow-suc}
+use Rattle.octets.proofs.Vocabulary.{_≡_, refl, sym, ap, _∙_, ℕ, zero, suc, _-_, _^_, Bool, true, false, _||_, eqb, ltb, arith, le-refl, pow-suc, lt-ltb, le-ltb, eqb-true, eqb-false, ltb-true, ltb-false}
 use lib.Pow.{pow-pos}
-use mathlib.Core.Path.{_≡_, refl, sym, ap, _∙_}
-use mathlib.Core.Bool.{Bool, true, false, _||_}
-use lib.Dec.{eqb, ltb}
-use borrow.Author.Tests.{lt-ltb, le-ltb, eqb-true, eqb-false, ltb-true, ltb-false}
 use Rattle.octets.specs.Bit.{bit, setBit}
 use Rattle.octets.proofs.Sentences.{cases}
 use Rattle.octets.proofs.Bits.{bit-zero, bit-past}

@@ -1,11 +1,5 @@
 -- The whole body: its first descriptor, the walk behind it, and what both tell. No axiom.
-use Prim.Native.Nat.{ℕ, _<_}
-use native.Mathlib.Omega.{arith}
-use native.Mathlib.Nat.{zero-add}
-use mathlib.Core.Path.{_≡_, refl, sym, ap, _∙_}
-use mathlib.Core.List.{List}
-use mathlib.Core.Bool.{Bool, true, false, _&&_, and-true, and-false}
-use lib.Dec.{ltb}
+use Rattle.octets.proofs.Vocabulary.{_≡_, refl, sym, ap, _∙_, ℕ, _<_, List, Bool, true, false, _&&_, and-true, and-false, ltb, arith, zero-add}
 use Rattle.octets.specs.Bit.{bit}
 use Rattle.octets.specs.Octets.{byte}
 use Rattle.octets.proofs.Sentences.{cases, never}

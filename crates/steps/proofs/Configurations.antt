@@ -1,13 +1,5 @@
 -- The configurations of a set, from what is looked up in it; and what an accepted board tells of the selected one's body. No axiom.
-use Prim.Native.Nat.{ℕ, _%_, _<_}
-use native.Mathlib.Omega.{arith}
-use mathlib.Core.Path.{_≡_, refl, sym, _∙_}
-use mathlib.Core.Bool.{Bool, true, false, _&&_, false≢true}
-use mathlib.Core.List.{List, [], List·Memᴰ}
-use mathlib.Core.Option.{Option, some, none}
-use lib.ListN.{length}
-use lib.Dec.{eqb, ltb}
-use borrow.Author.Tests.{eqb-true, ne-eqb, leb-true, ltb-true, ltb-false}
+use Rattle.octets.proofs.Vocabulary.{_≡_, refl, sym, _∙_, ℕ, _%_, _<_, List, [], List·Memᴰ, Bool, true, false, _&&_, false≢true, Option, some, none, length, eqb, ltb, arith, eqb-true, ne-eqb, leb-true, ltb-true, ltb-false}
 use Rattle.octets.specs.Bit.{bit}
 use Rattle.octets.specs.Sentences.{pick, every, any, first}
 use Rattle.octets.proofs.Sentences.{both, every-map, every-member, any-map, any-member, none-any, first-some}

@@ -1,20 +1,11 @@
 -- The endpoint descriptors of the current settings as parts of the set: an answer by its order of refusals. No axiom.
-use Prim.Native.Nat.{ℕ, zero, suc, _+_, _≤_}
-use native.Mathlib.Omega.{arith}
-use mathlib.Core.Path.{_≡_, refl, sym, ap, _∙_}
-use mathlib.Core.List.{List, [], _∷_, map, List·Memᴰ, List·Memᴰ·not-nil}
-use mathlib.Core.Bool.{Bool, true, false, not}
-use mathlib.Core.Option.{Option, some, none}
-use lib.ListN.{length, take, drop, getElem?, length-take, length-drop}
-use lib.Seq.{take-take, drop-drop}
-use lib.Dec.{eqb, leb}
-use borrow.Author.Tests.{eq-eqb, ne-eqb, eqb-true, leb-true}
+use Rattle.octets.proofs.Vocabulary.{_≡_, refl, sym, ap, _∙_, ℕ, zero, suc, _+_, _≤_, List, [], _∷_, map, List·Memᴰ, List·Memᴰ·not-nil, Bool, true, false, not, Option, some, none, length, take, drop, getElem?, length-take, length-drop, eqb, leb, take-take, drop-drop, arith, eq-eqb, ne-eqb, eqb-true, leb-true}
 use Rattle.octets.specs.Octets.{byte, part}
-use Rattle.octets.specs.Sentences.{pick, _⇒_, any, first, isSome}
+use Rattle.octets.specs.Sentences.{pick, _⇒_, any, isSome}
 use Rattle.octets.proofs.Sentences.{cases, if-then, conjunct, every-map, every-member, only-member, first-some}
 use Rattle.octets.proofs.Counting.{at-member}
 use Rattle.descriptors.specs.declared.limits.Limits.{Limits}
-use Rattle.descriptors.specs.Cut.{cut, descriptorsOf, wellCut}
+use Rattle.descriptors.specs.Cut.{cut, descriptorsOf}
 use Rattle.descriptors.specs.Limits.{named, refusedTypes}
 use Rattle.descriptors.specs.Descriptor.{bDescriptorType, isInterface, isEndpoint, goodEndpoint, goodDescriptor}
 use Rattle.descriptors.specs.declared.survey.Asked.{Asked}
@@ -30,7 +21,7 @@ use Rattle.sets.specs.declared.EntryFound.{EntryFound}
 use Rattle.sets.specs.declared.EntryFound.the-variants.{At, Nothing}
 use Rattle.sets.specs.Contents.{total, count, bodiesAt, bodyOf, isKind, bodies, entries, entriesOf, goodFrame}
 use Rattle.sets.specs.Opening.{Board, opening}
-use Rattle.sets.specs.Found.{found, valued, canWake, isFound}
+use Rattle.sets.specs.Found.{found, canWake, isFound}
 use Rattle.sets.specs.View.{View, viewOf, hasValue, wakes, openingOf, accepted}
 use Rattle.sets.proofs.Groups.{Groups, groups, each-rule, inside}
 use Rattle.sets.proofs.Bodies.{mapped}

@@ -1,15 +1,6 @@
 -- The record of an image: its size after a change, and the reaction at it, of 32 bytes and of any length. No axiom.
-use Prim.Native.Nat.{ℕ}
-use native.Mathlib.Omega.{arith}
-use mathlib.Core.Path.{_≡_, refl, ap, _∙_}
-use mathlib.Core.Bool.{Bool, true, false}
-use mathlib.Core.List.{List}
-use lib.ListN.{length, set, length-set}
-use lib.Dec.{eqb, ltb}
-use borrow.Author.Tests.{eq-eqb}
-use borrow.Author.Needs.{length-unmapped}
-use mir.Val.{Val}
-use denote.Laws.{Is}
+use Rattle.octets.proofs.Vocabulary.{_≡_, refl, ap, _∙_, ℕ, List, Bool, true, false, length, set, length-set, eqb, ltb, arith, length-unmapped, eq-eqb}
+use Rattle.octets.proofs.Walking.{Val, Is}
 use denote.Struct.Laws as LL
 use denote.Enum.Laws as EL
 use Rattle.octets.specs.Sentences.{pick}

@@ -1,11 +1,5 @@
 -- The step by its order of refusals, and what it knows past them. No axiom.
-use Prim.Native.Nat.{ℕ, _<_}
-use native.Mathlib.Omega.{arith}
-use mathlib.Core.Path.{_≡_, refl, ap, subst, _∙_}
-use mathlib.Core.Bool.{true, false}
-use mathlib.Core.List.{List, [], _∷_}
-use lib.Dec.{eqb, leb}
-use borrow.Author.Tests.{eq-eqb, ne-eqb, leb-true}
+use Rattle.octets.proofs.Vocabulary.{_≡_, refl, ap, subst, _∙_, ℕ, _<_, List, [], _∷_, true, false, eqb, leb, arith, eq-eqb, ne-eqb, leb-true}
 use Rattle.octets.specs.Sentences.{_⇒_, isSome}
 use Rattle.octets.proofs.Sentences.{conjunct}
 use Rattle.descriptors.specs.Configuration.{Configuration, configurationOf}

@@ -1,13 +1,5 @@
 -- Writing over what is read: entries that stay, bodies that move down, and zeros. No axiom.
-use Prim.Native.Nat.{ℕ, suc, _+_, _-_, _≤_, _<_}
-use native.Mathlib.Omega.{arith}
-use mathlib.Core.Path.{_≡_, refl, sym, ap, _∙_}
-use mathlib.Core.Bool.{Bool, true, false}
-use mathlib.Core.List.{List, [], _∷_, _++_, map}
-use lib.ListN.{length, take, drop, replicate, length-append, length-drop, length-take, length-replicate}
-use lib.Seq.{sets-eq, paste, drop-paste, drop-drop, length-take-le}
-use lib.Dec.{eqb}
-use borrow.Author.Tests.{eqb-true}
+use Rattle.octets.proofs.Vocabulary.{_≡_, refl, sym, ap, _∙_, ℕ, suc, _+_, _-_, _≤_, _<_, List, [], _∷_, _++_, map, Bool, true, false, length, take, drop, replicate, length-append, length-drop, length-take, length-replicate, eqb, sets-eq, paste, drop-paste, drop-drop, length-take-le, arith, eqb-true}
 use Rattle.octets.specs.Octets.{part}
 use Rattle.octets.specs.Sentences.{only}
 use Rattle.octets.proofs.Sentences.{both, cases}

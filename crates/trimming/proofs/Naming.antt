@@ -1,11 +1,5 @@
 -- What the references name, table by table; and that the table decides as the rule does. No axiom.
-use Prim.Native.Nat.{ℕ, _≤_, _<_}
-use mathlib.Core.Path.{_≡_, refl, sym, ap, _∙_}
-use mathlib.Core.Bool.{Bool, true, false, _&&_, _||_, or-assoc, or-false}
-use mathlib.Core.List.{List, [], _∷_, _++_, map, flatMap, List·Memᴰ}
-use lib.ListN.{length}
-use lib.Dec.{eqb, leb}
-use borrow.Author.Tests.{eqb-true, eqb-false, eq-eqb, ne-eqb}
+use Rattle.octets.proofs.Vocabulary.{_≡_, refl, sym, ap, _∙_, ℕ, _≤_, _<_, List, [], _∷_, _++_, map, flatMap, List·Memᴰ, Bool, true, false, _&&_, _||_, or-assoc, or-false, length, eqb, leb, eqb-true, eqb-false, eq-eqb, ne-eqb}
 use Rattle.octets.specs.Octets.{byte}
 use Rattle.octets.specs.Sentences.{pick, every, any, only, member}
 use Rattle.octets.proofs.Sentences.{cases, both, any-append, any-alike, only-alike}

@@ -1,14 +1,5 @@
 -- The set anew: contents, bodies, zeros and header, one after another, are the set of the pieces that stay. No axiom.
-use Prim.Native.Nat.{ℕ, zero, suc, _+_, _-_, _*_, _/_, _%_, _≤_, _<_}
-use native.Mathlib.Nat.{sub-zero}
-use native.Mathlib.Omega.{arith}
-use mathlib.Core.Path.{_≡_, refl, sym, ap, _∙_}
-use mathlib.Core.Bool.{Bool, true, false}
-use mathlib.Core.List.{List, [], _∷_, _++_, map, append-assoc, append-nil}
-use lib.ListN.{length, take, drop, set, replicate, length-append, length-drop, length-map, length-replicate, drop-of-length-le, take-append-drop}
-use lib.Seq.{sets, sets-eq, length-sets, drop-set-lt, drop-at, take-length, length-take-le, drop-append-le}
-use lib.Dec.{eqb, leb}
-use borrow.Author.Tests.{eqb-true, leb-true}
+use Rattle.octets.proofs.Vocabulary.{_≡_, refl, sym, ap, _∙_, ℕ, zero, suc, _+_, _-_, _*_, _/_, _%_, _≤_, _<_, List, [], _∷_, _++_, map, append-assoc, append-nil, Bool, true, false, length, take, drop, set, replicate, length-append, length-drop, length-map, length-replicate, drop-of-length-le, take-append-drop, eqb, leb, sets, sets-eq, length-sets, drop-set-lt, drop-at, take-length, length-take-le, drop-append-le, arith, sub-zero, eqb-true, leb-true}
 use Rattle.octets.specs.Octets.{byte, part}
 use Rattle.octets.specs.Sentences.{pick, only}
 use Rattle.octets.proofs.Sentences.{cases, conjunct}

@@ -1,10 +1,5 @@
 -- The trimmed set's length, as the buffer's first two bytes say it. No axiom.
-use Prim.Native.Nat.{ℕ, _-_}
-use mathlib.Core.Path.{_≡_, refl}
-use mathlib.Core.Bool.{Bool, true, false}
-use mathlib.Core.List.{List}
-use lib.ListN.{length, replicate}
-use lib.Dec.{eqb}
+use Rattle.octets.proofs.Vocabulary.{_≡_, refl, ℕ, _-_, List, Bool, true, false, length, replicate, eqb}
 use Rattle.octets.specs.Octets.{word}
 use Rattle.octets.specs.Sentences.{pick}
 use Rattle.descriptors.specs.declared.limits.Limits.{Limits}

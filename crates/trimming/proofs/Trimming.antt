@@ -1,13 +1,5 @@
 -- Refused and unchanged, or trimmed: what opening tells that trimming needs. No axiom.
-use Prim.Native.Nat.{ℕ, zero, suc, _+_, _<_}
-use mathlib.Core.Path.{_≡_, sym, ap, _∙_}
-use mathlib.Core.Logic.{⊎-elim}
-use mathlib.Core.Bool.{Bool, true, _||_}
-use mathlib.Core.List.{List, [], _∷_, map, List·Memᴰ, List·Memᴰ·cases-cons, List·Memᴰ·not-nil}
-use lib.ListN.{length, drop}
-use lib.Seq.{getD-drop}
-use lib.Dec.{eqb, leb}
-use borrow.Author.Tests.{eqb-true, ne-eqb}
+use Rattle.octets.proofs.Vocabulary.{_≡_, sym, ap, _∙_, ℕ, zero, suc, _+_, _<_, List, [], _∷_, map, List·Memᴰ, List·Memᴰ·cases-cons, List·Memᴰ·not-nil, Bool, true, _||_, ⊎-elim, length, drop, eqb, leb, getD-drop, eqb-true, ne-eqb}
 use Rattle.octets.specs.Octets.{byte, Bytes}
 use Rattle.octets.specs.Sentences.{every, neighbours, only, any}
 use Rattle.octets.proofs.Sentences.{both, conjunct, every-member, member-every}

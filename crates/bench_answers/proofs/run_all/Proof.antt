@@ -1,7 +1,5 @@
 -- `bench_answers::run_all` is safe and ends: a record less is left at each turn. No axiom.
-use lib.ListN.{length}
-use mathlib.Core.Path.{_≡_}
-use borrow.Author.Needs.{needs}
+use Rattle.octets.proofs.Vocabulary.{_≡_, length, needs}
 use Rattle.bench_answers.proofs.run_all.Statement.{statement}
 use Rattle.bench_answers.proofs.run_all.Tie as tie
 
@@ -12,7 +10,5 @@ abbrev μ-loop : tie.MeasureT-loop
 μ-loop question₀ left₀ question left = left
 
 pub run-all-spec : {M : Type 1} → statement M
-run-all-spec =
-    tie.close
-    (tie.spec Inv-loop μ-loop (λ c. search needs) (λ c κs. search needs) (λ c. search needs) (λ c. search needs) (λ c κs. search needs) (λ c. search needs)
-    (λ c. search needs) (λ c. search needs) (λ c. search needs) (λ c. search needs))
+run-all-spec = tie.close (tie.spec Inv-loop μ-loop (λ c. search needs) (λ c κs. search needs) (λ c. search needs) (λ c. search needs) (λ c κs. search needs)
+    (λ c. search needs) (λ c. search needs) (λ c. search needs) (λ c. search needs) (λ c. search needs))

@@ -1,5 +1,5 @@
 -- `board::hk_bus_reset_to` meets its contract: it is told. No axiom.
-use borrow.Author.Needs.{needs}
+use Rattle.octets.proofs.Vocabulary.{needs}
 use Rattle.board.proofs.hk_bus_reset_to.Statement.{statement}
 use Rattle.board.proofs.hk_bus_reset_to.Tie as tie
 

@@ -1,10 +1,7 @@
 -- `board::hk_open` meets its contract: an image of another length, and the rest. No axiom.
-use native.Mathlib.Omega.{arith}
-use mathlib.Core.Path.{_∙_}
-use borrow.Author.Tests.{eq-eqb}
+use Rattle.octets.proofs.Vocabulary.{_∙_, arith, needs, eq-eqb}
 use Rattle.records.specs.Change.{renewed}
 use Rattle.board.proofs.Lengths.{open-short, open-whole}
-use borrow.Author.Needs.{needs}
 use Rattle.board.proofs.hk_open.Statement.{statement}
 use Rattle.board.proofs.hk_open.Tie as tie
 

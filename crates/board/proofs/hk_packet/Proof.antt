@@ -1,7 +1,6 @@
 -- `board::hk_packet` meets its contract: the cutter's number and part. No axiom.
-use mathlib.Core.Path.{ap}
+use Rattle.octets.proofs.Vocabulary.{ap, needs}
 use Rattle.packets.specs.declared.Packet.{Packet}
-use borrow.Author.Needs.{needs}
 use Rattle.board.proofs.hk_packet.Statement.{statement}
 use Rattle.board.proofs.hk_packet.Tie as tie
 

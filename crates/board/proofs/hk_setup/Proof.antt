@@ -1,11 +1,10 @@
 -- `board::hk_setup` meets its contract: the event's answer, handed out. No axiom.
-use mathlib.Core.Path.{_≡_, ap, _∙_}
+use Rattle.octets.proofs.Vocabulary.{_≡_, ap, _∙_, needs}
 use Rattle.records.specs.Image.{deviceOf}
 use Rattle.events.specs.declared.Event.{Event}
 use Rattle.events.specs.Step.{event, setupEvent}
 use Rattle.promises.specs.Refusals.{eventInside}
 use Rattle.sets.specs.Opening.{lent}
-use borrow.Author.Needs.{needs}
 use Rattle.board.proofs.hk_setup.Statement.{statement}
 use Rattle.board.proofs.hk_setup.Tie as tie
 
@@ -29,12 +28,4 @@ returns c =
     }
 
 pub hk-setup-spec : {M : Type 1} → statement M
-hk-setup-spec =
-    tie.close
-    (tie.spec
-    (λ c κs. search needs)
-    (λ c κs. search needs)
-    (λ c κs. search needs)
-    hand-out-requires
-    (λ c. search needs)
-    returns)
+hk-setup-spec = tie.close (tie.spec (λ c κs. search needs) (λ c κs. search needs) (λ c κs. search needs) hand-out-requires (λ c. search needs) returns)

@@ -1,5 +1,5 @@
 -- `board::hk_wake` meets its contract: it is told. No axiom.
-use borrow.Author.Needs.{needs}
+use Rattle.octets.proofs.Vocabulary.{needs}
 use Rattle.board.proofs.hk_wake.Statement.{statement}
 use Rattle.board.proofs.hk_wake.Tie as tie
 

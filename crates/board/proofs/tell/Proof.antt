@@ -1,7 +1,6 @@
 -- `board::tell` meets its contract: the event's number, and the image that it leaves. No axiom.
-use mathlib.Core.Path.{ap, _∙_}
+use Rattle.octets.proofs.Vocabulary.{ap, _∙_, needs}
 use Rattle.events.specs.Answer.{numberOf}
-use borrow.Author.Needs.{needs}
 use Rattle.board.proofs.tell.Statement.{statement}
 use Rattle.board.proofs.tell.Tie as tie
 
@@ -11,5 +10,4 @@ returns c =
     record { number = c .number .ensures ∙ ap numberOf (e .0); leaves = e .1 }
 
 pub tell-spec : {M : Type 1} → statement M
-tell-spec =
-    tie.close (tie.spec (λ c κs. search needs) (λ c κs. search needs) (λ c κs. search needs) (λ c. search needs) returns)
+tell-spec = tie.close (tie.spec (λ c κs. search needs) (λ c κs. search needs) (λ c κs. search needs) (λ c. search needs) returns)

@@ -33,7 +33,5 @@ returns : tie.Need-returns Inv-loop μ-loop
 returns c = done (c .before .loop .inv .1) (drop-of-length-le (c .before .before .before .before .args .text .now) (c .loop-test .left))
 
 pub put-bytes-spec : {M : Type 1} → statement M
-put-bytes-spec =
-    tie.close
-    (tie.spec Inv-loop μ-loop loop-holds (λ c. search needs) put-requires (λ c. search needs) (λ c. search needs) loop-again
+put-bytes-spec = tie.close (tie.spec Inv-loop μ-loop loop-holds (λ c. search needs) put-requires (λ c. search needs) (λ c. search needs) loop-again
     (λ c. same (c .before .loop .inv .1)) returns)

@@ -15,6 +15,5 @@ returns-2 : tie.Need-returns-2
 returns-2 c = let a = c .before .before .args in let h : length (a .bytes .now) ≤ a .at = omega arith in sym (drop-of-length-le (a .bytes .now) h)
 
 pub tail-spec : {M : Type 1} → statement M
-tail-spec =
-    tie.close
-    (tie.spec (λ c. search needs) (λ c. search needs) (λ c. search needs) returns (λ c. search needs) (λ c. search needs) (λ c. search needs) returns-2)
+tail-spec = tie.close (tie.spec (λ c. search needs) (λ c. search needs) (λ c. search needs) returns (λ c. search needs) (λ c. search needs) (λ c. search needs)
+    returns-2)

@@ -1,14 +1,9 @@
 -- `dumps::put_configuration` meets its contract: written, and the places that the walk has still to collect have still to be blanked. No axiom.
-use Prim.Native.Nat.{ℕ, _+_, _-_, _≤_}
-use native.Mathlib.Omega.{arith}
-use mathlib.Core.Path.{_≡_, refl, ap}
-use mathlib.Core.List.{List}
-use lib.ListN.{length}
+use Rattle.octets.proofs.Vocabulary.{_≡_, refl, ap, ℕ, _+_, _-_, _≤_, List, length, arith, needs}
 use Rattle.descriptors.specs.Walk.{Pace, before, standIn, collected}
 use Rattle.descriptors.proofs.Walks.{moved, collect-end, collect-stuck}
 use Rattle.dumps.proofs.Naming.{nameAt, names-same}
 use Rattle.dumps.proofs.Blanking.{Blanking, one, none-past, names-on, finished}
-use borrow.Author.Needs.{needs}
 use Rattle.dumps.proofs.put_configuration.Statement.{statement}
 use Rattle.dumps.proofs.put_configuration.Tie as tie
 
@@ -57,8 +52,6 @@ returns-2 c =
     finished _ _ (names-same body) (c .before .before .before .before .before .before .before .before .put-bytes .ensures) (c .before .before .before .before .blank .ensures) (l .inv .1) (collect-end nameAt body (standIn (l .last)) (l .at) (c .loop-test .left))
 
 pub put-configuration-spec : {M : Type 1} → statement M
-put-configuration-spec =
-    tie.close
-    (tie.spec Inv-loop μ-loop (λ c κs. search needs) (λ c κs. search needs) (λ c. (refl, λ start goal b. b)) (λ c κs. search needs) (λ c. search needs) returns
-    (λ c. search needs) (λ c. search needs) (λ c. inside c) (λ c κs. search needs) (λ c. search needs) (λ c κs. search needs) loop-less loop-again
-    (λ c. search needs) returns-2)
+put-configuration-spec = tie.close (tie.spec Inv-loop μ-loop (λ c κs. search needs) (λ c κs. search needs) (λ c. (refl, λ start goal b. b))
+    (λ c κs. search needs) (λ c. search needs) returns (λ c. search needs) (λ c. search needs) (λ c. inside c) (λ c κs. search needs) (λ c. search needs)
+    (λ c κs. search needs) loop-less loop-again (λ c. search needs) returns-2)

@@ -1,15 +1,10 @@
 -- `dumps::put_configurations` meets its contract: the pieces of the bodies that are left. No axiom.
-use Prim.Native.Nat.{_+_, _-_, _≤_, _<_}
-use native.Mathlib.Omega.{arith}
-use mathlib.Core.Path.{_≡_, refl, sym, ap, _∙_}
-use mathlib.Core.Bool.{true}
-use lib.ListN.{length, take, drop}
+use Rattle.octets.proofs.Vocabulary.{_≡_, refl, sym, ap, _∙_, _+_, _-_, _≤_, _<_, true, length, take, drop, arith, needs}
 use Rattle.buffers.proofs.Written.{Going, begun, room-for, next, done, same}
 use Rattle.dumps.specs.Dump.{configurationsIn, zeroedConfiguration}
 use Rattle.dumps.specs.Import.{headed}
 use Rattle.dumps.proofs.Splitting.{splitting, bodies, dump-bodies, dump-least, dump-fits, dump-splits}
 use Rattle.dumps.proofs.Streaming.{streamed, zeroed-length, stream-here, stream-over, whole-splits}
-use borrow.Author.Needs.{needs}
 use Rattle.dumps.proofs.put_configurations.Statement.{statement}
 use Rattle.dumps.proofs.put_configurations.Tie as tie
 
@@ -97,7 +92,5 @@ returns c =
     done (s .inv .3) (stream-over (c .before .before .before .before .args .dump .now) (s .from) (c .loop-test .left) (s .index))
 
 pub put-configurations-spec : {M : Type 1} → statement M
-put-configurations-spec =
-    tie.close
-    (tie.spec Inv-loop μ-loop loop-holds (λ c κs. search needs) put-head-requires (λ c κs. search needs) (λ c κs. search needs) put-configuration-requires
-    add-from add-index loop-less loop-again (λ c. same (c .before .loop .inv .3)) returns)
+put-configurations-spec = tie.close (tie.spec Inv-loop μ-loop loop-holds (λ c κs. search needs) put-head-requires (λ c κs. search needs) (λ c κs. search needs)
+    put-configuration-requires add-from add-index loop-less loop-again (λ c. same (c .before .loop .inv .3)) returns)

@@ -1,8 +1,6 @@
 -- `dumps::put_device` meets its contract: written, and three places blanked. No axiom.
-use mathlib.Core.Bool.{true}
-use mathlib.Core.List.{[], _∷_}
+use Rattle.octets.proofs.Vocabulary.{[], _∷_, true, needs}
 use Rattle.dumps.proofs.Blanking.{begun, one, over}
-use borrow.Author.Needs.{needs}
 use Rattle.dumps.proofs.put_device.Statement.{statement}
 use Rattle.dumps.proofs.put_device.Tie as tie
 

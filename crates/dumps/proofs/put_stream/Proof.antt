@@ -1,13 +1,10 @@
 -- `dumps::put_stream` meets its contract: head, device, configurations. No axiom.
-use native.Mathlib.Omega.{arith}
-use mathlib.Core.Path.{refl}
-use mathlib.Core.List.{[], _∷_}
+use Rattle.octets.proofs.Vocabulary.{refl, [], _∷_, arith, needs}
 use Rattle.buffers.proofs.Written.{begun, room-for, next}
 use Rattle.dumps.specs.Dump.{deviceIn, zeroedDevice}
 use Rattle.dumps.specs.Import.{headed}
 use Rattle.dumps.proofs.Blanking.{blanked-length}
 use Rattle.dumps.proofs.Streaming.{stream-parts}
-use borrow.Author.Needs.{needs}
 use Rattle.dumps.proofs.put_stream.Statement.{statement}
 use Rattle.dumps.proofs.put_stream.Tie as tie
 

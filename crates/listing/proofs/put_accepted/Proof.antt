@@ -1,13 +1,9 @@
 -- `listing::put_accepted` meets its contract: the first line, and those of the configurations. No axiom.
-use mathlib.Core.Path.{_≡_, refl, sym, _∙_}
-use mathlib.Core.List.{List, [], _∷_, flatMap}
-use Prim.Native.Nat.{ℕ}
-use lib.ListN.{length, length-map}
+use Rattle.octets.proofs.Vocabulary.{_≡_, refl, sym, _∙_, ℕ, List, [], _∷_, flatMap, length, length-map, needs}
 use Rattle.sets.specs.Contents.{bodyOf, bodies, entriesOf}
 use Rattle.listing.specs.Listing.{line, acceptedWord, configurationLines}
 use Rattle.buffers.specs.Written.{Wrote}
 use Rattle.buffers.proofs.Written.{begun, room-for, next, wrote-both}
-use borrow.Author.Needs.{needs}
 use Rattle.listing.proofs.put_accepted.Statement.{statement}
 use Rattle.listing.proofs.put_accepted.Tie as tie
 
@@ -34,7 +30,5 @@ returns : tie.Need-returns
 returns c = wrote-both (headed (c .before .before .before .before .before .before)) (c .before .before .put-configurations .ensures)
 
 pub put-accepted-spec : {M : Type 1} → statement M
-put-accepted-spec =
-    tie.close
-    (tie.spec (λ c κs. search needs) (λ c. search needs) (λ c. search needs) (λ c. search needs) put-line-requires put-configurations-requires
-    (λ c. search needs) returns)
+put-accepted-spec = tie.close (tie.spec (λ c κs. search needs) (λ c. search needs) (λ c. search needs) (λ c. search needs) put-line-requires
+    put-configurations-requires (λ c. search needs) returns)

@@ -4,7 +4,7 @@ use Rattle.listing.specs.Written.{descriptorLines}
 use Rattle.buffers.proofs.Written.{begun, room-for, next, wrote-both}
 use Rattle.descriptors.proofs.GoodBody.{good-cut}
 use Rattle.listing.proofs.Lines.{headLine, configuration-lines}
-use borrow.Author.Needs.{needs}
+use Rattle.octets.proofs.Vocabulary.{needs}
 use Rattle.listing.proofs.put_configuration.Statement.{statement}
 use Rattle.listing.proofs.put_configuration.Tie as tie
 
@@ -29,7 +29,5 @@ returns : tie.Need-returns
 returns c = let s = c .before .before .before .before .before .before .before .before .before .before .before .before .before .before in rw (configuration-lines (s .pre .0 .0) (s .args .body .now) (s .pre .0 .1)) (wrote-both (headed (c .before .before .before .before .before .before)) (c .before .before .put-descriptors .ensures))
 
 pub put-configuration-spec : {M : Type 1} → statement M
-put-configuration-spec =
-    tie.close
-    (tie.spec (λ c κs. search needs) (λ c. search needs) (λ c κs. search needs) (λ c. search needs) (λ c. search needs) (λ c. search needs) put-line-requires
-    put-descriptors-requires (λ c. search needs) returns)
+put-configuration-spec = tie.close (tie.spec (λ c κs. search needs) (λ c. search needs) (λ c κs. search needs) (λ c. search needs) (λ c. search needs)
+    (λ c. search needs) put-line-requires put-descriptors-requires (λ c. search needs) returns)

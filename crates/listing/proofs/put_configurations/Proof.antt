@@ -1,9 +1,5 @@
 -- `listing::put_configurations` meets its contract: the lines of the configurations that are left. No axiom.
-use Prim.Native.Nat.{_-_}
-use mathlib.Core.Path.{_≡_, ap, _∙_}
-use mathlib.Core.Bool.{true}
-use mathlib.Core.List.{flatMap, map}
-use borrow.Author.Needs.{needs}
+use Rattle.octets.proofs.Vocabulary.{_≡_, ap, _∙_, _-_, flatMap, map, true, needs}
 use Rattle.octets.specs.Sentences.{every}
 use Rattle.descriptors.specs.declared.limits.Limits.{Limits}
 use Rattle.descriptors.specs.Configuration.{goodConfiguration}
@@ -59,7 +55,6 @@ returns c =
     done (c .before .loop .inv .1) (ap (λ es. flatMap configurationLines (map (bodyOf set) es)) (kind-end 2 set _ (c .before .before .peek .ensures) _ (c .loop-test .left)) ∙ flat-none configurationLines)
 
 pub put-configurations-spec : {M : Type 1} → statement M
-put-configurations-spec =
-    tie.close
-    (tie.spec Inv-loop μ-loop (λ c κs. search needs) loop-holds (λ c κs. search needs) (λ c. search needs) (λ c κs. search needs) put-configuration-requires
-    (λ c. search needs) loop-again (λ c. search needs) loop-again-2 (λ c. same (c .before .loop .inv .1)) returns)
+put-configurations-spec = tie.close (tie.spec Inv-loop μ-loop (λ c κs. search needs) loop-holds (λ c κs. search needs) (λ c. search needs)
+    (λ c κs. search needs) put-configuration-requires (λ c. search needs) loop-again (λ c. search needs) loop-again-2 (λ c. same (c .before .loop .inv .1))
+    returns)

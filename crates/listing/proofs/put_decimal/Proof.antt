@@ -1,8 +1,5 @@
 -- `listing::put_decimal` meets its contract: digit by digit. No axiom.
-use native.Mathlib.Omega.{arith}
-use mathlib.Core.Path.{refl}
-use mathlib.Core.List.{[]}
-use borrow.Author.Needs.{needs}
+use Rattle.octets.proofs.Vocabulary.{refl, [], arith, needs}
 use Rattle.listing.specs.Listing.{decimal}
 use Rattle.listing.specs.Written.{lead}
 use Rattle.buffers.proofs.Written.{Going, begun, room-for, next, done}
@@ -45,7 +42,5 @@ returns : tie.Need-returns
 returns c = let x = c .before .before .before .before .before .before .before .before .before .before .before .before .before .before .before .before .before .before .before .before .before .args .x in done (next (after-4 (c .before .before .before .before .before .before)) (last x) [] refl (c .before .before .put .ensures)) refl
 
 pub put-decimal-spec : {M : Type 1} → statement M
-put-decimal-spec =
-    tie.close
-    (tie.spec put-lead-requires put-lead-requires-2 put-lead-requires-3 put-lead-requires-4 (λ c. search needs) (λ c. search needs) put-requires
-    (λ c. search needs) returns)
+put-decimal-spec = tie.close (tie.spec put-lead-requires put-lead-requires-2 put-lead-requires-3 put-lead-requires-4 (λ c. search needs) (λ c. search needs)
+    put-requires (λ c. search needs) returns)

@@ -1,8 +1,6 @@
 -- `listing::put_descriptor` meets its contract, by the descriptor's type. No axiom.
-use mathlib.Core.Path.{sym, _∙_}
-use borrow.Author.Tests.{eq-eqb, ne-eqb}
+use Rattle.octets.proofs.Vocabulary.{sym, _∙_, needs, eq-eqb, ne-eqb}
 use Rattle.buffers.proofs.Written.{wrote-nothing}
-use borrow.Author.Needs.{needs}
 use Rattle.listing.proofs.put_descriptor.Statement.{statement}
 use Rattle.listing.proofs.put_descriptor.Tie as tie
 

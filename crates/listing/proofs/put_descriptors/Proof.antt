@@ -1,10 +1,5 @@
 -- `listing::put_descriptors` meets its contract: the lines of the descriptors ahead are left. No axiom.
-use native.Mathlib.Omega.{arith}
-use Prim.Native.Nat.{ℕ, _-_}
-use mathlib.Core.Path.{_≡_, ap, _∙_}
-use mathlib.Core.List.{List, _++_}
-use lib.ListN.{length}
-use borrow.Author.Needs.{needs}
+use Rattle.octets.proofs.Vocabulary.{_≡_, ap, _∙_, ℕ, _-_, List, _++_, length, arith, needs}
 use Rattle.descriptors.specs.Walk.{standIn, paceOf, collected}
 use Rattle.descriptors.proofs.Walks.{spanned, collect-end, collect-on}
 use Rattle.descriptors.proofs.Ahead.{Place, Turn, at-first, steps, turn}

@@ -1,10 +1,5 @@
 -- `listing::put_fields` meets its contract: the fields that are left are written. No axiom.
-use native.Mathlib.Omega.{arith}
-use Prim.Native.Nat.{_+_, _-_, _≤_}
-use mathlib.Core.Path.{refl}
-use mathlib.Core.List.{[], _∷_, _++_}
-use lib.ListN.{length, drop, getD}
-use borrow.Author.Needs.{needs}
+use Rattle.octets.proofs.Vocabulary.{refl, _+_, _-_, _≤_, [], _∷_, _++_, length, drop, getD, arith, needs}
 use Rattle.listing.specs.Listing.{decimal, fields}
 use Rattle.buffers.proofs.Written.{Going, begun, room-for, next, done, same}
 use Rattle.listing.proofs.Lines.{next-field, no-field}
@@ -51,7 +46,5 @@ ended : (c : tie.After-put2 Inv-loop μ-loop) → Going (c .before .before .befo
 ended c = let s = c .before .before .before in next (s .loop .inv .1) (10 ∷ []) [] (no-field (s .before .before .before .args .numbers .now) (s .loop .i) (c .before .before .loop-test .left)) (c .put2 .ensures)
 
 pub put-fields-spec : {M : Type 1} → statement M
-put-fields-spec =
-    tie.close
-    (tie.spec Inv-loop μ-loop loop-holds put-requires (λ c. search needs) (λ c. search needs) put-decimal-requires (λ c. search needs) (λ c. search needs)
-    loop-again put-requires-2 (λ c. same (ended (c .before .before))) (λ c. done (ended (c .before .before)) refl))
+put-fields-spec = tie.close (tie.spec Inv-loop μ-loop loop-holds put-requires (λ c. search needs) (λ c. search needs) put-decimal-requires (λ c. search needs)
+    (λ c. search needs) loop-again put-requires-2 (λ c. same (ended (c .before .before))) (λ c. done (ended (c .before .before)) refl))

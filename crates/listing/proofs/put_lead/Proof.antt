@@ -1,6 +1,5 @@
 -- `listing::put_lead` meets its contract. No axiom.
-use borrow.Author.Tests.{le-leb, lt-leb}
-use borrow.Author.Needs.{needs}
+use Rattle.octets.proofs.Vocabulary.{needs, le-leb, lt-leb}
 use Rattle.buffers.proofs.Written.{wrote-nothing}
 use Rattle.listing.proofs.put_lead.Statement.{statement}
 use Rattle.listing.proofs.put_lead.Tie as tie

@@ -1,8 +1,7 @@
 -- `listing::put_line` meets its contract. No axiom.
-use mathlib.Core.Path.{refl}
+use Rattle.octets.proofs.Vocabulary.{refl, needs}
 use Rattle.listing.specs.Listing.{fields}
 use Rattle.buffers.proofs.Written.{begun, room-for, next, wrote-both}
-use borrow.Author.Needs.{needs}
 use Rattle.listing.proofs.put_line.Statement.{statement}
 use Rattle.listing.proofs.put_line.Tie as tie
 

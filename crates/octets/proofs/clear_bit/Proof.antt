@@ -1,5 +1,5 @@
 -- `octets::clear_bit` meets its contract. No axiom.
-use borrow.Author.Needs.{needs}
+use Rattle.octets.proofs.Vocabulary.{needs}
 use Rattle.octets.proofs.Bits.{shifted-one, and-clears}
 use Rattle.octets.proofs.clear_bit.Statement.{statement}
 use Rattle.octets.proofs.clear_bit.Tie as tie

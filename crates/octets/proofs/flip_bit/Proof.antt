@@ -1,5 +1,5 @@
 -- `octets::flip_bit` meets its contract. No axiom.
-use borrow.Author.Needs.{needs}
+use Rattle.octets.proofs.Vocabulary.{needs}
 use Rattle.octets.proofs.Bits.{shifted-one, xor-flips}
 use Rattle.octets.proofs.flip_bit.Statement.{statement}
 use Rattle.octets.proofs.flip_bit.Tie as tie

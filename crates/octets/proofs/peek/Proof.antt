@@ -1,7 +1,5 @@
 -- `octets::peek` meets its contract. No axiom.
-use mathlib.Core.Path.{sym}
-use lib.ListN.{List·getD-eq-default}
-use borrow.Author.Needs.{needs}
+use Rattle.octets.proofs.Vocabulary.{sym, List·getD-eq-default, needs}
 use Rattle.octets.proofs.peek.Statement.{statement}
 use Rattle.octets.proofs.peek.Tie as tie
 

@@ -1,5 +1,5 @@
 -- `octets::set_bit` meets its contract. No axiom.
-use borrow.Author.Needs.{needs}
+use Rattle.octets.proofs.Vocabulary.{needs}
 use Rattle.octets.proofs.Bits.{shifted-one, or-sets}
 use Rattle.octets.proofs.set_bit.Statement.{statement}
 use Rattle.octets.proofs.set_bit.Tie as tie

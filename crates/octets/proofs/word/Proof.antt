@@ -1,8 +1,5 @@
 -- `octets::word` meets its contract: past the end both bytes are 0. No axiom.
-use Prim.Native.Nat.{_≤_, _+_}
-use native.Mathlib.Omega.{arith}
-use lib.ListN.{length, List·getD-eq-default}
-use borrow.Author.Needs.{needs}
+use Rattle.octets.proofs.Vocabulary.{_≤_, _+_, length, List·getD-eq-default, arith, needs}
 use Rattle.octets.proofs.word.Statement.{statement}
 use Rattle.octets.proofs.word.Tie as tie
 
@@ -14,15 +11,5 @@ returns-2 c =
     rw (List·getD-eq-default bytes 0 (c .if1 .left), List·getD-eq-default bytes 0 h)
 
 pub word-spec : {M : Type 1} → statement M
-word-spec =
-    tie.close
-    (tie.spec
-    (λ c κs. search needs)
-    (λ c. search needs)
-    (λ c. search needs)
-    (λ c κs. search needs)
-    (λ c. search needs)
-    (λ c. search needs)
-    (λ c. search needs)
-    (λ c. search needs)
-    returns-2)
+word-spec = tie.close (tie.spec (λ c κs. search needs) (λ c. search needs) (λ c. search needs) (λ c κs. search needs) (λ c. search needs) (λ c. search needs)
+    (λ c. search needs) (λ c. search needs) returns-2)

@@ -1,9 +1,6 @@
 -- `packets::cut` meets its contract. No axiom.
-use lib.ListN.{length}
-use native.Mathlib.Omega.{arith}
-use native.Mathlib.Nat.{add-comm, add-sub-cancel-left}
+use Rattle.octets.proofs.Vocabulary.{length, arith, add-comm, add-sub-cancel-left, needs}
 use Rattle.packets.proofs.Sizes.{inside}
-use borrow.Author.Needs.{needs}
 use Rattle.packets.proofs.cut.Statement.{statement}
 use Rattle.packets.proofs.cut.Tie as tie
 

@@ -1,9 +1,6 @@
 -- `packets::packet_count` meets its contract. No axiom.
-use native.Mathlib.Nat.{div-le-self}
-use native.Mathlib.Omega.{arith}
-use borrow.Author.Tests.{eq-eqb, ne-eqb}
+use Rattle.octets.proofs.Vocabulary.{arith, div-le-self, needs, eq-eqb, ne-eqb}
 use Rattle.packets.proofs.Sizes.{bounded, not-longer}
-use borrow.Author.Needs.{needs}
 use Rattle.packets.proofs.packet_count.Statement.{statement}
 use Rattle.packets.proofs.packet_count.Tie as tie
 

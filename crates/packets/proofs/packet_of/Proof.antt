@@ -1,12 +1,7 @@
 -- `packets::packet_of` meets its contract. No axiom.
-use native.Mathlib.Omega.{arith}
-use mathlib.Core.Path.{sym, _∙_}
-use Prim.Native.Nat.{_<_}
-use mathlib.Core.Bool.{and-false}
-use borrow.Author.Tests.{le-ltb}
+use Rattle.octets.proofs.Vocabulary.{sym, _∙_, _<_, and-false, arith, needs, le-ltb}
 use Rattle.packets.specs.Packets.{canCut, packetCount}
 use Rattle.packets.proofs.Sizes.{not-longer, begins, is-packet, is-refused}
-use borrow.Author.Needs.{needs}
 use Rattle.packets.proofs.packet_of.Statement.{statement}
 use Rattle.packets.proofs.packet_of.Tie as tie
 

@@ -1,8 +1,5 @@
 -- `pair_rules::explain_two` meets its contract: one list of rules after the other. No axiom.
-use Prim.Native.Nat.{ℕ}
-use mathlib.Core.Path.{_≡_, refl, _∙_}
-use mathlib.Core.List.{List, _++_, map}
-use mathlib.Core.Bool.{true}
+use Rattle.octets.proofs.Vocabulary.{_≡_, refl, _∙_, ℕ, List, _++_, map, true, needs}
 use Rattle.octets.specs.Sentences.{every, first}
 use Rattle.descriptors.specs.declared.limits.Limits.{Limits}
 use Rattle.descriptors.specs.Limits.{pairedFull, highSpeed}
@@ -14,7 +11,6 @@ use Rattle.pair_rules.specs.Pair.{pairFindings}
 use Rattle.pair_rules.specs.Explained.{Placed, ofSet, isBrokenThere, findingsTwo}
 use Rattle.pair_rules.proofs.Grouped.{pair-numbered}
 use Rattle.pair_rules.proofs.First.{all-lists, at-list, past-list, at-end, past-end}
-use borrow.Author.Needs.{needs}
 use Rattle.pair_rules.proofs.explain_two.Statement.{statement}
 use Rattle.pair_rules.proofs.explain_two.Tie as tie
 
@@ -75,22 +71,6 @@ returns-5 c =
     rw (c .before .before .before .before .before .before .before .before .before .before .before .before .before .before .opening-two .ensures) (past-end (a .full .now) (a .high .now) (a .serial .now) 1 (pairFindings (a .high .now) (a .full .now)) (c .before .before .pair-fault2 .ensures) (fourth (c .before .before .before)) (pair-numbered (a .high .now) (a .full .now)) (c .if4 .left))
 
 pub explain-two-spec : {M : Type 1} → statement M
-explain-two-spec =
-    tie.close
-    (tie.spec
-    (λ c κs. search needs)
-    (λ c κs. search needs)
-    (λ c κs. search needs)
-    (λ c κs. search needs)
-    returns
-    (λ c κs. search needs)
-    (λ c κs. search needs)
-    (λ c κs. search needs)
-    returns-2
-    (λ c κs. search needs)
-    (λ c κs. search needs)
-    returns-3
-    (λ c κs. search needs)
-    (λ c κs. search needs)
-    returns-4
-    returns-5)
+explain-two-spec = tie.close (tie.spec (λ c κs. search needs) (λ c κs. search needs) (λ c κs. search needs) (λ c κs. search needs) returns
+    (λ c κs. search needs) (λ c κs. search needs) (λ c κs. search needs) returns-2 (λ c κs. search needs) (λ c κs. search needs) returns-3
+    (λ c κs. search needs) (λ c κs. search needs) returns-4 returns-5)

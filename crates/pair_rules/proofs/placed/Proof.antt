@@ -1,6 +1,5 @@
 -- `pair_rules::placed` meets its contract. No axiom.
-use borrow.Author.Tests.{eq-eqb, ne-eqb}
-use borrow.Author.Needs.{needs}
+use Rattle.octets.proofs.Vocabulary.{needs, eq-eqb, ne-eqb}
 use Rattle.pair_rules.proofs.placed.Statement.{statement}
 use Rattle.pair_rules.proofs.placed.Tie as tie
 

@@ -1,10 +1,7 @@
 -- `records::four_bytes` meets its contract: two numbers of two bytes. No axiom.
-use Prim.Native.Nat.{ℕ, _+_}
-use native.Mathlib.Omega.{arith}
-use mathlib.Core.Path.{_≡_, ap}
+use Rattle.octets.proofs.Vocabulary.{_≡_, ap, ℕ, _+_, arith, needs}
 use Rattle.octets.specs.Octets.{byte}
 use Rattle.records.specs.Image.{fourBytes}
-use borrow.Author.Needs.{needs}
 use Rattle.records.proofs.four_bytes.Statement.{statement}
 use Rattle.records.proofs.four_bytes.Tie as tie
 
@@ -16,14 +13,5 @@ returns c =
     omega (arith, c .before .word .ensures, c .word2 .ensures, ap (λ (i : ℕ). byte (a .bytes .now) i) e)
 
 pub four-bytes-spec : {M : Type 1} → statement M
-four-bytes-spec =
-    tie.close
-    (tie.spec
-    (λ c κs. search needs)
-    (λ c. search needs)
-    (λ c. search needs)
-    (λ c κs. search needs)
-    (λ c. search needs)
-    (λ c. search needs)
-    (λ c. search needs)
-    returns)
+four-bytes-spec = tie.close (tie.spec (λ c κs. search needs) (λ c. search needs) (λ c. search needs) (λ c κs. search needs) (λ c. search needs)
+    (λ c. search needs) (λ c. search needs) returns)

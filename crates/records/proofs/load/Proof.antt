@@ -1,10 +1,9 @@
 -- `records::load` meets its contract. No axiom.
-use mathlib.Core.Path.{_∙_}
+use Rattle.octets.proofs.Vocabulary.{_∙_, needs}
 use Rattle.octets.specs.Octets.{part}
 use Rattle.records.specs.Device.{zeros}
 use Rattle.records.specs.Image.{deviceOf}
 use Rattle.records.proofs.Image.{copied, alternates-length, same-device}
-use borrow.Author.Needs.{needs}
 use Rattle.records.proofs.load.Statement.{statement}
 use Rattle.records.proofs.load.Tie as tie
 
@@ -19,22 +18,6 @@ returns c =
     (c .before .four-bytes .ensures) (c .four-bytes2 .ensures)
 
 pub load-spec : {M : Type 1} → statement M
-load-spec =
-    tie.close
-    (tie.spec
-    (λ c. search needs)
-    (λ c. search needs)
-    (λ c. search needs)
-    (λ c. search needs)
-    (λ c κs. search needs)
-    (λ c. search needs)
-    (λ c. search needs)
-    (λ c. search needs)
-    (λ c. search needs)
-    (λ c. search needs)
-    (λ c. search needs)
-    (λ c. search needs)
-    (λ c. search needs)
-    (λ c κs. search needs)
-    (λ c κs. search needs)
-    returns)
+load-spec = tie.close (tie.spec (λ c. search needs) (λ c. search needs) (λ c. search needs) (λ c. search needs) (λ c κs. search needs) (λ c. search needs)
+    (λ c. search needs) (λ c. search needs) (λ c. search needs) (λ c. search needs) (λ c. search needs) (λ c. search needs) (λ c. search needs)
+    (λ c κs. search needs) (λ c κs. search needs) returns)

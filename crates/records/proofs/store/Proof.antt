@@ -1,16 +1,10 @@
 -- `records::store` meets its contract: four parts are written, each after the one before it, and together they are all 32 bytes. No axiom.
-use Prim.Native.Nat.{ℕ}
-use native.Mathlib.Nat.{le-of-eq}
-use mathlib.Core.Path.{_≡_, refl, sym, _∙_}
-use mathlib.Core.List.{List, [], _++_, append-nil}
-use lib.ListN.{length, drop, length-append, drop-of-length-le}
-use lib.Seq.{drop-drop}
+use Rattle.octets.proofs.Vocabulary.{_≡_, refl, sym, _∙_, ℕ, List, [], _++_, append-nil, length, drop, length-append, drop-of-length-le, drop-drop, le-of-eq, needs, length-unmapped}
 use borrow.Rule.Slice.PartMut.{putMid}
 use Rattle.records.specs.declared.Device.{Device}
 use Rattle.records.specs.Image.{bytesOfFour, imageOf}
 use Rattle.records.proofs.Image.{front, copied, alternates-length}
 use Rattle.records.proofs.Putting.{put-after}
-use borrow.Author.Needs.{needs, length-unmapped}
 use Rattle.records.proofs.store.Statement.{statement}
 use Rattle.records.proofs.store.Tie as tie
 
@@ -52,26 +46,6 @@ returns c =
     (c .before .before .store-four2 .ensures)
 
 pub store-spec : {M : Type 1} → statement M
-store-spec =
-    tie.close
-    (tie.spec
-    (λ c. search needs)
-    (λ c. search needs)
-    (λ c. search needs)
-    (λ c. search needs)
-    (λ c κs. search needs)
-    (λ c. search needs)
-    (λ c. search needs)
-    (λ c. search needs)
-    (λ c. search needs)
-    copy-requires-2
-    (λ c. search needs)
-    (λ c. search needs)
-    (λ c. search needs)
-    (λ c κs. search needs)
-    (λ c. search needs)
-    (λ c. search needs)
-    (λ c. search needs)
-    (λ c κs. search needs)
-    (λ c. search needs)
-    returns)
+store-spec = tie.close (tie.spec (λ c. search needs) (λ c. search needs) (λ c. search needs) (λ c. search needs) (λ c κs. search needs) (λ c. search needs)
+    (λ c. search needs) (λ c. search needs) (λ c. search needs) copy-requires-2 (λ c. search needs) (λ c. search needs) (λ c. search needs)
+    (λ c κs. search needs) (λ c. search needs) (λ c. search needs) (λ c. search needs) (λ c κs. search needs) (λ c. search needs) returns)

@@ -1,5 +1,5 @@
 -- `requests::fields_fit` meets its contract. No axiom.
-use borrow.Author.Needs.{needs}
+use Rattle.octets.proofs.Vocabulary.{needs}
 use Rattle.requests.proofs.fields_fit.Statement.{statement}
 use Rattle.requests.proofs.fields_fit.Tie as tie
 

@@ -1,12 +1,6 @@
 -- `requests::find_row` meets its contract. The invariant: the first among the rows not yet passed is the first of the table. No axiom.
-use Prim.Native.Nat.{ℕ, _+_, _-_, _^_, _<_, _≤_}
-use native.Mathlib.Omega.{arith}
+use Rattle.octets.proofs.Vocabulary.{_≡_, refl, sym, ap, _∙_, ℕ, _+_, _-_, _^_, _<_, _≤_, Bool, _&&_, drop, eqb, arith, needs}
 use borrow.Author.Count.{falls}
-use mathlib.Core.Path.{_≡_, refl, sym, ap, _∙_}
-use mathlib.Core.Bool.{Bool, _&&_}
-use lib.ListN.{drop}
-use lib.Dec.{eqb}
-use borrow.Author.Needs.{needs}
 use Rattle.octets.specs.Sentences.{first}
 use Rattle.octets.proofs.Sentences.{first-end, first-here, first-on}
 use Rattle.requests.specs.declared.Setup.{Setup}
@@ -52,16 +46,4 @@ returns-2 : tie.Need-returns-2 Inv-loop μ-loop
 returns-2 c = ap foundOf (sym (first-end (asked (c .before .before .args .setup)) requestTable (c .before .loop .i) (c .loop-test .left)) ∙ c .before .loop .inv .1)
 
 pub find-row-spec : {M : Type 1} → statement M
-find-row-spec =
-    tie.close
-    (tie.spec
-    Inv-loop
-    μ-loop
-    loop-holds
-    (λ c. search needs)
-    (λ c. search needs)
-    returns
-    add-i
-    loop-less
-    loop-again
-    returns-2)
+find-row-spec = tie.close (tie.spec Inv-loop μ-loop loop-holds (λ c. search needs) (λ c. search needs) returns add-i loop-less loop-again returns-2)

@@ -1,8 +1,6 @@
 -- `requests::refusal` meets its contract: each answer from the row that was found, or none, and the two tests. No axiom.
-use mathlib.Core.Path.{sym, _∙_}
+use Rattle.octets.proofs.Vocabulary.{sym, _∙_, needs, not-true, not-false}
 use Rattle.requests.proofs.Found.{is-some, is-none, without-row, wrong-state, wrong-field, no-refusal}
-use borrow.Author.Needs.{needs}
-use borrow.Author.Tests.{not-true, not-false}
 use Rattle.requests.proofs.refusal.Statement.{statement}
 use Rattle.requests.proofs.refusal.Tie as tie
 
@@ -19,15 +17,5 @@ returns-4 : tie.Need-returns-4
 returns-4 c = sym (no-refusal _ _ (is-some _ (sym (c .before .before .before .before .before .before .before .find-row .ensures) ∙ c .before .before .before .before .before .found .given .1)) (sym (c .before .before .before .in-state .ensures) ∙ not-false (c .before .before .before .in-state .result) (c .before .before .if1 .left)) (sym (c .before .fields-fit .ensures) ∙ not-false (c .before .fields-fit .result) (c .if2 .left)))
 
 pub refusal-spec : {M : Type 1} → statement M
-refusal-spec =
-    tie.close
-    (tie.spec
-    (λ c κs. search needs)
-    (λ c. search needs)
-    (λ c. search needs)
-    (λ c κs. search needs)
-    returns
-    (λ c κs. search needs)
-    returns-2
-    returns-3
-    returns-4)
+refusal-spec = tie.close (tie.spec (λ c κs. search needs) (λ c. search needs) (λ c. search needs) (λ c κs. search needs) returns (λ c κs. search needs)
+    returns-2 returns-3 returns-4)

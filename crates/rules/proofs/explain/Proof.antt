@@ -1,14 +1,11 @@
 -- `rules::explain` meets its contract. No axiom.
-use Prim.Native.Nat.{ℕ}
-use mathlib.Core.Path.{_≡_, _∙_}
-use borrow.Author.Tests.{eq-eqb, ne-eqb}
+use Rattle.octets.proofs.Vocabulary.{_≡_, _∙_, ℕ, needs, eq-eqb, ne-eqb}
 use Rattle.octets.specs.Sentences.{first}
 use Rattle.descriptors.specs.declared.limits.Limits.{Limits}
 use Rattle.sets.specs.Opening.{Board, lent, opening}
 use Rattle.rules.specs.declared.Fault.{Fault}
 use Rattle.rules.specs.declared.Explained.{Explained}
 use Rattle.rules.specs.Explained.{findings, isBroken, faultOf, inside, lentFor, explained}
-use borrow.Author.Needs.{needs}
 use Rattle.rules.proofs.explain.Statement.{statement}
 use Rattle.rules.proofs.explain.Tie as tie
 
@@ -28,12 +25,4 @@ returns-2 c =
     whole (a .limits) (lent (a .set .now) (a .serial .now)) _ _ _ (c .before .before .before .opening .ensures) (c .before .before .first-fault .ensures) (c .before .place-inside .ensures ∙ rw (ne-eqb _ _ (c .if1 .left)))
 
 pub explain-spec : {M : Type 1} → statement M
-explain-spec =
-    tie.close
-    (tie.spec
-    (λ c κs. search needs)
-    (λ c κs. search needs)
-    (λ c κs. search needs)
-    (λ c κs. search needs)
-    returns
-    returns-2)
+explain-spec = tie.close (tie.spec (λ c κs. search needs) (λ c κs. search needs) (λ c κs. search needs) (λ c κs. search needs) returns returns-2)

@@ -1,5 +1,5 @@
 -- `rules::first_fault` meets its contract: group after group. No axiom.
-use mathlib.Core.Path.{ap, _∙_}
+use Rattle.octets.proofs.Vocabulary.{ap, _∙_, needs}
 use Rattle.sets.specs.Device.{deviceBody, iSerialNumber}
 use Rattle.sets.specs.Opening.{lent}
 use Rattle.rules.specs.Frame.{frameFindings, contentsFindings}
@@ -9,7 +9,6 @@ use Rattle.rules.specs.Strings.{stringsFindings}
 use Rattle.rules.specs.Explained.{faultOf}
 use Rattle.rules.proofs.After.{first-broken, joins}
 use Rattle.rules.proofs.Walked.{walkedFindings, walked-told, walked-numbered}
-use borrow.Author.Needs.{needs}
 use Rattle.rules.proofs.first_fault.Statement.{statement}
 use Rattle.rules.proofs.first_fault.Tie as tie
 
@@ -26,14 +25,5 @@ returns c =
     ∙ ap faultOf (walked-told (a .limits) (lent set (a .serial .now)))
 
 pub first-fault-spec : {M : Type 1} → statement M
-first-fault-spec =
-    tie.close
-    (tie.spec
-    (λ c κs. search needs)
-    (λ c κs. search needs)
-    (λ c κs. search needs)
-    (λ c κs. search needs)
-    (λ c κs. search needs)
-    (λ c κs. search needs)
-    (λ c κs. search needs)
-    returns)
+first-fault-spec = tie.close (tie.spec (λ c κs. search needs) (λ c κs. search needs) (λ c κs. search needs) (λ c κs. search needs) (λ c κs. search needs)
+    (λ c κs. search needs) (λ c κs. search needs) returns)

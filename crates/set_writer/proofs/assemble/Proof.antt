@@ -1,9 +1,5 @@
 -- `set_writer::assemble` meets its contract: what lies aside is the set. No axiom.
-use Prim.Native.Nat.{ℕ}
-use native.Mathlib.Omega.{arith}
-use mathlib.Core.Path.{sym, ap, _∙_}
-use lib.ListN.{length-replicate}
-use borrow.Author.Needs.{needs}
+use Rattle.octets.proofs.Vocabulary.{sym, ap, _∙_, ℕ, length-replicate, arith, needs}
 use Rattle.set_writer.specs.Writer.{laidLength}
 use Rattle.set_writer.proofs.Writing.{in-order, few, aside}
 use Rattle.set_writer.proofs.assemble.Statement.{statement}
@@ -25,7 +21,5 @@ returns c =
     rw (aside (s .args .stream .now) (s .args .n) (s .pre .1 .0) _ placed (s .args .size) (s .pre .1 .1 .1 .0) _ _ _ (omega (arith, s .pre .1 .1 .1 .1, length-replicate {A = ℕ} 16384 0)) (c .before .before .before .before .before .before .before .lay .ensures)) at (c .before .before .hand-over .ensures)
 
 pub assemble-spec : {M : Type 1} → statement M
-assemble-spec =
-    tie.close
-    (tie.spec (λ c. search needs) (λ c κs. search needs) (λ c. search needs) (λ c. search needs) (λ c. search needs) (λ c. search needs) lay-requires
-    (λ c. search needs) (λ c. search needs) (λ c. search needs) (λ c κs. search needs) (λ c. search needs) returns)
+assemble-spec = tie.close (tie.spec (λ c. search needs) (λ c κs. search needs) (λ c. search needs) (λ c. search needs) (λ c. search needs) (λ c. search needs)
+    lay-requires (λ c. search needs) (λ c. search needs) (λ c. search needs) (λ c κs. search needs) (λ c. search needs) returns)

@@ -1,6 +1,6 @@
 -- `set_writer::hand_over` meets its contract: refused, too short, or copied. No axiom.
 use Rattle.set_writer.proofs.Writing.{refused, short, given}
-use borrow.Author.Needs.{needs}
+use Rattle.octets.proofs.Vocabulary.{needs}
 use Rattle.set_writer.proofs.hand_over.Statement.{statement}
 use Rattle.set_writer.proofs.hand_over.Tie as tie
 
@@ -21,7 +21,5 @@ returns-3 c =
     rw (c .answer3 .ensures) (given (a .limits) (a .set .now) (a .serial .now) (a .out .now) _ e (c .before .before .before .before .before .before .if1 .left) (c .before .before .before .before .before .if2 .left) (c .before .before .before .copy .ensures .1))
 
 pub hand-over-spec : {M : Type 1} → statement M
-hand-over-spec =
-    tie.close
-    (tie.spec (λ c κs. search needs) (λ c κs. search needs) returns (λ c κs. search needs) returns-2 (λ c κs. search needs) (λ c κs. search needs)
-    (λ c. search needs) returns-3)
+hand-over-spec = tie.close (tie.spec (λ c κs. search needs) (λ c κs. search needs) returns (λ c κs. search needs) returns-2 (λ c κs. search needs)
+    (λ c κs. search needs) (λ c. search needs) returns-3)

@@ -1,6 +1,5 @@
 -- `set_writer::length_written` meets its contract, by the number. No axiom.
-use borrow.Author.Tests.{eq-eqb, ne-eqb}
-use borrow.Author.Needs.{needs}
+use Rattle.octets.proofs.Vocabulary.{needs, eq-eqb, ne-eqb}
 use Rattle.set_writer.proofs.length_written.Statement.{statement}
 use Rattle.set_writer.proofs.length_written.Tie as tie
 

@@ -1,9 +1,7 @@
 -- `set_writer::write` meets its contract, answer by answer. No axiom.
-use native.Mathlib.Omega.{arith}
-use mathlib.Core.Path.{sym, _∙_}
+use Rattle.octets.proofs.Vocabulary.{sym, _∙_, arith, needs}
 use Rattle.set_writer.proofs.Sizes.{set-size}
 use Rattle.set_writer.proofs.Writing.{broken, whole, set-length, not-whole, many, large, fitting}
-use borrow.Author.Needs.{needs}
 use Rattle.set_writer.proofs.write.Statement.{statement}
 use Rattle.set_writer.proofs.write.Tie as tie
 
@@ -43,8 +41,6 @@ returns-5 c =
     fitting (a .stream .now) (a .limits) (a .serial .now) (a .out .now) (w .0) (omega (arith, w .1)) (omega (arith, w .1, set-length (a .stream .now) (w .0))) (c .before .before .assemble .ensures)
 
 pub write-spec : {M : Type 1} → statement M
-write-spec =
-    tie.close
-    (tie.spec (λ c κs. search needs) (λ c. search needs) (λ c κs. search needs) (λ c. search needs) (λ c κs. search needs) returns (λ c κs. search needs)
-    returns-2 (λ c. search needs) (λ c. search needs) (λ c. search needs) (λ c κs. search needs) returns-3 assemble-requires returns-4 (λ c. search needs)
-    returns-5)
+write-spec = tie.close (tie.spec (λ c κs. search needs) (λ c. search needs) (λ c κs. search needs) (λ c. search needs) (λ c κs. search needs) returns
+    (λ c κs. search needs) returns-2 (λ c. search needs) (λ c. search needs) (λ c. search needs) (λ c κs. search needs) returns-3 assemble-requires returns-4
+    (λ c. search needs) returns-5)

@@ -1,6 +1,5 @@
 -- `single_walk::open_set` meets its contract: as opening, and the configurations tell what is known. No axiom.
-use mathlib.Core.Path.{sym, ap, _∙_}
-use borrow.Author.Needs.{needs}
+use Rattle.octets.proofs.Vocabulary.{sym, ap, _∙_, needs}
 use Rattle.descriptors.proofs.CheckReferences.{told}
 use Rattle.sets.specs.Opening.{lent}
 use Rattle.sets.proofs.Groups.{groups}
@@ -39,13 +38,5 @@ returns-2 c =
     }
 
 pub open-set-spec : {M : Type 1} → statement M
-open-set-spec =
-    tie.close
-    (tie.spec
-    (λ c κs. search needs)
-    (λ c κs. search needs)
-    returns
-    read-strings-requires
-    configurations-requires
-    finish-requires
+open-set-spec = tie.close (tie.spec (λ c κs. search needs) (λ c κs. search needs) returns read-strings-requires configurations-requires finish-requires
     returns-2)

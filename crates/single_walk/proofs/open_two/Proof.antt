@@ -1,7 +1,5 @@
 -- `single_walk::open_two` meets its contract, answer by answer; what is known is that of the set in use. No axiom.
-use mathlib.Core.Path.{_≡_, sym, _∙_}
-use borrow.Author.Needs.{needs}
-use borrow.Author.Tests.{eq-eqb, ne-eqb}
+use Rattle.octets.proofs.Vocabulary.{_≡_, sym, _∙_, needs, eq-eqb, ne-eqb}
 use Rattle.sets.specs.Pair.{openingTwo}
 use Rattle.pairs.proofs.Opening.{refused-first, refused-second}
 use Rattle.single_walk.proofs.open_two.Statement.{statement}
@@ -53,13 +51,4 @@ returns-4 c =
     }
 
 pub open-two-spec : {M : Type 1} → statement M
-open-two-spec =
-    tie.close
-    (tie.spec
-    (λ c κs. search needs)
-    returns
-    (λ c κs. search needs)
-    returns-2
-    (λ c κs. search needs)
-    returns-3
-    returns-4)
+open-two-spec = tie.close (tie.spec (λ c κs. search needs) returns (λ c κs. search needs) returns-2 (λ c κs. search needs) returns-3 returns-4)

@@ -1,8 +1,5 @@
 -- `single_walk::react` meets its contract: the one set opens by the row of full speed. No axiom.
-use native.Mathlib.Omega.{arith}
-use mathlib.Core.Path.{_≡_, refl, sym, _∙_}
-use mathlib.Core.Bool.{false}
-use borrow.Author.Needs.{needs}
+use Rattle.octets.proofs.Vocabulary.{_≡_, refl, sym, _∙_, false, arith, needs}
 use Rattle.descriptors.specs.Limits.{fullSpeed}
 use Rattle.records.specs.Change.{recordIn}
 use Rattle.steps.specs.Gathering.{viewIn}
@@ -10,9 +7,6 @@ use Rattle.steps.specs.Selected.{Told}
 use Rattle.steps.proofs.Telling.{told-in}
 use Rattle.single_walk.proofs.react.Statement.{statement}
 use Rattle.single_walk.proofs.react.Tie as tie
-
-open-set-requires : tie.Need-open-set-requires
-open-set-requires c κs = rw (c .before .full-speed .ensures) (λ body. refl)
 
 seek-requires : tie.Need-seek-requires
 seek-requires c κs = λ z. let number = rw (c .before .before .before .full-speed .ensures) at (c .before .open-set .ensures .number) in (fullSpeed, sym number ∙ z)
@@ -40,14 +34,5 @@ returns c =
     (rw number at (e .0 v (told sought)), rw number at (e .1 .0 v (told sought)))
 
 pub react-spec : {M : Type 1} → statement M
-react-spec =
-    tie.close
-    (tie.spec
-    (λ c κs. search needs)
-    (λ c κs. search needs)
-    (λ c κs. search needs)
-    open-set-requires
-    seek-requires
-    react-requires
-    (λ c. search needs)
-    returns)
+react-spec = tie.close (tie.spec (λ c κs. search needs) (λ c κs. search needs) (λ c κs. search needs)
+    (λ c κs. rw (c .before .full-speed .ensures) (λ body. refl)) seek-requires react-requires (λ c. search needs) returns)

@@ -1,9 +1,5 @@
 -- `single_walk::react_two` meets its contract: the set in use of two that open. No axiom.
-use native.Mathlib.Omega.{arith}
-use mathlib.Core.Path.{_≡_, sym, _∙_}
-use mathlib.Core.Bool.{true}
-use lib.Dec.{eqb}
-use borrow.Author.Needs.{needs}
+use Rattle.octets.proofs.Vocabulary.{_≡_, sym, _∙_, true, eqb, arith, needs}
 use Rattle.records.specs.Change.{recordIn}
 use Rattle.steps.specs.Gathering.{viewIn}
 use Rattle.steps.specs.Selected.{Told}
@@ -44,14 +40,5 @@ returns c =
     (rw (u .ensures .0, number) at (e .0 v (told sought)), rw (u .ensures .0, number) at (e .1 .0 v (told sought)))
 
 pub react-two-spec : {M : Type 1} → statement M
-react-two-spec =
-    tie.close
-    (tie.spec
-    (λ c κs. search needs)
-    (λ c κs. search needs)
-    (λ c κs. search needs)
-    (λ c κs. search needs)
-    seek-requires
-    react-requires
-    (λ c. search needs)
-    returns)
+react-two-spec = tie.close (tie.spec (λ c κs. search needs) (λ c κs. search needs) (λ c κs. search needs) (λ c κs. search needs) seek-requires react-requires
+    (λ c. search needs) returns)

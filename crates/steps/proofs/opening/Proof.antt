@@ -1,6 +1,5 @@
 -- `steps::opening` meets its contract: at full speed. No axiom.
-use mathlib.Core.Path.{ap, _∙_}
-use borrow.Author.Needs.{needs}
+use Rattle.octets.proofs.Vocabulary.{ap, _∙_, needs}
 use Rattle.descriptors.specs.declared.limits.Limits.{Limits}
 use Rattle.sets.specs.Opening.{lent, opening}
 use Rattle.steps.proofs.opening.Statement.{statement}

@@ -1,15 +1,10 @@
 -- `steps::react` meets its contract: the reaction at the record of the image, and the image renewed. No axiom.
-use native.Mathlib.Omega.{arith}
-use mathlib.Core.Path.{_∙_}
-use borrow.Author.Needs.{needs}
+use Rattle.octets.proofs.Vocabulary.{_∙_, arith, needs}
 use Rattle.records.specs.Image.{deviceOf}
 use Rattle.records.proofs.Image.{device-sized}
 use Rattle.steps.proofs.Images.{after-sized, answered, left-behind, replied}
 use Rattle.steps.proofs.react.Tie as tie
 use Rattle.steps.proofs.react.Statement.{statement}
-
-reaction-to-requires : tie.Need-reaction-to-requires
-reaction-to-requires c κs = c .before .before .pre
 
 returns : tie.Need-returns
 returns c =
@@ -27,4 +22,4 @@ returns c =
     )
 
 pub react-spec : {M : Type 1} → statement M
-react-spec = tie.close (tie.spec reaction-to-requires (λ c κs. search needs) (λ c. search needs) returns)
+react-spec = tie.close (tie.spec (λ c κs. c .before .before .pre) (λ c κs. search needs) (λ c. search needs) returns)

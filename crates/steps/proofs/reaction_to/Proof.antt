@@ -1,7 +1,5 @@
 -- `steps::reaction_to` meets its contract: by the order of refusals, for the record that is read. No axiom.
-use borrow.Author.Needs.{needs}
-use mathlib.Core.Path.{sym, _∙_}
-use borrow.Author.Tests.{not-true, not-false}
+use Rattle.octets.proofs.Vocabulary.{sym, _∙_, needs, not-true, not-false}
 use Rattle.records.specs.Change.{recordIn, valued}
 use Rattle.events.specs.Facts.{questionOf, askedBy, TellsOf}
 use Rattle.steps.specs.Selected.{Told}
@@ -45,15 +43,5 @@ returns-3 c = λ v h. let a = c .before .before .before .before .before .before 
     rw (read .ensures) at (c .respond .ensures v (told v d (questionOf (a .event)) (t .nonzero) right f) ∙ sym (responds (a .opening) v d (a .event) zero right))
 
 pub reaction-to-spec : {M : Type 1} → statement M
-reaction-to-spec =
-    tie.close
-    (tie.spec
-    (λ c κs. search needs)
-    returns
-    (λ c κs. search needs)
-    (λ c κs. search needs)
-    (λ c κs. search needs)
-    returns-2
-    (λ c κs. search needs)
-    respond-requires
-    returns-3)
+reaction-to-spec = tie.close (tie.spec (λ c κs. search needs) returns (λ c κs. search needs) (λ c κs. search needs) (λ c κs. search needs) returns-2
+    (λ c κs. search needs) respond-requires returns-3)

@@ -1,8 +1,5 @@
 -- `steps::reply_in` meets its contract: 7 where the sets do not open; else the event on the image. No axiom.
-use Prim.Native.Nat.{ℕ}
-use native.Mathlib.Omega.{arith}
-use mathlib.Core.Path.{refl, sym, ap, _∙_}
-use borrow.Author.Needs.{needs}
+use Rattle.octets.proofs.Vocabulary.{refl, sym, ap, _∙_, ℕ, arith, needs}
 use Rattle.records.specs.Image.{deviceOf}
 use Rattle.records.specs.Change.{recordIn}
 use Rattle.steps.specs.Gathering.{viewIn, stepIn}

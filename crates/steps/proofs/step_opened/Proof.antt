@@ -1,5 +1,5 @@
 -- `steps::step_opened` meets its contract: the record by its image. No axiom.
-use borrow.Author.Needs.{needs}
+use Rattle.octets.proofs.Vocabulary.{needs}
 use Rattle.records.proofs.Image.{device-image}
 use Rattle.steps.proofs.Images.{is-sized}
 use Rattle.steps.proofs.step_opened.Statement.{statement}
@@ -13,13 +13,5 @@ returns c =
     rw (c .load .ensures) (rw (c .before .before .before .before .before .before .store .ensures, device-image (a .device) sized) at (c .before .before .before .reply .ensures))
 
 pub step-opened-spec : {M : Type 1} → statement M
-step-opened-spec =
-    tie.close
-    (tie.spec
-    (λ c. search needs)
-    (λ c κs. search needs)
-    (λ c. search needs)
-    (λ c κs. search needs)
-    (λ c. search needs)
-    (λ c κs. search needs)
-    returns)
+step-opened-spec = tie.close (tie.spec (λ c. search needs) (λ c κs. search needs) (λ c. search needs) (λ c κs. search needs) (λ c. search needs)
+    (λ c κs. search needs) returns)

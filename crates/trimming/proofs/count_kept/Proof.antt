@@ -1,11 +1,5 @@
 -- `trimming::count_kept` meets its contract. No axiom.
-use Prim.Native.Nat.{_+_, _-_, _≤_}
-use native.Mathlib.Nat.{add-zero}
-use native.Mathlib.Omega.{arith}
-use mathlib.Core.List.{_∷_}
-use mathlib.Core.Path.{_≡_, sym, ap, _∙_}
-use lib.ListN.{length}
-use borrow.Author.Needs.{needs}
+use Rattle.octets.proofs.Vocabulary.{_≡_, sym, ap, _∙_, _+_, _-_, _≤_, _∷_, length, arith, add-zero, needs}
 use Rattle.octets.specs.Sentences.{only}
 use Rattle.sets.specs.Contents.{entries}
 use Rattle.sets.proofs.Entries.{rest, rest-start, next-entry, no-entry}
@@ -51,7 +45,5 @@ returns c =
     sym (l .inv .1 ∙ ap (λ es. l .n + length es) (none-left (keepsBy (a .names .now) (a .zero)) (no-entry (a .contents .now) _ (c .before .before .peek .ensures) _ (c .loop-test .left))) ∙ add-zero (l .n))
 
 pub count-kept-spec : {M : Type 1} → statement M
-count-kept-spec =
-    tie.close
-    (tie.spec Inv-loop μ-loop (λ c κs. search needs) loop-holds (λ c κs. search needs) (λ c. search needs) (λ c κs. search needs) add-n (λ c. search needs)
-    loop-again (λ c. search needs) loop-again-2 returns)
+count-kept-spec = tie.close (tie.spec Inv-loop μ-loop (λ c κs. search needs) loop-holds (λ c κs. search needs) (λ c. search needs) (λ c κs. search needs) add-n
+    (λ c. search needs) loop-again (λ c. search needs) loop-again-2 returns)

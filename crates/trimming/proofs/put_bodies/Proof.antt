@@ -1,11 +1,5 @@
 -- `trimming::put_bodies` meets its contract: what is still to be read has not been written over. No axiom.
-use Prim.Native.Nat.{_+_, _-_, _≤_}
-use native.Mathlib.Omega.{arith}
-use mathlib.Core.Bool.{true}
-use mathlib.Core.List.{_∷_}
-use mathlib.Core.Path.{_≡_, refl, sym, _∙_}
-use lib.ListN.{length, drop}
-use borrow.Author.Needs.{needs}
+use Rattle.octets.proofs.Vocabulary.{_≡_, refl, sym, _∙_, _+_, _-_, _≤_, _∷_, true, length, drop, arith, needs}
 use Rattle.octets.specs.Octets.{part}
 use Rattle.octets.specs.Sentences.{only}
 use Rattle.sets.specs.Contents.{entries, endToEnd}
@@ -92,8 +86,6 @@ returns c =
     done (l .inv .3) (bodies-end (a .out .now) (none-left (keepsBy (a .names .now) (a .zero)) (no-entry (a .contents .now) _ (c .before .before .peek .ensures) _ (c .loop-test .left))))
 
 pub put-bodies-spec : {M : Type 1} → statement M
-put-bodies-spec =
-    tie.close
-    (tie.spec Inv-loop μ-loop (λ c κs. search needs) (λ c. search needs) (λ c. search needs) (λ c. search needs) loop-holds (λ c κs. search needs)
-    (λ c. search needs) add-from-2 (λ c. search needs) (λ c κs. search needs) moved-requires add-next (λ c. search needs) loop-again (λ c. search needs)
-    loop-again-2 (λ c. same (c .before .loop .inv .3)) returns)
+put-bodies-spec = tie.close (tie.spec Inv-loop μ-loop (λ c κs. search needs) (λ c. search needs) (λ c. search needs) (λ c. search needs) loop-holds
+    (λ c κs. search needs) (λ c. search needs) add-from-2 (λ c. search needs) (λ c κs. search needs) moved-requires add-next (λ c. search needs) loop-again
+    (λ c. search needs) loop-again-2 (λ c. same (c .before .loop .inv .3)) returns)

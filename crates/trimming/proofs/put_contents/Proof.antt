@@ -1,9 +1,5 @@
 -- `trimming::put_contents` meets its contract: the entries that are left. No axiom.
-use Prim.Native.Nat.{_+_, _-_, _<_}
-use native.Mathlib.Omega.{arith}
-use mathlib.Core.List.{_∷_}
-use mathlib.Core.Path.{_≡_, sym, _∙_}
-use borrow.Author.Needs.{needs}
+use Rattle.octets.proofs.Vocabulary.{_≡_, sym, _∙_, _+_, _-_, _<_, _∷_, arith, needs}
 use Rattle.octets.specs.Sentences.{only}
 use Rattle.sets.specs.Contents.{entries}
 use Rattle.sets.proofs.Entries.{rest, rest-start, next-entry, no-entry}
@@ -70,7 +66,6 @@ returns c =
     done (l .inv .1) (contents-none (l .offset) (none-left (keepsBy (a .names .now) (a .zero)) (no-entry (a .contents .now) _ (c .before .before .peek .ensures) _ (c .loop-test .left))))
 
 pub put-contents-spec : {M : Type 1} → statement M
-put-contents-spec =
-    tie.close
-    (tie.spec Inv-loop μ-loop (λ c κs. search needs) loop-holds (λ c κs. search needs) (λ c. search needs) (λ c κs. search needs) put-entry-requires
-    (λ c. search needs) add-offset (λ c. search needs) loop-again (λ c. search needs) loop-again-2 (λ c. same (c .before .loop .inv .1)) returns)
+put-contents-spec = tie.close (tie.spec Inv-loop μ-loop (λ c κs. search needs) loop-holds (λ c κs. search needs) (λ c. search needs) (λ c κs. search needs)
+    put-entry-requires (λ c. search needs) add-offset (λ c. search needs) loop-again (λ c. search needs) loop-again-2 (λ c. same (c .before .loop .inv .1))
+    returns)

@@ -1,12 +1,7 @@
 -- `trimming::put_zeros` meets its contract. No axiom.
-use Prim.Native.Nat.{_-_, _≤_}
-use native.Mathlib.Omega.{arith}
-use mathlib.Core.List.{[], _∷_}
-use mathlib.Core.Path.{ap, _∙_}
-use lib.ListN.{length, replicate}
+use Rattle.octets.proofs.Vocabulary.{ap, _∙_, _-_, _≤_, [], _∷_, length, replicate, length-sets, arith}
 use Rattle.buffers.proofs.Written.{Going, begun, room-for, next, done, same}
 use Rattle.trimming.proofs.Moving.{room-zeros, zeros-more, zeros-none}
-use lib.Seq.{length-sets}
 use Rattle.trimming.proofs.put_zeros.Statement.{statement}
 use Rattle.trimming.proofs.put_zeros.Tie as tie
 

@@ -1,10 +1,5 @@
 -- `trimming::rebuild` meets its contract: step by step. No axiom.
-use Prim.Native.Nat.{_+_, _*_, _-_, _≤_}
-use native.Mathlib.Omega.{arith}
-use mathlib.Core.Path.{_≡_, ap, _∙_}
-use mathlib.Core.List.{map}
-use lib.ListN.{length, replicate}
-use borrow.Author.Needs.{needs}
+use Rattle.octets.proofs.Vocabulary.{_≡_, ap, _∙_, _+_, _*_, _-_, _≤_, map, length, replicate, arith, needs}
 use Rattle.octets.specs.Sentences.{only}
 use Rattle.sets.specs.Contents.{entries, bodiesAt}
 use Rattle.set_writer.specs.Writer.{laid}

@@ -1,7 +1,6 @@
 -- `trimming::trim` meets its contract: refused, or trimmed. No axiom.
-use mathlib.Core.Path.{_≡_, sym, _∙_}
+use Rattle.octets.proofs.Vocabulary.{_≡_, sym, _∙_, needs}
 use Rattle.trimming.proofs.Trimming.{refused, walks, framing, lies, trims}
-use borrow.Author.Needs.{needs}
 use Rattle.trimming.proofs.trim.Statement.{statement}
 use Rattle.trimming.proofs.trim.Tie as tie
 
@@ -27,7 +26,5 @@ returns-2 c =
     trims (a .limits) (a .set .now) (a .serial .now) (λ k. c .before .before .before .before .before .before .before .before .before .before .before .before .before .before .before .before .slice-known .given k .fits) _ (c .before .before .before .before .before .before .before .before .before .before .before .before .before .opening .ensures) (zeroed (c .before .before .before .before .before .before .before .before .before .before .before .before)) (c .before .before .before .before .before .before .before .before .before .before .names-of .result) (c .before .before .before .before .before .before .before .before .before .before .names-of .ensures) _ (c .before .before .before .before .before .before .before .any-referenced .ensures) _ (c .before .before .before .before .before .serial-index .ensures) (c .before .before .rebuild .ensures)
 
 pub trim-spec : {M : Type 1} → statement M
-trim-spec =
-    tie.close
-    (tie.spec (λ c κs. search needs) (λ c. search needs) returns names-of-requires (λ c κs. search needs) (λ c κs. search needs) rebuild-requires
-    (λ c. search needs) returns-2)
+trim-spec = tie.close (tie.spec (λ c κs. search needs) (λ c. search needs) returns names-of-requires (λ c κs. search needs) (λ c κs. search needs)
+    rebuild-requires (λ c. search needs) returns-2)

@@ -1,7 +1,5 @@
 -- `bench_answers::buffer::is_untouched` is safe and ends. No axiom.
-use Prim.Native.Nat.{_-_, _≤_}
-use lib.ListN.{length}
-use borrow.Author.Needs.{needs}
+use Rattle.octets.proofs.Vocabulary.{_-_, _≤_, length, needs}
 use Rattle.bench_answers.proofs.buffer.is_untouched.Statement.{statement}
 use Rattle.bench_answers.proofs.buffer.is_untouched.Tie as tie
 
@@ -12,7 +10,5 @@ abbrev μ-loop : tie.MeasureT-loop
 μ-loop bytes i₀ i = length bytes - i
 
 pub is-untouched-spec : {M : Type 1} → statement M
-is-untouched-spec =
-    tie.close
-    (tie.spec Inv-loop μ-loop (λ c. search needs) (λ c. search needs) (λ c. search needs) (λ c. search needs) (λ c. search needs) (λ c. search needs)
-    (λ c. search needs))
+is-untouched-spec = tie.close (tie.spec Inv-loop μ-loop (λ c. search needs) (λ c. search needs) (λ c. search needs) (λ c. search needs) (λ c. search needs)
+    (λ c. search needs) (λ c. search needs))

@@ -1,7 +1,5 @@
 -- `bench_answers::explain::differ_in_sizes` is safe and ends: a descriptor never starts past the byte that is compared. No axiom.
-use Prim.Native.Nat.{_-_, _≤_}
-use lib.ListN.{length}
-use borrow.Author.Needs.{needs}
+use Rattle.octets.proofs.Vocabulary.{_-_, _≤_, length, needs}
 use Rattle.bench_answers.proofs.explain.differ_in_sizes.Statement.{statement}
 use Rattle.bench_answers.proofs.explain.differ_in_sizes.Tie as tie
 
@@ -12,7 +10,5 @@ abbrev μ-loop : tie.MeasureT-loop
 μ-loop ours recorded start₀ k₀ start k = length ours - k
 
 pub differ-in-sizes-spec : {M : Type 1} → statement M
-differ-in-sizes-spec =
-    tie.close
-    (tie.spec Inv-loop μ-loop (λ c. search needs) (λ c κs. search needs) (λ c κs. search needs) (λ c. search needs) (λ c. search needs) (λ c. search needs)
-    (λ c. search needs) (λ c. search needs))
+differ-in-sizes-spec = tie.close (tie.spec Inv-loop μ-loop (λ c. search needs) (λ c κs. search needs) (λ c κs. search needs) (λ c. search needs)
+    (λ c. search needs) (λ c. search needs) (λ c. search needs) (λ c. search needs))

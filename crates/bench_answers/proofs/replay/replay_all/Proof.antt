@@ -1,7 +1,5 @@
 -- `bench_answers::replay::replay_all` is safe and ends: each transfer has a size. No axiom.
-use Prim.Native.Nat.{_-_, _≤_}
-use lib.ListN.{length}
-use borrow.Author.Needs.{needs}
+use Rattle.octets.proofs.Vocabulary.{_-_, _≤_, length, needs}
 use Rattle.bench_answers.proofs.replay.replay_all.Statement.{statement}
 use Rattle.bench_answers.proofs.replay.replay_all.Tie as tie
 
@@ -12,9 +10,7 @@ abbrev μ-loop : tie.MeasureT-loop
 μ-loop set serial transfers device₀ at₀ device at = length transfers - at
 
 pub replay-all-spec : {M : Type 1} → statement M
-replay-all-spec =
-    tie.close
-    (tie.spec Inv-loop μ-loop (λ c κs. search needs) (λ c. search needs) (λ c. search needs) (λ c. search needs) (λ c. search needs) (λ c κs. search needs)
-    (λ c. search needs) (λ c. search needs) (λ c. search needs) (λ c. search needs) (λ c. search needs) (λ c. search needs) (λ c κs. search needs)
-    (λ c. search needs) (λ c. search needs) (λ c. search needs) (λ c κs. search needs) (λ c. search needs) (λ c. search needs) (λ c. search needs)
-    (λ c. search needs))
+replay-all-spec = tie.close (tie.spec Inv-loop μ-loop (λ c κs. search needs) (λ c. search needs) (λ c. search needs) (λ c. search needs) (λ c. search needs)
+    (λ c κs. search needs) (λ c. search needs) (λ c. search needs) (λ c. search needs) (λ c. search needs) (λ c. search needs) (λ c. search needs)
+    (λ c κs. search needs) (λ c. search needs) (λ c. search needs) (λ c. search needs) (λ c κs. search needs) (λ c. search needs) (λ c. search needs)
+    (λ c. search needs) (λ c. search needs))

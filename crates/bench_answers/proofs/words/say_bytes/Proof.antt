@@ -1,7 +1,5 @@
 -- `bench_answers::words::say_bytes` is safe and ends. No axiom.
-use Prim.Native.Nat.{_-_, _≤_}
-use lib.ListN.{length}
-use borrow.Author.Needs.{needs}
+use Rattle.octets.proofs.Vocabulary.{_-_, _≤_, length, needs}
 use Rattle.bench_answers.proofs.words.say_bytes.Statement.{statement}
 use Rattle.bench_answers.proofs.words.say_bytes.Tie as tie
 
@@ -12,7 +10,5 @@ abbrev μ-loop : tie.MeasureT-loop
 μ-loop bytes most k₀ t3 k = length bytes - k
 
 pub say-bytes-spec : {M : Type 1} → statement M
-say-bytes-spec =
-    tie.close
-    (tie.spec Inv-loop μ-loop (λ c. search needs) (λ c. search needs) (λ c κs. search needs) (λ c. search needs) (λ c. search needs) (λ c κs. search needs)
-    (λ c. search needs) (λ c. search needs) (λ c. search needs) (λ c. search needs))
+say-bytes-spec = tie.close (tie.spec Inv-loop μ-loop (λ c. search needs) (λ c. search needs) (λ c κs. search needs) (λ c. search needs) (λ c. search needs)
+    (λ c κs. search needs) (λ c. search needs) (λ c. search needs) (λ c. search needs) (λ c. search needs))

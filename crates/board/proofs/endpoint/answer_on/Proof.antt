@@ -1,6 +1,5 @@
 -- `board::endpoint::answer_on` meets its contract, by the image's length. No axiom.
-use mathlib.Core.Path.{sym, ap, _∙_}
-use borrow.Author.Needs.{needs}
+use Rattle.octets.proofs.Vocabulary.{sym, ap, _∙_, needs}
 use Rattle.records.specs.declared.Device.{Device}
 use Rattle.steps.specs.Gathering.{viewIn, endpointIn}
 use Rattle.board.proofs.EndpointImages.{short, refused, whole}

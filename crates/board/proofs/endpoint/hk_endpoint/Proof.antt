@@ -1,8 +1,5 @@
 -- `board::endpoint::hk_endpoint` meets its contract: the answer's number and part. No axiom.
-use Prim.Native.Nat.{ℕ}
-use mathlib.Core.Path.{_≡_, sym, ap, _∙_}
-use mathlib.Core.Bool.{false}
-use borrow.Author.Needs.{needs}
+use Rattle.octets.proofs.Vocabulary.{_≡_, sym, ap, _∙_, ℕ, false, needs}
 use Rattle.descriptors.specs.Limits.{fullSpeed}
 use Rattle.sets.specs.Opening.{lent}
 use Rattle.events.specs.Answer.{numberOf, partOf}
@@ -13,9 +10,6 @@ use Rattle.board.proofs.EndpointImages.{inside}
 use Rattle.board.proofs.Spots.{lies-in}
 use Rattle.board.proofs.endpoint.hk_endpoint.Statement.{statement}
 use Rattle.board.proofs.endpoint.hk_endpoint.Tie as tie
-
-answer-on-requires : tie.Need-answer-on-requires
-answer-on-requires c κs = λ z. (fullSpeed, sym (c .opening .ensures) ∙ z)
 
 -- the answer
 answered : (c : tie.After-answer-on) → let a = c .before .before .before .before .before .args in c .answer-on .result ≡ endpointOn (lent (a .set .now) (a .serial .now)) (a .image .now) (a .number)
@@ -43,4 +37,4 @@ returns c =
 
 pub hk-endpoint-spec : {M : Type 1} → statement M
 hk-endpoint-spec =
-    tie.close (tie.spec (λ c κs. search needs) answer-on-requires part-requires (λ c κs. search needs) returns)
+    tie.close (tie.spec (λ c κs. search needs) (λ c κs. λ z. (fullSpeed, sym (c .opening .ensures) ∙ z)) part-requires (λ c κs. search needs) returns)

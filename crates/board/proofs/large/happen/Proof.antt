@@ -1,6 +1,5 @@
 -- `board::large::happen` meets its contract: the one set is in use. No axiom.
-use mathlib.Core.Path.{sym, ap, _∙_}
-use borrow.Author.Needs.{needs}
+use Rattle.octets.proofs.Vocabulary.{sym, ap, _∙_, needs}
 use Rattle.sets.specs.Opening.{lent}
 use Rattle.events.specs.Step.{Reply}
 use Rattle.steps.proofs.Steps.{event-in}

@@ -1,7 +1,5 @@
 -- `board::large::happen_two` meets its contract: the set in use of two. No axiom.
-use mathlib.Core.Path.{_≡_, refl, ap, _∙_}
-use lib.Dec.{eqb}
-use borrow.Author.Needs.{needs}
+use Rattle.octets.proofs.Vocabulary.{_≡_, refl, ap, _∙_, eqb, needs}
 use Rattle.octets.specs.Sentences.{pick}
 use Rattle.sets.specs.Pair.{openingTwo}
 use Rattle.events.specs.Step.{Reply}

@@ -1,6 +1,5 @@
 -- `board::large::hk_table_event` meets its contract: the event's answer, handed out. No axiom.
-use mathlib.Core.Path.{_≡_, ap, _∙_}
-use borrow.Author.Needs.{needs}
+use Rattle.octets.proofs.Vocabulary.{_≡_, ap, _∙_, needs}
 use Rattle.sets.specs.Opening.{lent}
 use Rattle.records.specs.Image.{deviceOf}
 use Rattle.events.specs.declared.Event.{Event}

@@ -1,6 +1,5 @@
 -- `board::large::hk_two_table_event` meets its contract: the answer of the set in use, handed out. No axiom.
-use mathlib.Core.Path.{_≡_, ap, _∙_}
-use borrow.Author.Needs.{needs}
+use Rattle.octets.proofs.Vocabulary.{_≡_, ap, _∙_, needs}
 use Rattle.sets.specs.Opening.{lentTwo}
 use Rattle.events.specs.declared.Event.{Event}
 use Rattle.events.specs.Step.{event}
@@ -39,13 +38,5 @@ returns c =
     }
 
 pub hk-two-table-event-spec : {M : Type 1} → statement M
-hk-two-table-event-spec =
-    tie.close
-    (tie.spec
-    (λ c κs. search needs)
-    (λ c κs. search needs)
-    (λ c κs. search needs)
-    (λ c κs. search needs)
-    hand-out-of-requires
-    (λ c. search needs)
-    returns)
+hk-two-table-event-spec = tie.close (tie.spec (λ c κs. search needs) (λ c κs. search needs) (λ c κs. search needs) (λ c κs. search needs) hand-out-of-requires
+    (λ c. search needs) returns)

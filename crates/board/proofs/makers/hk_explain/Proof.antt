@@ -1,6 +1,5 @@
 -- `board::makers::hk_explain` meets its contract: explain's own, at full speed. No axiom.
-use mathlib.Core.Path.{ap, _∙_}
-use borrow.Author.Needs.{needs}
+use Rattle.octets.proofs.Vocabulary.{ap, _∙_, needs}
 use Rattle.descriptors.specs.Limits.{fullSpeed}
 use Rattle.rules.proofs.Told.{told-number}
 use Rattle.board.proofs.makers.hk_explain.Statement.{statement}

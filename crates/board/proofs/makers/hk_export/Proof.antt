@@ -1,6 +1,5 @@
 -- `board::makers::hk_export` meets its contract: export's own. No axiom.
-use native.Mathlib.Omega.{arith}
-use borrow.Author.Needs.{needs}
+use Rattle.octets.proofs.Vocabulary.{arith, needs}
 use Rattle.board.proofs.makers.hk_export.Statement.{statement}
 use Rattle.board.proofs.makers.hk_export.Tie as tie
 

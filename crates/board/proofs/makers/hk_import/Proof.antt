@@ -1,7 +1,5 @@
 -- `board::makers::hk_import` meets its contract: import's own, and the set's length. No axiom.
-use native.Mathlib.Omega.{arith}
-use mathlib.Core.Path.{_∙_}
-use borrow.Author.Needs.{needs}
+use Rattle.octets.proofs.Vocabulary.{_∙_, arith, needs}
 use Rattle.dumps.specs.Dump.{piecesFor}
 use Rattle.set_writer.proofs.Writing.{counted}
 use Rattle.board.proofs.makers.hk_import.Statement.{statement}

@@ -1,6 +1,5 @@
 -- `board::makers::hk_super_explain` meets its contract: explain's own, for SuperSpeed. No axiom.
-use mathlib.Core.Path.{ap, _∙_}
-use borrow.Author.Needs.{needs}
+use Rattle.octets.proofs.Vocabulary.{ap, _∙_, needs}
 use Rattle.descriptors.specs.Limits.{superSpeed}
 use Rattle.rules.proofs.Told.{told-number}
 use Rattle.board.proofs.makers.hk_super_explain.Statement.{statement}

@@ -1,8 +1,6 @@
 -- `board::makers::hk_super_open` meets its contract: an image of another length, and the rest. No axiom.
-use mathlib.Core.Path.{ap, _∙_}
-use borrow.Author.Tests.{eq-eqb, ne-eqb}
+use Rattle.octets.proofs.Vocabulary.{ap, _∙_, needs, eq-eqb, ne-eqb}
 use Rattle.records.specs.Image.{imageOf}
-use borrow.Author.Needs.{needs}
 use Rattle.board.proofs.makers.hk_super_open.Statement.{statement}
 use Rattle.board.proofs.makers.hk_super_open.Tie as tie
 
@@ -18,6 +16,5 @@ returns-2 c =
     }
 
 pub hk-super-open-spec : {M : Type 1} → statement M
-hk-super-open-spec =
-    tie.close
-    (tie.spec returns (λ c κs. search needs) (λ c κs. search needs) (λ c κs. search needs) (λ c κs. search needs) (λ c. search needs) returns-2)
+hk-super-open-spec = tie.close (tie.spec returns (λ c κs. search needs) (λ c κs. search needs) (λ c κs. search needs) (λ c κs. search needs) (λ c. search needs)
+    returns-2)

@@ -1,7 +1,5 @@
 -- `board::makers::hk_trim` meets its contract: trim's own, at full speed, and the set's length. No axiom.
-use native.Mathlib.Omega.{arith}
-use mathlib.Core.Path.{_∙_}
-use borrow.Author.Needs.{needs}
+use Rattle.octets.proofs.Vocabulary.{_∙_, arith, needs}
 use Rattle.descriptors.specs.Limits.{fullSpeed}
 use Rattle.trimming.proofs.Total.{totalled}
 use Rattle.board.proofs.makers.hk_trim.Statement.{statement}
@@ -13,6 +11,4 @@ returns c =
     record { trims = t; counts = c .length-written .ensures ∙ totalled fullSpeed t; octets = λ k. omega (arith, c .before .before .before .before .before .before .before .before .slice-known .given k) }
 
 pub hk-trim-spec : {M : Type 1} → statement M
-hk-trim-spec =
-    tie.close
-    (tie.spec (λ c κs. search needs) (λ c κs. search needs) (λ c κs. search needs) (λ c. search needs) returns)
+hk-trim-spec = tie.close (tie.spec (λ c κs. search needs) (λ c κs. search needs) (λ c κs. search needs) (λ c. search needs) returns)

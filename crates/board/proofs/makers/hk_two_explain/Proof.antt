@@ -1,6 +1,5 @@
 -- `board::makers::hk_two_explain` meets its contract: explain_two's own. No axiom.
-use mathlib.Core.Path.{ap, _∙_}
-use borrow.Author.Needs.{needs}
+use Rattle.octets.proofs.Vocabulary.{ap, _∙_, needs}
 use Rattle.pair_rules.proofs.First.{told-number}
 use Rattle.board.proofs.makers.hk_two_explain.Statement.{statement}
 use Rattle.board.proofs.makers.hk_two_explain.Tie as tie

@@ -1,5 +1,5 @@
 -- `board::numbers::hand_out` meets its contract: the one set is in use. No axiom.
-use borrow.Author.Needs.{needs}
+use Rattle.octets.proofs.Vocabulary.{needs}
 use Rattle.board.proofs.numbers.hand_out.Statement.{statement}
 use Rattle.board.proofs.numbers.hand_out.Tie as tie
 

@@ -1,5 +1,5 @@
 -- `board::numbers::hand_out_of` meets its contract: by what the answer hands out. No axiom.
-use borrow.Author.Needs.{needs}
+use Rattle.octets.proofs.Vocabulary.{needs}
 use Rattle.events.specs.Answer.{partOf}
 use Rattle.board.proofs.Lengths.{two-bytes}
 use Rattle.board.proofs.Spots.{lies-in}

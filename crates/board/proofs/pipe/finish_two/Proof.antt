@@ -1,9 +1,7 @@
 -- `board::pipe::finish_two` meets its contract: the set in use by the speed. No axiom.
-use mathlib.Core.Path.{refl, _∙_}
-use lib.Dec.{eqb}
+use Rattle.octets.proofs.Vocabulary.{refl, _∙_, eqb, needs}
 use Rattle.octets.specs.Sentences.{pick}
 use Rattle.board.proofs.Piping.{first-of, second-of, hands-used}
-use borrow.Author.Needs.{needs}
 use Rattle.board.proofs.pipe.finish_two.Statement.{statement}
 use Rattle.board.proofs.pipe.finish_two.Tie as tie
 

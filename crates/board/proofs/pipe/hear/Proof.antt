@@ -1,13 +1,9 @@
 -- `board::pipe::hear` meets its contract: what the library answered settles the pipe, or the transfer goes on. No axiom.
-use mathlib.Core.Path.{refl, sym, ap, _∙_}
-use mathlib.Core.List.{List}
-use Prim.Native.Nat.{ℕ}
-use lib.ListN.{length}
+use Rattle.octets.proofs.Vocabulary.{refl, sym, ap, _∙_, ℕ, List, length, needs}
 use Rattle.sets.specs.Opening.{lent}
 use Rattle.pipes.specs.declared.hearing.Moved.{Moved}
 use Rattle.pipes.specs.Pipe.{packetSize}
 use Rattle.board.proofs.Piping.{place-small, within, still-long, told-gets, going-gets}
-use borrow.Author.Needs.{needs}
 use Rattle.board.proofs.pipe.hear.Statement.{statement}
 use Rattle.board.proofs.pipe.hear.Tie as tie
 
@@ -46,7 +42,5 @@ returns-2 c =
     (looked .ensures .0) (c .before .if1 .left) (looked .ensures .1) (c .plain .ensures)
 
 pub hear-spec : {M : Type 1} → statement M
-hear-spec =
-    tie.close
-    (tie.spec (λ c κs. search needs) (λ c κs. search needs) (λ c κs. search needs) (λ c κs. search needs) (λ c κs. search needs) settle-requires
-    (λ c. search needs) (λ c. search needs) returns (λ c κs. search needs) (λ c. search needs) returns-2)
+hear-spec = tie.close (tie.spec (λ c κs. search needs) (λ c κs. search needs) (λ c κs. search needs) (λ c κs. search needs) (λ c κs. search needs)
+    settle-requires (λ c. search needs) (λ c. search needs) returns (λ c κs. search needs) (λ c. search needs) returns-2)

@@ -1,8 +1,5 @@
 -- `board::pipe::hear_two` meets its contract: as `hear`, with the set in use. No axiom.
-use mathlib.Core.Path.{_≡_, sym, ap, _∙_}
-use mathlib.Core.List.{List}
-use Prim.Native.Nat.{ℕ}
-use lib.ListN.{length}
+use Rattle.octets.proofs.Vocabulary.{_≡_, sym, ap, _∙_, ℕ, List, length, needs}
 use Rattle.sets.specs.Opening.{lentTwo}
 use Rattle.sets.specs.Device.{deviceBody, bMaxPacketSize0}
 use Rattle.events.specs.Step.{Reply}
@@ -11,7 +8,6 @@ use Rattle.pipes.specs.Pipe.{lengthsIn}
 use Rattle.pipes.specs.Hearing.{looked, pipeLooked}
 use Rattle.board.proofs.TwoSets.{used, chosen, openable, event-two}
 use Rattle.board.proofs.Piping.{place-small, within, still-long, told-gets, going-gets}
-use borrow.Author.Needs.{needs}
 use Rattle.board.proofs.pipe.hear_two.Statement.{statement}
 use Rattle.board.proofs.pipe.hear_two.Tie as tie
 
@@ -73,8 +69,6 @@ returns-2 c =
     (l .ensures .1 ∙ ap (λ (x : List ℕ). pipeLooked (lengthsIn x (a .serial .now) (a .reply .now)) (a .wire) (a .pipe .now)) u) (c .plain .ensures)
 
 pub hear-two-spec : {M : Type 1} → statement M
-hear-two-spec =
-    tie.close
-    (tie.spec (λ c κs. search needs) (λ c κs. search needs) (λ c κs. search needs) (λ c κs. search needs) (λ c κs. search needs) happen-requires
-    (λ c κs. search needs) settle-requires (λ c. search needs) (λ c. search needs) returns (λ c κs. search needs) (λ c. search needs) (λ c. search needs)
-    returns-2)
+hear-two-spec = tie.close (tie.spec (λ c κs. search needs) (λ c κs. search needs) (λ c κs. search needs) (λ c κs. search needs) (λ c κs. search needs)
+    happen-requires (λ c κs. search needs) settle-requires (λ c. search needs) (λ c. search needs) returns (λ c κs. search needs) (λ c. search needs)
+    (λ c. search needs) returns-2)

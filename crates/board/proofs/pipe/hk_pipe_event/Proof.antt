@@ -1,10 +1,9 @@
 -- `board::pipe::hk_pipe_event` meets its contract: what the event gets, handed out. No axiom.
-use mathlib.Core.Path.{refl}
+use Rattle.octets.proofs.Vocabulary.{refl, needs}
 use Rattle.sets.specs.Opening.{lent}
 use Rattle.pipes.specs.Pipe.{wireOf}
 use Rattle.board.specs.Exports.{spotOf}
 use Rattle.board.proofs.Piping.{answers-pipe}
-use borrow.Author.Needs.{needs}
 use Rattle.board.proofs.pipe.hk_pipe_event.Statement.{statement}
 use Rattle.board.proofs.pipe.hk_pipe_event.Tie as tie
 

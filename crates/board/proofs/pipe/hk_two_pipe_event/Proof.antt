@@ -1,13 +1,11 @@
 -- `board::pipe::hk_two_pipe_event` meets its contract: what the event gets, handed out; the part is of the set in use. No axiom.
-use mathlib.Core.Path.{refl, sym}
-use lib.Dec.{eqb}
+use Rattle.octets.proofs.Vocabulary.{refl, sym, eqb, needs}
 use Rattle.octets.specs.Sentences.{pick}
 use Rattle.sets.specs.Opening.{lentTwo}
 use Rattle.pipes.specs.Pipe.{wireOf}
 use Rattle.board.specs.Exports.{spotOf}
 use Rattle.board.proofs.TwoSets.{chosen, place}
 use Rattle.board.proofs.Piping.{first-of, second-of, answers-pipe}
-use borrow.Author.Needs.{needs}
 use Rattle.board.proofs.pipe.hk_two_pipe_event.Statement.{statement}
 use Rattle.board.proofs.pipe.hk_two_pipe_event.Tie as tie
 
@@ -27,6 +25,5 @@ returns c =
     (wire .result) (wireOf (a .kind) (a .value)) (h .result) _ _ (wire .ensures) (h .ensures) (f .0) (f .1 .0) (f .1 .1)
 
 pub hk-two-pipe-event-spec : {M : Type 1} → statement M
-hk-two-pipe-event-spec =
-    tie.close
-    (tie.spec (λ c κs. search needs) (λ c κs. search needs) (λ c κs. search needs) (λ c κs. search needs) (λ c. search needs) (λ c. search needs) returns)
+hk-two-pipe-event-spec = tie.close (tie.spec (λ c κs. search needs) (λ c κs. search needs) (λ c κs. search needs) (λ c κs. search needs) (λ c. search needs)
+    (λ c. search needs) returns)

@@ -1,6 +1,5 @@
 -- `board::two::hk_two_endpoint` meets its contract: the answer's number, and its part of the set in use. No axiom.
-use mathlib.Core.Path.{_≡_, ap, _∙_}
-use borrow.Author.Needs.{needs}
+use Rattle.octets.proofs.Vocabulary.{_≡_, ap, _∙_, needs}
 use Rattle.sets.specs.Opening.{lentTwo}
 use Rattle.events.specs.Answer.{numberOf, partOf}
 use Rattle.steps.specs.Endpoint.{endpointOn}
@@ -54,13 +53,5 @@ returns c =
     }
 
 pub hk-two-endpoint-spec : {M : Type 1} → statement M
-hk-two-endpoint-spec =
-    tie.close
-    (tie.spec
-    (λ c κs. search needs)
-    (λ c κs. search needs)
-    (λ c κs. search needs)
-    answer-on-requires
-    part-requires
-    (λ c κs. search needs)
-    returns)
+hk-two-endpoint-spec = tie.close (tie.spec (λ c κs. search needs) (λ c κs. search needs) (λ c κs. search needs) answer-on-requires part-requires
+    (λ c κs. search needs) returns)

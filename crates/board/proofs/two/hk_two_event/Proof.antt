@@ -1,6 +1,5 @@
 -- `board::two::hk_two_event` meets its contract: the answer of the set in use, handed out. No axiom.
-use mathlib.Core.Path.{_≡_, ap, _∙_}
-use borrow.Author.Needs.{needs}
+use Rattle.octets.proofs.Vocabulary.{_≡_, ap, _∙_, needs}
 use Rattle.sets.specs.Opening.{lentTwo}
 use Rattle.events.specs.Step.{Reply, event}
 use Rattle.promises.specs.Refusals.{eventInside}
@@ -53,14 +52,5 @@ returns c =
     }
 
 pub hk-two-event-spec : {M : Type 1} → statement M
-hk-two-event-spec =
-    tie.close
-    (tie.spec
-    (λ c κs. search needs)
-    (λ c κs. search needs)
-    (λ c κs. search needs)
-    (λ c κs. search needs)
-    happen-requires
-    hand-out-of-requires
-    (λ c. search needs)
-    returns)
+hk-two-event-spec = tie.close (tie.spec (λ c κs. search needs) (λ c κs. search needs) (λ c κs. search needs) (λ c κs. search needs) happen-requires
+    hand-out-of-requires (λ c. search needs) returns)

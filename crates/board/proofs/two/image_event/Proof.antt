@@ -1,6 +1,5 @@
 -- `board::two::image_event` meets its contract: the answer of the set in use at the record of the image, handed out. No axiom.
-use mathlib.Core.Path.{_≡_, ap, _∙_}
-use borrow.Author.Needs.{needs}
+use Rattle.octets.proofs.Vocabulary.{_≡_, ap, _∙_, needs}
 use Rattle.sets.specs.Opening.{lentTwo}
 use Rattle.records.specs.Image.{deviceOf}
 use Rattle.events.specs.declared.Outcome.{Outcome}
@@ -53,14 +52,5 @@ returns c =
     }
 
 pub image-event-spec : {M : Type 1} → statement M
-image-event-spec =
-    tie.close
-    (tie.spec
-    (λ c κs. search needs)
-    (λ c κs. search needs)
-    (λ c κs. search needs)
-    (λ c κs. search needs)
-    reply-in-requires
-    hand-out-of-requires
-    (λ c. search needs)
-    returns)
+image-event-spec = tie.close (tie.spec (λ c κs. search needs) (λ c κs. search needs) (λ c κs. search needs) (λ c κs. search needs) reply-in-requires
+    hand-out-of-requires (λ c. search needs) returns)

@@ -1,13 +1,5 @@
 -- `descriptors::check::good_companions` meets its contract: what is asked of all is asked of the descriptors ahead. No axiom.
-use Prim.Native.Nat.{_-_, _≤_}
-use native.Mathlib.Omega.{arith}
-use mathlib.Core.Path.{_≡_, refl, sym, ap, _∙_}
-use mathlib.Core.Bool.{Bool, true, false, not}
-use Prim.Native.Nat.{ℕ}
-use lib.ListN.{length, drop}
-use lib.Dec.{eqb}
-use borrow.Author.Tests.{not-true, not-false}
-use borrow.Author.Needs.{needs}
+use Rattle.octets.proofs.Vocabulary.{_≡_, refl, sym, ap, _∙_, _-_, _≤_, ℕ, Bool, true, false, not, length, drop, eqb, arith, needs, not-true, not-false}
 use Rattle.octets.specs.Sentences.{_⇒_}
 use Rattle.octets.proofs.Sentences.{never}
 use Rattle.descriptors.specs.Cut.{cut}
@@ -69,24 +61,6 @@ returns-4 : tie.Need-returns-4 Inv-loop μ-loop
 returns-4 c = asked (c .before .before .before .before .before .args .limits .companions) (c .before .before .if1 .left) (walk-end (c .before .loop .inv) (c .loop-test .left))
 
 pub good-companions-spec : {M : Type 1} → statement M
-good-companions-spec =
-    tie.close
-    (tie.spec
-    Inv-loop
-    μ-loop
-    returns
-    loop-holds
-    (λ c κs. search needs)
-    returns-2
-    (λ c. search needs)
-    (λ c. search needs)
-    part-is-accompanied-end
-    (λ c κs. search needs)
-    returns-3
-    (λ c. search needs)
-    (λ c. search needs)
-    part-peek-end
-    (λ c κs. search needs)
-    loop-less
-    loop-again
+good-companions-spec = tie.close (tie.spec Inv-loop μ-loop returns loop-holds (λ c κs. search needs) returns-2 (λ c. search needs) (λ c. search needs)
+    part-is-accompanied-end (λ c κs. search needs) returns-3 (λ c. search needs) (λ c. search needs) part-peek-end (λ c κs. search needs) loop-less loop-again
     returns-4)

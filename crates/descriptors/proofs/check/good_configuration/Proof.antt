@@ -1,11 +1,5 @@
 -- `descriptors::check::good_configuration` meets its contract. No axiom.
-use Prim.Native.Nat.{_<_, _≤_}
-use native.Mathlib.Omega.{arith}
-use mathlib.Core.Bool.{Bool, true, false, _&&_}
-use mathlib.Core.Path.{_≡_, sym, _∙_}
-use lib.ListN.{length, take, drop}
-use lib.Seq.{length-take-le}
-use borrow.Author.Tests.{not-true, not-false}
+use Rattle.octets.proofs.Vocabulary.{_≡_, sym, _∙_, _<_, _≤_, Bool, true, false, _&&_, length, take, drop, length-take-le, arith, needs, not-true, not-false}
 use Rattle.octets.specs.Sentences.{_⇒_, every}
 use Rattle.octets.specs.Table.{has}
 use Rattle.descriptors.specs.Cut.{cut}
@@ -16,7 +10,6 @@ use Rattle.descriptors.specs.Configuration.{bNumInterfaces, iConfigurati
 use Rattle.descriptors.proofs.CheckWhole.{check-none, head-inside, check-head, head-short, companions-apart}
 use Rattle.descriptors.proofs.CheckReferences.{references-behind, refused, with-more}
 use Rattle.descriptors.proofs.SequenceRules.{part-bytes}
-use borrow.Author.Needs.{needs}
 use Rattle.descriptors.proofs.check.good_configuration.Statement.{statement}
 use Rattle.descriptors.proofs.check.good_configuration.Tie as tie
 
@@ -89,19 +82,5 @@ returns-3 c =
     (a .limits .companions ⇒ walked accompanying false before cs) (has (a .names .now) (iConfiguration body)) (rw (c .before .before .before .before .before .before .peek .ensures) at (c .before .before .before .before .before .good-rest .ensures)))
 
 pub good-configuration-spec : {M : Type 1} → statement M
-good-configuration-spec =
-    tie.close
-    (tie.spec
-    (λ c κs. search needs)
-    (λ c κs. search needs)
-    returns
-    slice-aggregate-head
-    (λ c κs. search needs)
-    (λ c κs. search needs)
-    returns-2
-    (λ c κs. search needs)
-    good-rest-requires
-    (λ c κs. search needs)
-    (λ c κs. search needs)
-    (λ c κs. search needs)
-    returns-3)
+good-configuration-spec = tie.close (tie.spec (λ c κs. search needs) (λ c κs. search needs) returns slice-aggregate-head (λ c κs. search needs)
+    (λ c κs. search needs) returns-2 (λ c κs. search needs) good-rest-requires (λ c κs. search needs) (λ c κs. search needs) (λ c κs. search needs) returns-3)

@@ -1,8 +1,5 @@
 -- `descriptors::check::good_head` meets its contract: of a short one no more is asked. No axiom.
-use mathlib.Core.Bool.{and-true, and-false}
-use lib.ListN.{length}
-use borrow.Author.Needs.{needs}
-use borrow.Author.Tests.{lt-leb, le-leb}
+use Rattle.octets.proofs.Vocabulary.{and-true, and-false, length, needs, lt-leb, le-leb}
 use Rattle.descriptors.proofs.check.good_head.Statement.{statement}
 use Rattle.descriptors.proofs.check.good_head.Tie as tie
 
@@ -15,14 +12,5 @@ returns-2 c =
     rw (le-leb 9 (length (s .before .before .args .d .now)) (s .if1 .left), and-true) (cc)
 
 pub good-head-spec : {M : Type 1} → statement M
-good-head-spec =
-    tie.close
-    (tie.spec
-    returns
-    (λ c κs. search needs)
-    (λ c κs. search needs)
-    (λ c κs. search needs)
-    (λ c κs. search needs)
-    (λ c. search needs)
-    (λ c κs. search needs)
-    returns-2)
+good-head-spec = tie.close (tie.spec returns (λ c κs. search needs) (λ c κs. search needs) (λ c κs. search needs) (λ c κs. search needs) (λ c. search needs)
+    (λ c κs. search needs) returns-2)

@@ -1,13 +1,5 @@
 -- `descriptors::check::good_rest` meets its contract: what the whole walk says, the walk from each place says. No axiom.
-use Prim.Native.Nat.{ℕ, _+_, _-_, _<_}
-use mathlib.Core.List.{List}
-use mathlib.Core.Bool.{true}
-use native.Mathlib.Omega.{arith}
-use mathlib.Core.Path.{_≡_, refl, sym, _∙_}
-use mathlib.Core.Logic.{⊎-elim}
-use lib.ListN.{length}
-use borrow.Author.Tests.{not-true, not-false}
-use borrow.Author.Needs.{needs}
+use Rattle.octets.proofs.Vocabulary.{_≡_, refl, sym, _∙_, ℕ, _+_, _-_, _<_, List, true, ⊎-elim, length, arith, needs, not-true, not-false}
 use Rattle.octets.specs.Octets.{byte}
 use Rattle.descriptors.specs.Walk.{before, stepsOn, Plain}
 use Rattle.descriptors.specs.Check.{beginning}
@@ -130,28 +122,6 @@ returns c =
     (c .before .before .loop-test .came))
 
 pub good-rest-spec : {M : Type 1} → statement M
-good-rest-spec =
-    tie.close
-    (tie.spec
-    Inv-loop
-    μ-loop
-    (λ c κs. search needs)
-    sub-last
-    loop-holds
-    shared-slice-read-size
-    cast-size
-    add-t
-    shared-slice-read-t
-    add-end
-    behind-requires
-    loop-less
-    loop-again
-    step-over-requires
-    sub-turn
-    part-turn-start
-    part-turn-end
-    turn-requires
-    loop-less-2
-    loop-again-2
-    (λ c κs. search needs)
-    returns)
+good-rest-spec = tie.close (tie.spec Inv-loop μ-loop (λ c κs. search needs) sub-last loop-holds shared-slice-read-size cast-size add-t shared-slice-read-t
+    add-end behind-requires loop-less loop-again step-over-requires sub-turn part-turn-start part-turn-end turn-requires loop-less-2 loop-again-2
+    (λ c κs. search needs) returns)

@@ -1,7 +1,6 @@
 -- `descriptors::check::may_list` meets its contract: each rule that fails. No axiom.
-use mathlib.Core.Path.{sym, _∙_}
+use Rattle.octets.proofs.Vocabulary.{sym, _∙_, needs}
 use Rattle.descriptors.proofs.SequenceRules.{by-kind}
-use borrow.Author.Needs.{needs}
 use Rattle.descriptors.proofs.check.may_list.Statement.{statement}
 use Rattle.descriptors.proofs.check.may_list.Tie as tie
 
@@ -17,13 +16,5 @@ returns-2 c =
     sym (by-kind (a .limits) (a .order) (a .d .now) ∙ rw (sym (c .before .may-come .ensures) ∙ c .if1 .left))
 
 pub may-list-spec : {M : Type 1} → statement M
-may-list-spec =
-    tie.close
-    (tie.spec
-    (λ c κs. search needs)
-    (λ c κs. search needs)
-    (λ c κs. search needs)
-    (λ c κs. search needs)
-    (λ c κs. search needs)
-    returns
+may-list-spec = tie.close (tie.spec (λ c κs. search needs) (λ c κs. search needs) (λ c κs. search needs) (λ c κs. search needs) (λ c κs. search needs) returns
     returns-2)

@@ -1,7 +1,5 @@
 -- `descriptors::check::still_refers` meets its contract. No axiom.
-use mathlib.Core.Path.{sym, _∙_}
-use mathlib.Core.Bool.{and-true, and-false}
-use borrow.Author.Needs.{needs}
+use Rattle.octets.proofs.Vocabulary.{sym, _∙_, and-true, and-false, needs}
 use Rattle.descriptors.proofs.check.still_refers.Statement.{statement}
 use Rattle.descriptors.proofs.check.still_refers.Tie as tie
 

@@ -1,13 +1,8 @@
 -- `descriptors::check::turn` meets its contract: by its type. No axiom.
-use mathlib.Core.Path.{refl, sym, ap, _∙_}
-use mathlib.Core.List.{[], _∷_}
-use mathlib.Core.Bool.{not}
-use lib.Dec.{leb}
-use borrow.Author.Tests.{ne-eqb, leb-true}
+use Rattle.octets.proofs.Vocabulary.{refl, sym, ap, _∙_, [], _∷_, not, leb, needs, ne-eqb, leb-true}
 use Rattle.octets.proofs.Sentences.{never, conjunct}
 use Rattle.descriptors.specs.Descriptor.{typeAllowed, goodEndpoint}
 use Rattle.descriptors.specs.Sequence.{free}
-use borrow.Author.Needs.{needs}
 use Rattle.descriptors.proofs.check.turn.Statement.{statement}
 use Rattle.descriptors.proofs.check.turn.Tie as tie
 
@@ -36,9 +31,6 @@ returns-2 c =
       starts = λ _ g. never g (c .stop .ensures);
       passes = λ _ k. never (rw p) k;
     }
-
-begin-requires : tie.Need-begin-requires
-begin-requires c κs = c .before .before .before .before .pre
 
 returns-3 : tie.Need-returns-3
 returns-3 c =
@@ -75,20 +67,6 @@ returns-5 c =
     }
 
 pub turn-spec : {M : Type 1} → statement M
-turn-spec =
-    tie.close
-    (tie.spec
-    (λ c κs. search needs)
-    (λ c κs. search needs)
-    list-requires
-    returns
-    (λ c κs. search needs)
-    returns-2
-    begin-requires
-    (λ c κs. search needs)
-    (λ c κs. search needs)
-    returns-3
-    (λ c κs. search needs)
-    returns-4
-    (λ c κs. search needs)
-    returns-5)
+turn-spec = tie.close (tie.spec (λ c κs. search needs) (λ c κs. search needs) list-requires returns (λ c κs. search needs) returns-2
+    (λ c κs. c .before .before .before .before .pre) (λ c κs. search needs) (λ c κs. search needs) returns-3 (λ c κs. search needs) returns-4
+    (λ c κs. search needs) returns-5)

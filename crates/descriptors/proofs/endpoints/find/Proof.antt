@@ -1,9 +1,5 @@
 -- `descriptors::endpoints::find` meets its contract: the walk from each descriptor finds what the whole walk finds. No axiom.
-use Prim.Native.Nat.{_+_, _-_}
-use native.Mathlib.Omega.{arith}
-use mathlib.Core.Path.{_≡_, refl, _∙_}
-use lib.ListN.{length, drop}
-use borrow.Author.Needs.{needs}
+use Rattle.octets.proofs.Vocabulary.{_≡_, refl, _∙_, _+_, _-_, length, drop, arith, needs}
 use Rattle.descriptors.specs.Cut.{cut}
 use Rattle.descriptors.specs.Walk.{before, standIn, paceOf, walked}
 use Rattle.descriptors.specs.Seek.{Seek, seeking}
@@ -77,23 +73,6 @@ returns-2 : tie.Need-returns-2 Inv-loop μ-loop
 returns-2 c = walk-end (c .before .loop .inv .1) (c .loop-test .left) ∙ finds _ (c .before .before .before .before .args .body .now) (c .before .before .before .before .pre) (c .before .before .before .before .args .number) (c .before .before .peek .ensures)
 
 pub find-spec : {M : Type 1} → statement M
-find-spec =
-    tie.close
-    (tie.spec
-    Inv-loop
-    μ-loop
-    (λ c κs. search needs)
-    (λ c. search needs)
-    loop-holds
-    step-over-requires
-    sub-lists-current
-    part-lists-current-start
-    part-lists-current-end
-    (λ c. search needs)
-    (λ c κs. search needs)
-    sub-t21
-    returns
-    (λ c κs. search needs)
-    loop-less
-    loop-again
+find-spec = tie.close (tie.spec Inv-loop μ-loop (λ c κs. search needs) (λ c. search needs) loop-holds step-over-requires sub-lists-current
+    part-lists-current-start part-lists-current-end (λ c. search needs) (λ c κs. search needs) sub-t21 returns (λ c κs. search needs) loop-less loop-again
     returns-2)

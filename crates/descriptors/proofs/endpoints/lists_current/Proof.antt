@@ -1,5 +1,5 @@
 -- `descriptors::endpoints::lists_current` meets its contract: by its type and where it stands. No axiom.
-use borrow.Author.Needs.{needs}
+use Rattle.octets.proofs.Vocabulary.{needs}
 use Rattle.descriptors.proofs.endpoints.lists_current.Statement.{statement}
 use Rattle.descriptors.proofs.endpoints.lists_current.Tie as tie
 

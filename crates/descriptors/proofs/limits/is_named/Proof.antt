@@ -1,7 +1,6 @@
 -- `descriptors::limits::is_named` meets its contract. No axiom.
-use mathlib.Core.Path.{sym}
+use Rattle.octets.proofs.Vocabulary.{sym, needs}
 use Rattle.octets.proofs.Bits.{bit-past}
-use borrow.Author.Needs.{needs}
 use Rattle.descriptors.proofs.limits.is_named.Statement.{statement}
 use Rattle.descriptors.proofs.limits.is_named.Tie as tie
 

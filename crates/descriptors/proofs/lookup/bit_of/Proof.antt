@@ -1,5 +1,5 @@
 -- `descriptors::lookup::bit_of` meets its contract. No axiom.
-use borrow.Author.Needs.{needs}
+use Rattle.octets.proofs.Vocabulary.{needs}
 use Rattle.descriptors.proofs.lookup.bit_of.Statement.{statement}
 use Rattle.descriptors.proofs.lookup.bit_of.Tie as tie
 

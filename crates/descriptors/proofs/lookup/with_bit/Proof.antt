@@ -1,6 +1,5 @@
 -- `descriptors::lookup::with_bit` meets its contract: the bit of its address. No axiom.
-use mathlib.Core.Path.{_∙_, ap}
-use borrow.Author.Needs.{needs}
+use Rattle.octets.proofs.Vocabulary.{_∙_, ap, needs}
 use Rattle.octets.specs.Bit.{setBit}
 use Rattle.descriptors.specs.Configuration.{bitOf}
 use Rattle.descriptors.proofs.lookup.with_bit.Statement.{statement}
@@ -12,5 +11,4 @@ returns c =
     (c .set-bit .ensures ∙ ap (setBit (c .before .before .before .before .before .args .bits)) (c .before .bit-of .ensures .0 ∙ ap bitOf (c .before .before .peek .ensures)))
 
 pub with-bit-spec : {M : Type 1} → statement M
-with-bit-spec =
-    tie.close (tie.spec (λ c κs. search needs) (λ c κs. search needs) (λ c κs. search needs) returns (λ c. search needs))
+with-bit-spec = tie.close (tie.spec (λ c κs. search needs) (λ c κs. search needs) (λ c κs. search needs) returns (λ c. search needs))

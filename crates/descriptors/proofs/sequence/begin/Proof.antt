@@ -1,9 +1,6 @@
 -- `descriptors::sequence::begin` meets its contract: by its length, the endpoints still to come, and its number. No axiom.
-use mathlib.Core.Path.{refl, sym, _∙_}
-use mathlib.Core.Bool.{and-false}
-use borrow.Author.Tests.{eq-eqb, ne-eqb, lt-leb, le-leb}
+use Rattle.octets.proofs.Vocabulary.{refl, sym, _∙_, and-false, needs, eq-eqb, ne-eqb, lt-leb, le-leb}
 use Rattle.octets.proofs.Sentences.{never}
-use borrow.Author.Needs.{needs}
 use Rattle.descriptors.proofs.sequence.begin.Statement.{statement}
 use Rattle.descriptors.proofs.sequence.begin.Tie as tie
 
@@ -12,9 +9,6 @@ returns c = record { may = rw (lt-leb 9 _ (c .if1 .taken)); on = λ e. never e r
 
 returns-2 : tie.Need-returns-2
 returns-2 c = record { may = simp (ne-eqb (c .before .before .before .before .args .order .coming) 0 (c .if2 .taken), and-false); on = λ e. never e refl }
-
-place-requires : tie.Need-place-requires
-place-requires c κs = c .before .before .before .before .pre
 
 returns-3 : tie.Need-returns-3
 returns-3 c =
@@ -33,13 +27,5 @@ returns-4 c =
     record { may = rw (l, z) (sym (c .if3 .left) ∙ c .before .place .ensures .may); on = λ e. never e refl }
 
 pub begin-spec : {M : Type 1} → statement M
-begin-spec =
-    tie.close
-    (tie.spec
-    returns
-    returns-2
-    place-requires
-    (λ c κs. search needs)
-    (λ c. search needs)
-    returns-3
+begin-spec = tie.close (tie.spec returns returns-2 (λ c κs. c .before .before .before .before .pre) (λ c κs. search needs) (λ c. search needs) returns-3
     returns-4)

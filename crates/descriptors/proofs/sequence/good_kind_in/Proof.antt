@@ -1,7 +1,6 @@
 -- `descriptors::sequence::good_kind_in` meets its contract: by the attributes. No axiom.
-use mathlib.Core.Path.{_∙_}
+use Rattle.octets.proofs.Vocabulary.{_∙_, needs}
 use Rattle.descriptors.proofs.SequenceRules.{kind-interrupt, kind-bulk, kind-isochronous, kind-none}
-use borrow.Author.Needs.{needs}
 use Rattle.descriptors.proofs.sequence.good_kind_in.Statement.{statement}
 use Rattle.descriptors.proofs.sequence.good_kind_in.Tie as tie
 
@@ -26,15 +25,5 @@ returns-4 c =
     λ limits e. kind-none limits (a .attributes) (a .size) (a .interval) (c .before .before .if1 .left) (c .before .if2 .left) (c .if3 .left)
 
 pub good-kind-in-spec : {M : Type 1} → statement M
-good-kind-in-spec =
-    tie.close
-    (tie.spec
-    (λ c κs. search needs)
-    (λ c κs. search needs)
-    returns
-    (λ c κs. search needs)
-    returns-2
-    (λ c κs. search needs)
-    (λ c κs. search needs)
-    returns-3
-    returns-4)
+good-kind-in-spec = tie.close (tie.spec (λ c κs. search needs) (λ c κs. search needs) returns (λ c κs. search needs) returns-2 (λ c κs. search needs)
+    (λ c κs. search needs) returns-3 returns-4)

@@ -1,21 +1,8 @@
 -- `descriptors::sequence::may_come` meets its contract: each rule that fails. No axiom.
-use native.Mathlib.Omega.{arith}
-use mathlib.Core.Bool.{and-false, not}
-use mathlib.Core.Path.{sym, ap, _∙_}
-use borrow.Author.Tests.{lt-leb, le-leb}
+use Rattle.octets.proofs.Vocabulary.{sym, ap, _∙_, and-false, not, arith, needs, lt-leb, le-leb}
 use Rattle.descriptors.proofs.SequenceRules.{or-digit}
-use borrow.Author.Needs.{needs}
 use Rattle.descriptors.proofs.sequence.may_come.Statement.{statement}
 use Rattle.descriptors.proofs.sequence.may_come.Tie as tie
-
-returns : tie.Need-returns
-returns c = rw (lt-leb 7 _ (c .if1 .taken))
-
-returns-2 : tie.Need-returns-2
-returns-2 c = simp (c .if2 .taken, and-false)
-
-test-bit-requires : tie.Need-test-bit-requires
-test-bit-requires c κs = c .bit-of .ensures .1
 
 returns-3 : tie.Need-returns-3
 returns-3 c =
@@ -32,14 +19,5 @@ returns-4 c =
     simp (good, and-false)
 
 pub may-come-spec : {M : Type 1} → statement M
-may-come-spec =
-    tie.close
-    (tie.spec
-    returns
-    returns-2
-    (λ c κs. search needs)
-    (λ c κs. search needs)
-    (λ c κs. search needs)
-    test-bit-requires
-    returns-3
-    returns-4)
+may-come-spec = tie.close (tie.spec (λ c. rw (lt-leb 7 _ (c .if1 .taken))) (λ c. simp (c .if2 .taken, and-false)) (λ c κs. search needs) (λ c κs. search needs)
+    (λ c κs. search needs) (λ c κs. c .bit-of .ensures .1) returns-3 returns-4)

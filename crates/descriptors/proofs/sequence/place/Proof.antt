@@ -1,14 +1,8 @@
 -- `descriptors::sequence::place` meets its contract: by its number. No axiom.
-use Prim.Native.Nat.{_+_}
-use mathlib.Core.Path.{_≡_, sym, _∙_}
-use mathlib.Core.Bool.{false, _&&_, and-false}
-use lib.Dec.{eqb, ltb}
-use mathlib.Core.Logic.{⊎-elim}
-use borrow.Author.Tests.{eq-eqb, ne-eqb, lt-ltb, le-ltb}
+use Rattle.octets.proofs.Vocabulary.{_≡_, sym, _∙_, _+_, false, _&&_, and-false, ⊎-elim, eqb, ltb, needs, eq-eqb, ne-eqb, lt-ltb, le-ltb}
 use Rattle.octets.proofs.Sentences.{never}
 use Rattle.descriptors.specs.Sequence.{nextOf}
 use Rattle.descriptors.proofs.SequenceRules.{or-digit}
-use borrow.Author.Needs.{needs}
 use Rattle.descriptors.proofs.sequence.place.Statement.{statement}
 use Rattle.descriptors.proofs.sequence.place.Tie as tie
 
@@ -42,14 +36,4 @@ returns-4 c =
     record { may = c .refused2 .ensures ∙ rw q (sym not-so); on = λ g. never g (c .refused2 .ensures) }
 
 pub place-spec : {M : Type 1} → statement M
-place-spec =
-    tie.close
-    (tie.spec
-    (λ c. search needs)
-    returns
-    (λ c κs. search needs)
-    returns-2
-    (λ c κs. search needs)
-    returns-3
-    (λ c κs. search needs)
-    returns-4)
+place-spec = tie.close (tie.spec (λ c. search needs) returns (λ c κs. search needs) returns-2 (λ c κs. search needs) returns-3 (λ c κs. search needs) returns-4)

@@ -1,6 +1,5 @@
 -- `descriptors::survey::alternates_exist` meets its contract: two words tell it of all sixteen interfaces. No axiom.
-use mathlib.Core.Path.{_∙_}
-use borrow.Author.Needs.{needs}
+use Rattle.octets.proofs.Vocabulary.{_∙_, needs}
 use Rattle.descriptors.proofs.Alternates.{by-words, low-sixteen}
 use Rattle.descriptors.proofs.survey.alternates_exist.Statement.{statement}
 use Rattle.descriptors.proofs.survey.alternates_exist.Tie as tie

@@ -1,7 +1,5 @@
 -- `descriptors::survey::at_endpoint` meets its contract: by whether it stands under a setting, and whether that is current. No axiom.
-use mathlib.Core.Path.{sym, _∙_}
-use borrow.Author.Tests.{eq-eqb, ne-eqb}
-use borrow.Author.Needs.{needs}
+use Rattle.octets.proofs.Vocabulary.{sym, _∙_, needs, eq-eqb, ne-eqb}
 use Rattle.descriptors.proofs.Surveying.{current-adds, other-adds, outside-adds}
 use Rattle.descriptors.proofs.survey.at_endpoint.Statement.{statement}
 use Rattle.descriptors.proofs.survey.at_endpoint.Tie as tie
@@ -22,13 +20,4 @@ returns-3 : tie.Need-returns-3
 returns-3 c = let e = c .before .before .before in outside-adds (e .args .alternates .now) (e .args .asked) (e .args .seen) (e .args .stand) (e .args .d .now) (e .pre) (c .if1 .left)
 
 pub at-endpoint-spec : {M : Type 1} → statement M
-at-endpoint-spec =
-    tie.close
-    (tie.spec
-    (λ c. search needs)
-    (λ c κs. search needs)
-    (λ c κs. search needs)
-    returns
-    (λ c κs. search needs)
-    returns-2
-    returns-3)
+at-endpoint-spec = tie.close (tie.spec (λ c. search needs) (λ c κs. search needs) (λ c κs. search needs) returns (λ c κs. search needs) returns-2 returns-3)

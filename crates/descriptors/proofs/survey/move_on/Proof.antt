@@ -1,13 +1,8 @@
 -- `descriptors::survey::move_on` meets its contract: by the descriptor's type; one of another type adds nothing. No axiom.
-use mathlib.Core.Path.{sym, _∙_}
-use borrow.Author.Tests.{eq-eqb, ne-eqb}
-use borrow.Author.Needs.{needs}
+use Rattle.octets.proofs.Vocabulary.{sym, _∙_, needs, eq-eqb, ne-eqb}
 use Rattle.descriptors.proofs.Surveying.{adds-nothing}
 use Rattle.descriptors.proofs.survey.move_on.Statement.{statement}
 use Rattle.descriptors.proofs.survey.move_on.Tie as tie
-
-at-interface-requires : tie.Need-at-interface-requires
-at-interface-requires c κs = eq-eqb _ _ (sym (c .before .peek .ensures) ∙ c .if1 .taken)
 
 at-endpoint-requires : tie.Need-at-endpoint-requires
 at-endpoint-requires c κs = eq-eqb _ _ (sym (c .before .before .peek .ensures) ∙ c .if2 .taken)
@@ -20,6 +15,5 @@ returns-3 c =
     (ne-eqb _ _ (λ e. c .if2 .left (c .before .before .peek .ensures ∙ e))))
 
 pub move-on-spec : {M : Type 1} → statement M
-move-on-spec =
-    tie.close
-    (tie.spec (λ c κs. search needs) at-interface-requires (λ c. search needs) at-endpoint-requires (λ c. search needs) returns-3)
+move-on-spec = tie.close (tie.spec (λ c κs. search needs) (λ c κs. eq-eqb _ _ (sym (c .before .peek .ensures) ∙ c .if1 .taken)) (λ c. search needs)
+    at-endpoint-requires (λ c. search needs) returns-3)

@@ -1,12 +1,5 @@
 -- `descriptors::survey::moved` meets its contract: the bits of the interfaces passed are told. No axiom.
-use Prim.Native.Nat.{ℕ, _-_, _≤_}
-use native.Mathlib.Omega.{arith}
-use mathlib.Core.Bool.{_&&_}
-use mathlib.Core.Logic.{⊎-elim}
-use mathlib.Core.Path.{_≡_, sym, _∙_}
-use lib.Dec.{ltb}
-use borrow.Author.Needs.{needs}
-use borrow.Author.Tests.{eq-eqb, ne-eqb, le-ltb}
+use Rattle.octets.proofs.Vocabulary.{_≡_, sym, _∙_, ℕ, _-_, _≤_, _&&_, ⊎-elim, ltb, arith, needs, eq-eqb, ne-eqb, le-ltb}
 use Rattle.octets.specs.Bit.{bit}
 use Rattle.octets.proofs.Bits.{bit-zero}
 use Rattle.descriptors.proofs.Alternates.{notZero, moved-here, moved-not}
@@ -38,17 +31,5 @@ returns : tie.Need-returns Inv-loop μ-loop
 returns c = λ k. let e : c .before .loop .j ≡ 16 = omega arith in rw (← e) (c .before .loop .inv .1 k)
 
 pub moved-spec : {M : Type 1} → statement M
-moved-spec =
-    tie.close
-    (tie.spec
-    Inv-loop
-    μ-loop
-    loop-holds
-    (λ c. search needs)
-    (λ c. search needs)
-    (λ c κs. search needs)
-    (λ c κs. search needs)
-    (λ c. search needs)
-    (λ c. search needs)
-    loop-again
-    returns)
+moved-spec = tie.close (tie.spec Inv-loop μ-loop loop-holds (λ c. search needs) (λ c. search needs) (λ c κs. search needs) (λ c κs. search needs)
+    (λ c. search needs) (λ c. search needs) loop-again returns)

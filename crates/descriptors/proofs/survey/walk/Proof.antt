@@ -1,9 +1,5 @@
 -- `descriptors::survey::walk` meets its contract: what was seen and what is ahead tell of the whole. No axiom.
-use Prim.Native.Nat.{_-_}
-use native.Mathlib.Omega.{arith}
-use mathlib.Core.Path.{refl}
-use lib.ListN.{length, drop}
-use borrow.Author.Needs.{needs}
+use Rattle.octets.proofs.Vocabulary.{refl, _-_, length, drop, arith, needs}
 use Rattle.descriptors.specs.Cut.{cut}
 use Rattle.descriptors.specs.Walk.{before, standIn, paceOf, walked}
 use Rattle.descriptors.specs.Survey.{nothingSeen, surveying}
@@ -60,22 +56,5 @@ returns : tie.Need-returns Inv-loop μ-loop
 returns c = surveys _ _ (at-first (c .before .before .before .before .before .args .body .now) _ (c .before .before .before .before .before .pre) (c .before .before .peek .ensures)) (walk-end (c .before .loop .inv .1) (c .loop-test .left))
 
 pub walk-spec : {M : Type 1} → statement M
-walk-spec =
-    tie.close
-    (tie.spec
-    Inv-loop
-    μ-loop
-    (λ c κs. search needs)
-    (λ c κs. search needs)
-    (λ c. search needs)
-    loop-holds
-    step-over-requires
-    sub-move-on
-    part-move-on-start
-    part-move-on-end
-    (λ c. search needs)
-    (λ c κs. search needs)
-    behind-requires
-    loop-less
-    loop-again
-    returns)
+walk-spec = tie.close (tie.spec Inv-loop μ-loop (λ c κs. search needs) (λ c κs. search needs) (λ c. search needs) loop-holds step-over-requires sub-move-on
+    part-move-on-start part-move-on-end (λ c. search needs) (λ c κs. search needs) behind-requires loop-less loop-again returns)

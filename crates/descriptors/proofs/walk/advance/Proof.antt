@@ -1,8 +1,5 @@
 -- `descriptors::walk::advance` meets its contract: the three tests that stop it, and the step. No axiom.
-use mathlib.Core.Bool.{and-false}
-use borrow.Author.Tests.{lt-leb, le-leb, lt-ltb, le-ltb}
-use native.Mathlib.Omega.{arith}
-use borrow.Author.Needs.{needs}
+use Rattle.octets.proofs.Vocabulary.{and-false, arith, needs, lt-leb, le-leb, lt-ltb, le-ltb}
 use Rattle.descriptors.proofs.Walks.{stands-still}
 use Rattle.descriptors.proofs.walk.advance.Statement.{statement}
 use Rattle.descriptors.proofs.walk.advance.Tie as tie
@@ -22,17 +19,5 @@ step-over-requires c κs =
     rw (le-leb 2 _ (rw e at (c .before .before .if1 .left)), lt-ltb _ _ (c .before .if2 .left), le-leb _ _ (rw e at (c .if3 .left)))
 
 pub advance-spec : {M : Type 1} → statement M
-advance-spec =
-    tie.close
-    (tie.spec
-    (λ c κs. search needs)
-    (λ c. search needs)
-    (λ c κs. search needs)
-    returns
-    (λ c κs. search needs)
-    returns-2
-    (λ c. search needs)
-    (λ c κs. search needs)
-    returns-3
-    step-over-requires
-    (λ c. search needs))
+advance-spec = tie.close (tie.spec (λ c κs. search needs) (λ c. search needs) (λ c κs. search needs) returns (λ c κs. search needs) returns-2
+    (λ c. search needs) (λ c κs. search needs) returns-3 step-over-requires (λ c. search needs))

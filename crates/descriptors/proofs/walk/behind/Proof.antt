@@ -1,7 +1,5 @@
 -- `descriptors::walk::behind` meets its contract: descriptors of types that no walk looks at, two in a turn. No axiom.
-use Prim.Native.Nat.{_+_, _-_, _<_}
-use native.Mathlib.Omega.{arith}
-use lib.ListN.{length}
+use Rattle.octets.proofs.Vocabulary.{_+_, _-_, _<_, length, arith}
 use Rattle.octets.specs.Octets.{byte}
 use Rattle.descriptors.specs.Walk.{Plain, Plains, nothing, onward}
 use Rattle.descriptors.proofs.Plains.{plains-on, plains-after, kind-behind, kinds-length}
@@ -102,32 +100,6 @@ returns-6 : tie.Need-returns-6 Inv-loop μ-loop
 returns-6 c = c .before .loop .inv
 
 pub behind-spec : {M : Type 1} → statement M
-behind-spec =
-    tie.close
-    (tie.spec
-    Inv-loop
-    μ-loop
-    sub-kinds
-    part-kinds-start
-    (λ c. omega arith)
-    sub-last
-    loop-holds
-    shared-slice-read-first
-    cast-first
-    shared-slice-read-if1
-    returns
-    returns-2
-    add-next
-    returns-3
-    shared-slice-read-second
-    cast-second
-    shared-slice-read-if4
-    returns-4
-    returns-5
-    pass-run-requires
-    loop-less
-    loop-again
-    add-place
-    loop-less-2
-    loop-again-2
-    returns-6)
+behind-spec = tie.close (tie.spec Inv-loop μ-loop sub-kinds part-kinds-start (λ c. omega arith) sub-last loop-holds shared-slice-read-first cast-first
+    shared-slice-read-if1 returns returns-2 add-next returns-3 shared-slice-read-second cast-second shared-slice-read-if4 returns-4 returns-5 pass-run-requires
+    loop-less loop-again add-place loop-less-2 loop-again-2 returns-6)

@@ -1,8 +1,5 @@
 -- `descriptors::walk::pass_run` meets its contract: a run, as far as it goes. No axiom.
-use Prim.Native.Nat.{_+_, _-_, _<_}
-use native.Mathlib.Omega.{arith}
-use mathlib.Core.Path.{_≡_}
-use lib.ListN.{length}
+use Rattle.octets.proofs.Vocabulary.{_≡_, _+_, _-_, _<_, length, arith}
 use Rattle.octets.specs.Octets.{byte}
 use Rattle.descriptors.specs.Walk.{Plains, nothing, onward}
 use Rattle.descriptors.proofs.Plains.{kind-behind, kinds-length}
@@ -70,23 +67,5 @@ returns-4 : tie.Need-returns-4 Inv-loop μ-loop
 returns-4 c = c .before .loop .inv
 
 pub pass-run-spec : {M : Type 1} → statement M
-pass-run-spec =
-    tie.close
-    (tie.spec
-    Inv-loop
-    μ-loop
-    returns
-    sub-kinds
-    part-kinds-start
-    (λ c. omega arith)
-    sub-most
-    loop-holds
-    shared-slice-read-if2
-    cast-if2
-    returns-2
-    shared-slice-read-if3
-    returns-3
-    add-place
-    loop-less
-    loop-again
-    returns-4)
+pass-run-spec = tie.close (tie.spec Inv-loop μ-loop returns sub-kinds part-kinds-start (λ c. omega arith) sub-most loop-holds shared-slice-read-if2 cast-if2
+    returns-2 shared-slice-read-if3 returns-3 add-place loop-less loop-again returns-4)

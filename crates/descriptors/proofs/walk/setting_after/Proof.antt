@@ -1,8 +1,5 @@
 -- `descriptors::walk::setting_after` meets its contract: two bytes are one number, and its two digits are they. No axiom.
-use native.Mathlib.Omega.{arith}
-use mathlib.Core.Path.{sym, _∙_}
-use borrow.Author.Tests.{eq-eqb, ne-eqb}
-use borrow.Author.Needs.{needs}
+use Rattle.octets.proofs.Vocabulary.{sym, _∙_, arith, needs, eq-eqb, ne-eqb}
 use Rattle.octets.specs.Octets.{byte}
 use Rattle.descriptors.proofs.Walks.{stands-in}
 use Rattle.descriptors.proofs.walk.setting_after.Statement.{statement}

@@ -1,8 +1,5 @@
 -- `descriptors::walk::step_over` meets its contract: the descriptor is whole, so it ends inside the body. No axiom.
-use native.Mathlib.Nat.{add-sub-cancel-left}
-use native.Mathlib.Omega.{arith}
-use mathlib.Core.Path.{_∙_}
-use borrow.Author.Needs.{needs}
+use Rattle.octets.proofs.Vocabulary.{_∙_, arith, add-sub-cancel-left, needs}
 use Rattle.descriptors.proofs.Walks.{steps-whole}
 use Rattle.descriptors.proofs.walk.step_over.Statement.{statement}
 use Rattle.descriptors.proofs.walk.step_over.Tie as tie
@@ -24,15 +21,5 @@ returns c =
     }
 
 pub step-over-spec : {M : Type 1} → statement M
-step-over-spec =
-    tie.close
-    (tie.spec
-    (λ c κs. search needs)
-    (λ c. search needs)
-    add-end
-    (λ c. search needs)
-    (λ c. search needs)
-    part-setting-after-end
-    (λ c κs. search needs)
-    (λ c κs. search needs)
-    returns)
+step-over-spec = tie.close (tie.spec (λ c κs. search needs) (λ c. search needs) add-end (λ c. search needs) (λ c. search needs) part-setting-after-end
+    (λ c κs. search needs) (λ c κs. search needs) returns)

@@ -1,7 +1,6 @@
 -- `dumps::export::export` meets its contract: refused, too short, or one copy. No axiom.
-use native.Mathlib.Omega.{arith}
+use Rattle.octets.proofs.Vocabulary.{arith, needs}
 use Rattle.dumps.proofs.Together.{refused, fits, small, short, given}
-use borrow.Author.Needs.{needs}
 use Rattle.dumps.proofs.export.export.Statement.{statement}
 use Rattle.dumps.proofs.export.export.Tie as tie
 
@@ -34,8 +33,6 @@ returns-3 c =
     given (a .set .now) (a .serial .now) (a .out .now) _ (rw (c .before .before .before .before .before .before .before .before .before .before .full-speed .ensures) at (c .before .before .before .before .before .before .before .before .before .opening .ensures)) (c .before .before .before .before .before .before .before .before .if1 .left) _ (c .before .before .before .before .before .before .before .peek .ensures) _ (c .before .before .before .before .before .before .size-of .ensures) (c .before .before .before .before .before .if2 .left) (c .before .before .copy .ensures .1)
 
 pub export-spec : {M : Type 1} → statement M
-export-spec =
-    tie.close
-    (tie.spec (λ c κs. search needs) (λ c κs. search needs) returns (λ c κs. search needs) (λ c. search needs) (λ c. search needs) (λ c. search needs)
-    (λ c κs. search needs) returns-2 (λ c. search needs) (λ c. search needs) (λ c. search needs) part-copy-end (λ c κs. search needs) cast-written
-    (λ c. search needs) returns-3)
+export-spec = tie.close (tie.spec (λ c κs. search needs) (λ c κs. search needs) returns (λ c κs. search needs) (λ c. search needs) (λ c. search needs)
+    (λ c. search needs) (λ c κs. search needs) returns-2 (λ c. search needs) (λ c. search needs) (λ c. search needs) part-copy-end (λ c κs. search needs)
+    cast-written (λ c. search needs) returns-3)

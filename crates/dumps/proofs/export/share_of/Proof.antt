@@ -1,7 +1,5 @@
 -- `dumps::export::share_of` meets its contract, by the test. No axiom.
-use mathlib.Core.Path.{sym}
-use borrow.Author.Tests.{le-leb, lt-leb}
-use borrow.Author.Needs.{needs}
+use Rattle.octets.proofs.Vocabulary.{sym, needs, le-leb, lt-leb}
 use Rattle.dumps.proofs.export.share_of.Statement.{statement}
 use Rattle.dumps.proofs.export.share_of.Tie as tie
 

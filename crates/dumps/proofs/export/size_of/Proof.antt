@@ -1,13 +1,9 @@
 -- `dumps::export::size_of` meets its contract: what is counted and what is left is all. No axiom.
-use Prim.Native.Nat.{_+_, _-_, _*_, _≤_}
-use native.Mathlib.Nat.{zero-add}
-use native.Mathlib.Omega.{arith}
-use mathlib.Core.Path.{_≡_, ap, _∙_}
+use Rattle.octets.proofs.Vocabulary.{_≡_, ap, _∙_, _+_, _-_, _*_, _≤_, arith, zero-add, needs}
 use Rattle.sets.specs.Contents.{entries}
 use Rattle.sets.proofs.Entries.{rest, rest-start, next-entry, no-entry}
 use Rattle.dumps.specs.Export.{shares}
 use Rattle.dumps.proofs.Together.{shares-more, shares-none}
-use borrow.Author.Needs.{needs}
 use Rattle.dumps.proofs.export.size_of.Statement.{statement}
 use Rattle.dumps.proofs.export.size_of.Tie as tie
 
@@ -30,7 +26,5 @@ returns : tie.Need-returns Inv-loop μ-loop
 returns c = omega (arith, c .before .loop .inv .1, ap shares (no-entry (c .before .before .before .before .args .set .now) _ (c .before .before .peek .ensures) _ (c .loop-test .left)) ∙ shares-none)
 
 pub size-of-spec : {M : Type 1} → statement M
-size-of-spec =
-    tie.close
-    (tie.spec Inv-loop μ-loop (λ c κs. search needs) loop-holds (λ c κs. search needs) (λ c κs. search needs) (λ c. omega (arith, c .share-of .ensures .1))
-    (λ c. search needs) (λ c. search needs) loop-again returns)
+size-of-spec = tie.close (tie.spec Inv-loop μ-loop (λ c κs. search needs) loop-holds (λ c κs. search needs) (λ c κs. search needs)
+    (λ c. omega (arith, c .share-of .ensures .1)) (λ c. search needs) (λ c. search needs) loop-again returns)

@@ -1,14 +1,10 @@
 -- `dumps::import::import` meets its contract, answer by answer. No axiom.
-use Prim.Native.Nat.{ℕ}
-use native.Mathlib.Omega.{arith}
-use mathlib.Core.Path.{sym, _∙_}
-use lib.ListN.{length-replicate}
+use Rattle.octets.proofs.Vocabulary.{sym, _∙_, ℕ, length-replicate, arith, needs}
 use Rattle.set_writer.specs.Stream.{streamOf}
 use Rattle.dumps.specs.Dump.{piecesFor}
 use Rattle.dumps.proofs.Splitting.{is-broken, is-whole}
 use Rattle.dumps.proofs.Streaming.{stream-size}
 use Rattle.dumps.proofs.Importing.{broken, many, large, written-out, aside}
-use borrow.Author.Needs.{needs}
 use Rattle.dumps.proofs.import.import.Statement.{statement}
 use Rattle.dumps.proofs.import.import.Tie as tie
 
@@ -51,8 +47,6 @@ returns-4 c =
     written-out dump (a .out .now) (w .0) _ (aside _ (streamOf (piecesFor dump)) _ _ (omega (arith, w .1, stream-size dump (w .0), length-replicate {A = ℕ} 16768 0)) (c .before .before .before .before .before .before .before .before .before .put-stream .ensures)) (rw (c .before .before .before .before .full-speed .ensures) at (c .before .before .write .ensures))
 
 pub import-spec : {M : Type 1} → statement M
-import-spec =
-    tie.close
-    (tie.spec (λ c κs. search needs) (λ c. search needs) (λ c κs. search needs) (λ c. search needs) (λ c κs. search needs) returns (λ c κs. search needs)
-    returns-2 (λ c. search needs) put-stream-requires (λ c. search needs) (λ c. search needs) part-write-end (λ c. search needs) (λ c. search needs)
-    (λ c. search needs) (λ c κs. search needs) (λ c κs. search needs) returns-3 (λ c. search needs) returns-4)
+import-spec = tie.close (tie.spec (λ c κs. search needs) (λ c. search needs) (λ c κs. search needs) (λ c. search needs) (λ c κs. search needs) returns
+    (λ c κs. search needs) returns-2 (λ c. search needs) put-stream-requires (λ c. search needs) (λ c. search needs) part-write-end (λ c. search needs)
+    (λ c. search needs) (λ c. search needs) (λ c κs. search needs) (λ c κs. search needs) returns-3 (λ c. search needs) returns-4)

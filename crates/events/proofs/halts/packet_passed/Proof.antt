@@ -1,6 +1,5 @@
 -- `events::halts::packet_passed` meets its contract: by the endpoint that is there, or none. No axiom.
-use borrow.Author.Needs.{needs}
-use mathlib.Core.Path.{sym, _∙_}
+use Rattle.octets.proofs.Vocabulary.{sym, _∙_, needs}
 use Rattle.events.specs.Step.{packetPassed}
 use Rattle.octets.specs.Bit.{bit}
 use Rattle.descriptors.specs.Configuration.{canHalt, bitOf}
@@ -28,17 +27,5 @@ returns-3 c = λ v a e.
     rw (c .refused2 .ensures, is-there (endpointAt v d a) (sym e ∙ c .before .before .before .before .before .endpoint .given .1), unhalted (canHalt x) (bit (d .halts) (bitOf (x .address))) (c .before .before .before .can-halt .ensures) (c .before .before .is-halted .ensures) (c .before .if1 .left))
 
 pub packet-passed-spec : {M : Type 1} → statement M
-packet-passed-spec =
-    tie.close
-    (tie.spec
-    (λ c. search needs)
-    (λ c κs. search needs)
-    (λ c. search needs)
-    (λ c κs. search needs)
-    (λ c κs. search needs)
-    (λ c κs. search needs)
-    (λ c κs. search needs)
-    returns
-    (λ c κs. search needs)
-    returns-2
-    returns-3)
+packet-passed-spec = tie.close (tie.spec (λ c. search needs) (λ c κs. search needs) (λ c. search needs) (λ c κs. search needs) (λ c κs. search needs)
+    (λ c κs. search needs) (λ c κs. search needs) returns (λ c κs. search needs) returns-2 returns-3)

@@ -1,6 +1,5 @@
 -- `events::halts::without` meets its contract: bit by bit. No axiom.
-use native.Mathlib.Omega.{arith}
-use borrow.Author.Needs.{needs}
+use Rattle.octets.proofs.Vocabulary.{arith, needs}
 use Rattle.descriptors.proofs.EndpointBits.{clears}
 use Rattle.events.proofs.halts.without.Statement.{statement}
 use Rattle.events.proofs.halts.without.Tie as tie

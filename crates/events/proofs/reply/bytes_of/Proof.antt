@@ -1,45 +1,14 @@
 -- `events::reply::bytes_of` meets its contract: by cases. No axiom.
-use borrow.Author.Needs.{needs}
+use Rattle.octets.proofs.Vocabulary.{needs}
 use Rattle.events.proofs.reply.bytes_of.Statement.{statement}
 use Rattle.events.proofs.reply.bytes_of.Tie as tie
-
-returns : tie.Need-returns
-returns c = rw (c .hands .ensures, c .before .enum-told .given .1)
-
-returns-2 : tie.Need-returns-2
-returns-2 c = rw (c .hands2 .ensures, c .before .before .answer .given .1)
 
 returns-3 : tie.Need-returns-3
 returns-3 c = rw (c .hands3 .ensures, c .before .before .answer2 .given .1)
 
-returns-4 : tie.Need-returns-4
-returns-4 c = rw (c .hands4 .ensures, c .before .enum-told2 .given .1)
-
-returns-5 : tie.Need-returns-5
-returns-5 c = rw (c .hands5 .ensures, c .before .enum-told3 .given .1)
-
-returns-6 : tie.Need-returns-6
-returns-6 c = rw (c .hands6 .ensures, c .before .enum-told4 .given .1)
-
 pub bytes-of-spec : {M : Type 1} → statement M
-bytes-of-spec =
-    tie.close
-    (tie.spec
-    (λ c. search needs)
-    (λ c κs. search needs)
-    (λ c. search needs)
-    (λ c κs. search needs)
-    (λ c. search needs)
-    (λ c κs. search needs)
-    (λ c. search needs)
-    (λ c κs. search needs)
-    (λ c. search needs)
-    (λ c κs. search needs)
-    (λ c. search needs)
-    (λ c κs. search needs)
-    returns
-    returns-2
-    returns-3
-    returns-4
-    returns-5
-    returns-6)
+bytes-of-spec = tie.close (tie.spec (λ c. search needs) (λ c κs. search needs) (λ c. search needs) (λ c κs. search needs) (λ c. search needs)
+    (λ c κs. search needs) (λ c. search needs) (λ c κs. search needs) (λ c. search needs) (λ c κs. search needs) (λ c. search needs) (λ c κs. search needs)
+    (λ c. rw (c .hands .ensures, c .before .enum-told .given .1)) (λ c. rw (c .hands2 .ensures, c .before .before .answer .given .1)) returns-3
+    (λ c. rw (c .hands4 .ensures, c .before .enum-told2 .given .1)) (λ c. rw (c .hands5 .ensures, c .before .enum-told3 .given .1))
+    (λ c. rw (c .hands6 .ensures, c .before .enum-told4 .given .1)))

@@ -1,7 +1,5 @@
 -- `events::reply::part` meets its contract: by the answer. No axiom.
-use native.Mathlib.Omega.{arith}
-use borrow.Author.Needs.{needs}
-use native.Mathlib.Nat.{add-sub-cancel-left, sub-zero}
+use Rattle.octets.proofs.Vocabulary.{arith, add-sub-cancel-left, sub-zero, needs}
 use Rattle.events.proofs.reply.part.Statement.{statement}
 use Rattle.events.proofs.reply.part.Tie as tie
 
@@ -33,40 +31,8 @@ returns-6 : tie.Need-returns-6
 returns-6 c = (rw (c .before .enum-told4 .given .1), (rw (c .before .enum-told4 .given .1), rw (c .before .enum-told4 .given .1) (omega arith)))
 
 pub part-spec : {M : Type 1} → statement M
-part-spec =
-    tie.close
-    (tie.spec
-    (λ c. search needs)
-    (λ c. search needs)
-    (λ c. search needs)
-    add-result
-    (λ c. search needs)
-    (λ c. search needs)
-    part-result-end
-    (λ c. search needs)
-    (λ c. search needs)
-    (λ c. search needs)
-    (λ c. search needs)
-    part-result-end-2
-    (λ c. search needs)
-    (λ c. search needs)
-    (λ c. search needs)
-    (λ c. search needs)
-    (λ c. search needs)
-    (λ c. search needs)
-    (λ c. search needs)
-    (λ c. search needs)
-    (λ c. search needs)
-    (λ c. search needs)
-    (λ c. search needs)
-    (λ c. search needs)
-    (λ c. search needs)
-    (λ c. search needs)
-    (λ c. search needs)
-    (λ c. search needs)
-    returns
-    returns-2
-    returns-3
-    returns-4
-    returns-5
-    returns-6)
+part-spec = tie.close (tie.spec (λ c. search needs) (λ c. search needs) (λ c. search needs) add-result (λ c. search needs) (λ c. search needs) part-result-end
+    (λ c. search needs) (λ c. search needs) (λ c. search needs) (λ c. search needs) part-result-end-2 (λ c. search needs) (λ c. search needs)
+    (λ c. search needs) (λ c. search needs) (λ c. search needs) (λ c. search needs) (λ c. search needs) (λ c. search needs) (λ c. search needs)
+    (λ c. search needs) (λ c. search needs) (λ c. search needs) (λ c. search needs) (λ c. search needs) (λ c. search needs) (λ c. search needs) returns
+    returns-2 returns-3 returns-4 returns-5 returns-6)

@@ -1,7 +1,5 @@
 -- `events::respond::answer_setup` meets its contract: by the test mode and the table's refusal. No axiom.
-use mathlib.Core.Path.{sym, ap, _∙_}
-use borrow.Author.Needs.{needs}
-use borrow.Author.Tests.{eq-eqb, ne-eqb, le-leb, lt-leb}
+use Rattle.octets.proofs.Vocabulary.{sym, ap, _∙_, needs, eq-eqb, ne-eqb, le-leb, lt-leb}
 use Rattle.events.specs.Step.{refusalFor, answerSetup}
 use Rattle.events.proofs.Rows.{one-byte-for}
 use Rattle.events.proofs.Lookups.{settles, settling}
@@ -32,17 +30,5 @@ returns-3 c = λ v t.
     rw (lt-leb _ _ (c .before .before .before .before .if1 .left), ← (c .before .before .before .refusal-for .ensures ∙ ap (λ x. refusalFor x (a .device) (a .setup)) (t .paired)), ne-eqb _ _ (c .before .before .if2 .left), c .settling3 .ensures, c .before .refused2 .ensures)
 
 pub answer-setup-spec : {M : Type 1} → statement M
-answer-setup-spec =
-    tie.close
-    (tie.spec
-    (λ c κs. search needs)
-    (λ c κs. search needs)
-    returns
-    (λ c κs. search needs)
-    (λ c κs. search needs)
-    request-requires
-    (λ c κs. search needs)
-    returns-2
-    (λ c κs. search needs)
-    (λ c κs. search needs)
-    returns-3)
+answer-setup-spec = tie.close (tie.spec (λ c κs. search needs) (λ c κs. search needs) returns (λ c κs. search needs) (λ c κs. search needs) request-requires
+    (λ c κs. search needs) returns-2 (λ c κs. search needs) (λ c κs. search needs) returns-3)

@@ -1,6 +1,5 @@
 -- `events::respond::bus_reset` meets its contract: by the speed, and whether a test mode is entered. No axiom.
-use borrow.Author.Needs.{needs}
-use borrow.Author.Tests.{le-leb, lt-leb}
+use Rattle.octets.proofs.Vocabulary.{needs, le-leb, lt-leb}
 use Rattle.events.proofs.respond.bus_reset.Statement.{statement}
 use Rattle.events.proofs.respond.bus_reset.Tie as tie
 
@@ -10,16 +9,6 @@ returns c = λ v p. rw (c .done .ensures, ← p, c .before .before .before .if1 
 returns-2 : tie.Need-returns-2
 returns-2 c = λ v p. rw (c .done2 .ensures, ← p, c .before .before .before .if1 .taken, lt-leb _ _ (c .before .if2 .left))
 
-returns-3 : tie.Need-returns-3
-returns-3 c = λ v p. rw (c .refused .ensures, ← p, c .before .if1 .left)
-
 pub bus-reset-spec : {M : Type 1} → statement M
-bus-reset-spec =
-    tie.close
-    (tie.spec
-    (λ c κs. search needs)
-    returns
-    (λ c κs. search needs)
-    returns-2
-    (λ c κs. search needs)
-    returns-3)
+bus-reset-spec = tie.close (tie.spec (λ c κs. search needs) returns (λ c κs. search needs) returns-2 (λ c κs. search needs)
+    (λ c. λ v p. rw (c .refused .ensures, ← p, c .before .if1 .left)))

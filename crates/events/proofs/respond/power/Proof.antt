@@ -1,6 +1,5 @@
 -- `events::respond::power` meets its contract: by the value. No axiom.
-use borrow.Author.Needs.{needs}
-use borrow.Author.Tests.{le-leb, lt-leb}
+use Rattle.octets.proofs.Vocabulary.{needs, le-leb, lt-leb}
 use Rattle.events.proofs.respond.power.Statement.{statement}
 use Rattle.events.proofs.respond.power.Tie as tie
 

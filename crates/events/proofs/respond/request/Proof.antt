@@ -1,9 +1,5 @@
 -- `events::respond::request` meets its contract: by the code. No axiom.
-use borrow.Author.Needs.{needs}
-use lib.Dec.{eqb}
-use borrow.Author.Tests.{eq-eqb, ne-eqb}
-use mathlib.Core.Path.{_≡_, ap}
-use Prim.Native.Nat.{ℕ}
+use Rattle.octets.proofs.Vocabulary.{_≡_, ap, ℕ, eqb, needs, eq-eqb, ne-eqb}
 use Rattle.events.specs.Step.{request}
 use Rattle.octets.proofs.Sentences.{or-left, or-right}
 use Rattle.events.proofs.respond.request.Tie as tie
@@ -56,24 +52,6 @@ unfolding request
 returns-9 c = λ v t. let no = c .before .match .rest in rw (ne-eqb _ _ (no .0 .0 .0 .0 .0 .0 .0 .1), ne-eqb _ _ (no .0 .0 .0 .0 .0 .0 .1), ne-eqb _ _ (no .0 .0 .0 .0 .0 .1), ne-eqb _ _ (no .0 .0 .0 .0 .1), ne-eqb _ _ (no .0 .0 .0 .1), ne-eqb _ _ (no .0 .0 .1), ne-eqb _ _ (no .0 .1), ne-eqb _ _ (no .1)) (c .set-interface .ensures v t)
 
 pub request-spec : {M : Type 1} → statement M
-request-spec =
-    tie.close
-    (tie.spec
-    (λ c κs. search needs)
-    (λ c κs. search needs)
-    (λ c κs. search needs)
-    set-address-requires
-    (λ c κs. search needs)
-    (λ c κs. search needs)
-    set-configuration-requires
-    (λ c κs. search needs)
-    (λ c κs. search needs)
-    returns
-    returns-2
-    returns-3
-    returns-4
-    returns-5
-    returns-6
-    returns-7
-    returns-8
-    returns-9)
+request-spec = tie.close (tie.spec (λ c κs. search needs) (λ c κs. search needs) (λ c κs. search needs) set-address-requires (λ c κs. search needs)
+    (λ c κs. search needs) set-configuration-requires (λ c κs. search needs) (λ c κs. search needs) returns returns-2 returns-3 returns-4 returns-5 returns-6
+    returns-7 returns-8 returns-9)

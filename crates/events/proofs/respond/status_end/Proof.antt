@@ -1,8 +1,5 @@
 -- `events::respond::status_end` meets its contract: what waits is nothing, a test mode, zero or an address. No axiom.
-use native.Mathlib.Omega.{arith}
-use borrow.Author.Needs.{needs}
-use mathlib.Core.Path.{sym, _∙_}
-use borrow.Author.Tests.{eq-eqb, ne-eqb}
+use Rattle.octets.proofs.Vocabulary.{sym, _∙_, arith, needs, eq-eqb, ne-eqb}
 use Rattle.events.specs.Step.{statusEnd}
 use Rattle.events.proofs.Lookups.{state-of, test-small}
 use Rattle.events.proofs.respond.status_end.Tie as tie
@@ -30,17 +27,5 @@ unfolding statusEnd
 returns-3 c = rw (c .done3 .ensures, ne-eqb _ _ (c .before .before .before .if1 .left), ← c .before .before .test-waits .ensures, c .before .if2 .left, state-of (c .before .before .before .before .args .device .waiting))
 
 pub status-end-spec : {M : Type 1} → statement M
-status-end-spec =
-    tie.close
-    (tie.spec
-    (λ c κs. search needs)
-    returns
-    (λ c κs. search needs)
-    sub-speed
-    mul-speed
-    add-speed
-    (λ c κs. search needs)
-    returns-2
-    (λ c. search needs)
-    (λ c κs. search needs)
-    returns-3)
+status-end-spec = tie.close (tie.spec (λ c κs. search needs) returns (λ c κs. search needs) sub-speed mul-speed add-speed (λ c κs. search needs) returns-2
+    (λ c. search needs) (λ c κs. search needs) returns-3)

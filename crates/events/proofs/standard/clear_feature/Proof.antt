@@ -1,5 +1,5 @@
 -- `events::standard::clear_feature` meets its contract: a feature that is cleared. No axiom.
-use borrow.Author.Needs.{needs}
+use Rattle.octets.proofs.Vocabulary.{needs}
 use Rattle.events.specs.Requests.{clearFeature}
 use Rattle.events.proofs.standard.clear_feature.Tie as tie
 use Rattle.events.proofs.standard.clear_feature.Statement.{statement}

@@ -1,6 +1,5 @@
 -- `events::standard::feature` meets its contract: by the recipient, and the device's by whether the test mode is set. No axiom.
-use borrow.Author.Needs.{needs}
-use borrow.Author.Tests.{eq-eqb, ne-eqb}
+use Rattle.octets.proofs.Vocabulary.{needs, eq-eqb, ne-eqb}
 use Rattle.events.proofs.standard.feature.Tie as tie
 use Rattle.events.proofs.standard.feature.Statement.{statement}
 
@@ -20,16 +19,5 @@ returns-5 : tie.Need-returns-5
 returns-5 c = λ v t. rw (ne-eqb _ _ (c .before .before .if1 .left), ne-eqb _ _ (c .before .if3 .left)) (c .endpoint-feature .ensures v t)
 
 pub feature-spec : {M : Type 1} → statement M
-feature-spec =
-    tie.close
-    (tie.spec
-    (λ c κs. search needs)
-    returns
-    (λ c κs. search needs)
-    returns-2
-    (λ c κs. search needs)
-    returns-3
-    (λ c κs. search needs)
-    returns-4
-    (λ c κs. search needs)
-    returns-5)
+feature-spec = tie.close (tie.spec (λ c κs. search needs) returns (λ c κs. search needs) returns-2 (λ c κs. search needs) returns-3 (λ c κs. search needs)
+    returns-4 (λ c κs. search needs) returns-5)

@@ -1,5 +1,5 @@
 -- `events::standard::get_configuration` meets its contract: the record's value. No axiom.
-use borrow.Author.Needs.{needs}
+use Rattle.octets.proofs.Vocabulary.{needs}
 use Rattle.events.specs.Requests.{getConfiguration}
 use Rattle.events.proofs.standard.get_configuration.Tie as tie
 use Rattle.events.proofs.standard.get_configuration.Statement.{statement}

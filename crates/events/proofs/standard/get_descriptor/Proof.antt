@@ -1,5 +1,5 @@
 -- `events::standard::get_descriptor` meets its contract: by where the descriptor lies. No axiom.
-use borrow.Author.Needs.{needs}
+use Rattle.octets.proofs.Vocabulary.{needs}
 use Rattle.events.specs.Requests.{getDescriptor}
 use Rattle.events.proofs.standard.get_descriptor.Statement.{statement}
 use Rattle.events.proofs.standard.get_descriptor.Tie as tie
@@ -17,17 +17,5 @@ unfolding getDescriptor
 returns-3 c = λ v d e. rw (c .refused .ensures, ← e, c .before .enum-told .given .1)
 
 pub get-descriptor-spec : {M : Type 1} → statement M
-get-descriptor-spec =
-    tie.close
-    (tie.spec
-    (λ c. search needs)
-    (λ c κs. search needs)
-    (λ c κs. search needs)
-    (λ c. search needs)
-    (λ c κs. search needs)
-    (λ c κs. search needs)
-    (λ c. search needs)
-    (λ c κs. search needs)
-    returns
-    returns-2
-    returns-3)
+get-descriptor-spec = tie.close (tie.spec (λ c. search needs) (λ c κs. search needs) (λ c κs. search needs) (λ c. search needs) (λ c κs. search needs)
+    (λ c κs. search needs) (λ c. search needs) (λ c κs. search needs) returns returns-2 returns-3)

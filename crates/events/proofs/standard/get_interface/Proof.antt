@@ -1,5 +1,5 @@
 -- `events::standard::get_interface` meets its contract: by whether the interface is there. No axiom.
-use borrow.Author.Needs.{needs}
+use Rattle.octets.proofs.Vocabulary.{needs}
 use Rattle.events.specs.Requests.{getInterface}
 use Rattle.events.proofs.standard.get_interface.Tie as tie
 use Rattle.events.proofs.standard.get_interface.Statement.{statement}
@@ -13,13 +13,5 @@ unfolding getInterface
 returns-2 c = λ v t. rw (c .refused .ensures, ← t .interface, c .before .if1 .left)
 
 pub get-interface-spec : {M : Type 1} → statement M
-get-interface-spec =
-    tie.close
-    (tie.spec
-    (λ c. search needs)
-    (λ c. search needs)
-    (λ c κs. search needs)
-    (λ c κs. search needs)
-    returns
-    (λ c κs. search needs)
+get-interface-spec = tie.close (tie.spec (λ c. search needs) (λ c. search needs) (λ c κs. search needs) (λ c κs. search needs) returns (λ c κs. search needs)
     returns-2)

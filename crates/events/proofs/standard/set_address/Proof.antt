@@ -1,5 +1,5 @@
 -- `events::standard::set_address` meets its contract: the address waits. No axiom.
-use borrow.Author.Needs.{needs}
+use Rattle.octets.proofs.Vocabulary.{needs}
 use Rattle.events.specs.Requests.{setAddress}
 use Rattle.events.proofs.standard.set_address.Statement.{statement}
 use Rattle.events.proofs.standard.set_address.Tie as tie

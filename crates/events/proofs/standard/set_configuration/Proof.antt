@@ -1,6 +1,5 @@
 -- `events::standard::set_configuration` meets its contract: by the value, and whether a configuration has it. No axiom.
-use borrow.Author.Needs.{needs}
-use borrow.Author.Tests.{eq-eqb, ne-eqb}
+use Rattle.octets.proofs.Vocabulary.{needs, eq-eqb, ne-eqb}
 use Rattle.events.specs.Requests.{setConfiguration}
 use Rattle.events.proofs.standard.set_configuration.Tie as tie
 use Rattle.events.proofs.standard.set_configuration.Statement.{statement}
@@ -18,13 +17,5 @@ unfolding setConfiguration
 returns-3 c = λ v d e. rw (c .refused .ensures, ne-eqb _ _ (c .before .before .if1 .left), ← e, c .before .if2 .left)
 
 pub set-configuration-spec : {M : Type 1} → statement M
-set-configuration-spec =
-    tie.close
-    (tie.spec
-    (λ c. search needs)
-    (λ c κs. search needs)
-    returns
-    (λ c κs. search needs)
-    returns-2
-    (λ c κs. search needs)
+set-configuration-spec = tie.close (tie.spec (λ c. search needs) (λ c κs. search needs) returns (λ c κs. search needs) returns-2 (λ c κs. search needs)
     returns-3)

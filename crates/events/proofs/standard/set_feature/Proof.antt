@@ -1,5 +1,5 @@
 -- `events::standard::set_feature` meets its contract: a feature that is set. No axiom.
-use borrow.Author.Needs.{needs}
+use Rattle.octets.proofs.Vocabulary.{needs}
 use Rattle.events.specs.Requests.{setFeature}
 use Rattle.events.proofs.standard.set_feature.Tie as tie
 use Rattle.events.proofs.standard.set_feature.Statement.{statement}

@@ -1,8 +1,5 @@
 -- `events::standard::set_interface` meets its contract: by whether the setting is there; its numbers are small. No axiom.
-use borrow.Author.Needs.{needs}
-use borrow.Author.Tests.{lt-ltb}
-use mathlib.Core.Path.{sym, _∙_}
-use lib.ListN.{getD}
+use Rattle.octets.proofs.Vocabulary.{sym, _∙_, getD, needs, lt-ltb}
 use Rattle.descriptors.specs.Configuration.{ofEither}
 use Rattle.octets.specs.Sentences.{only}
 use Rattle.records.specs.Current.{selected}
@@ -24,14 +21,5 @@ unfolding setInterface
 returns-2 c = λ v t. rw (c .refused .ensures, ← t .surveyed .there, c .before .if1 .left)
 
 pub set-interface-spec : {M : Type 1} → statement M
-set-interface-spec =
-    tie.close
-    (tie.spec
-    (λ c. search needs)
-    (λ c. search needs)
-    (λ c κs. search needs)
-    (λ c κs. search needs)
-    (λ c κs. search needs)
-    returns
-    (λ c κs. search needs)
-    returns-2)
+set-interface-spec = tie.close (tie.spec (λ c. search needs) (λ c. search needs) (λ c κs. search needs) (λ c κs. search needs) (λ c κs. search needs) returns
+    (λ c κs. search needs) returns-2)

@@ -1,10 +1,5 @@
 -- `events::standard::set_test_mode` meets its contract: by the speed and the selector. No axiom.
-use native.Mathlib.Omega.{arith}
-use Prim.Native.Nat.{_/_}
-use mathlib.Core.Bool.{_&&_}
-use lib.Dec.{eqb, leb}
-use borrow.Author.Needs.{needs}
-use borrow.Author.Tests.{leb-true}
+use Rattle.octets.proofs.Vocabulary.{_/_, _&&_, eqb, leb, arith, needs, leb-true}
 use Rattle.octets.proofs.Sentences.{both}
 use Rattle.events.proofs.standard.set_test_mode.Statement.{statement}
 use Rattle.events.proofs.standard.set_test_mode.Tie as tie
@@ -16,13 +11,6 @@ add-waiting c =
     let small = leb-true (w / 256) 5 (both (eqb d 1 && leb 1 (w / 256)) (leb (w / 256) 5) (c .if1 .taken) .1) in
     omega (arith, small)
 
-returns : tie.Need-returns
-returns c = rw (c .done .ensures, c .before .if1 .taken)
-
-returns-2 : tie.Need-returns-2
-returns-2 c = rw (c .refused .ensures, c .before .if1 .left)
-
 pub set-test-mode-spec : {M : Type 1} → statement M
-set-test-mode-spec =
-    tie.close
-    (tie.spec (λ c. search needs) add-waiting (λ c κs. search needs) returns (λ c κs. search needs) returns-2)
+set-test-mode-spec = tie.close (tie.spec (λ c. search needs) add-waiting (λ c κs. search needs) (λ c. rw (c .done .ensures, c .before .if1 .taken))
+    (λ c κs. search needs) (λ c. rw (c .refused .ensures, c .before .if1 .left)))

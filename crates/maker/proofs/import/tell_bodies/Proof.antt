@@ -1,7 +1,5 @@
 -- `maker::import::tell_bodies` is safe and ends: each body has a size, so there are no more bodies than bytes. No axiom.
-use Prim.Native.Nat.{_-_, _+_, _≤_}
-use lib.ListN.{length}
-use borrow.Author.Needs.{needs}
+use Rattle.octets.proofs.Vocabulary.{_-_, _+_, _≤_, length, needs}
 use Rattle.maker.proofs.import.tell_bodies.Statement.{statement}
 use Rattle.maker.proofs.import.tell_bodies.Tie as tie
 
@@ -12,15 +10,5 @@ abbrev μ-loop : tie.MeasureT-loop
 μ-loop dump number n₀ at₀ n at = length dump - at
 
 pub tell-bodies-spec : {M : Type 1} → statement M
-tell-bodies-spec =
-    tie.close
-    (tie.spec
-    Inv-loop
-    μ-loop
-    (λ c. search needs)
-    (λ c κs. search needs)
-    (λ c κs. search needs)
-    (λ c. search needs)
-    (λ c. search needs)
-    (λ c. search needs)
-    (λ c. search needs))
+tell-bodies-spec = tie.close (tie.spec Inv-loop μ-loop (λ c. search needs) (λ c κs. search needs) (λ c κs. search needs) (λ c. search needs) (λ c. search needs)
+    (λ c. search needs) (λ c. search needs))

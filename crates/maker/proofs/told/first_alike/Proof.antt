@@ -1,7 +1,5 @@
 -- `maker::told::first_alike` is safe and ends: each piece has a size. No axiom.
-use Prim.Native.Nat.{_-_, _≤_}
-use lib.ListN.{length}
-use borrow.Author.Needs.{needs}
+use Rattle.octets.proofs.Vocabulary.{_-_, _≤_, length, needs}
 use Rattle.maker.proofs.told.first_alike.Statement.{statement}
 use Rattle.maker.proofs.told.first_alike.Tie as tie
 
@@ -12,15 +10,5 @@ abbrev μ-loop : tie.MeasureT-loop
 μ-loop stream at from₀ from = length stream - from
 
 pub first-alike-spec : {M : Type 1} → statement M
-first-alike-spec =
-    tie.close
-    (tie.spec
-    Inv-loop
-    μ-loop
-    (λ c. search needs)
-    (λ c κs. search needs)
-    (λ c. search needs)
-    (λ c κs. search needs)
-    (λ c. search needs)
-    (λ c. search needs)
-    (λ c. search needs))
+first-alike-spec = tie.close (tie.spec Inv-loop μ-loop (λ c. search needs) (λ c κs. search needs) (λ c. search needs) (λ c κs. search needs) (λ c. search needs)
+    (λ c. search needs) (λ c. search needs))

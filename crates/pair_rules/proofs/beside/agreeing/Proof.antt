@@ -1,11 +1,7 @@
 -- `pair_rules::beside::agreeing` meets its contract: what agrees so far, and the rest still to be compared. No axiom.
-use native.Mathlib.Omega.{arith}
-use mathlib.Core.Path.{_≡_}
-use Prim.Native.Nat.{_+_, _-_, _≤_}
-use lib.ListN.{length, drop}
+use Rattle.octets.proofs.Vocabulary.{_≡_, _+_, _-_, _≤_, length, drop, arith, needs}
 use Rattle.pair_rules.specs.Pair.{agreeing}
 use Rattle.pair_rules.proofs.Agreeing.{first-ended, second-ended, differs, agrees-on}
-use borrow.Author.Needs.{needs}
 use Rattle.pair_rules.proofs.beside.agreeing.Statement.{statement}
 use Rattle.pair_rules.proofs.beside.agreeing.Tie as tie
 
@@ -43,17 +39,5 @@ returns-3 c =
     first-ended (a .a .now) (a .b .now) (l .n) (l .inv .1) (c .loop-test .left)
 
 pub agreeing-spec : {M : Type 1} → statement M
-agreeing-spec =
-    tie.close
-    (tie.spec
-    Inv-loop
-    μ-loop
-    loop-holds
-    returns
-    (λ c. search needs)
-    (λ c. search needs)
-    returns-2
-    (λ c. search needs)
-    (λ c. search needs)
-    loop-again
-    returns-3)
+agreeing-spec = tie.close (tie.spec Inv-loop μ-loop loop-holds returns (λ c. search needs) (λ c. search needs) returns-2 (λ c. search needs) (λ c. search needs)
+    loop-again returns-3)

@@ -1,6 +1,5 @@
 -- `pair_rules::beside::agreeing_qualifier` meets its contract. No axiom.
-use mathlib.Core.Path.{_∙_}
-use borrow.Author.Needs.{needs}
+use Rattle.octets.proofs.Vocabulary.{_∙_, needs}
 use Rattle.pair_rules.proofs.beside.agreeing_qualifier.Statement.{statement}
 use Rattle.pair_rules.proofs.beside.agreeing_qualifier.Tie as tie
 
@@ -18,16 +17,5 @@ returns c =
     )
 
 pub agreeing-qualifier-spec : {M : Type 1} → statement M
-agreeing-qualifier-spec =
-    tie.close
-    (tie.spec
-    (λ c κs. search needs)
-    (λ c κs. search needs)
-    (λ c κs. search needs)
-    (λ c κs. search needs)
-    (λ c κs. search needs)
-    (λ c κs. search needs)
-    (λ c κs. search needs)
-    (λ c. search needs)
-    (λ c κs. search needs)
-    returns)
+agreeing-qualifier-spec = tie.close (tie.spec (λ c κs. search needs) (λ c κs. search needs) (λ c κs. search needs) (λ c κs. search needs) (λ c κs. search needs)
+    (λ c κs. search needs) (λ c κs. search needs) (λ c. search needs) (λ c κs. search needs) returns)

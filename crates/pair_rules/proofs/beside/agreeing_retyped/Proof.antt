@@ -1,11 +1,7 @@
 -- `pair_rules::beside::agreeing_retyped` meets its contract: the first two bytes by themselves, and then the others. No axiom.
-use native.Mathlib.Omega.{arith}
-use mathlib.Core.Path.{_≡_, sym, _∙_}
-use Prim.Native.Nat.{_≤_}
-use lib.ListN.{length, drop, length-drop}
+use Rattle.octets.proofs.Vocabulary.{_≡_, sym, _∙_, _≤_, length, drop, length-drop, arith, needs}
 use Rattle.octets.specs.Octets.{byte}
 use Rattle.pair_rules.proofs.Agreeing.{agreeing-short, none-agrees, first-differs, one-agrees, type-differs, two-agree}
-use borrow.Author.Needs.{needs}
 use Rattle.pair_rules.proofs.beside.agreeing_retyped.Statement.{statement}
 use Rattle.pair_rules.proofs.beside.agreeing_retyped.Tie as tie
 
@@ -48,18 +44,5 @@ returns-5 c =
     (two-agree (a .mine .now) (a .theirs .now) (second (c .before .before .before .before .before)) (first (c .before .before .before .before .before .before)) (sym (c .before .before .before .before .peek3 .ensures) ∙ c .before .before .before .if4 .left))
 
 pub agreeing-retyped-spec : {M : Type 1} → statement M
-agreeing-retyped-spec =
-    tie.close
-    (tie.spec
-    returns
-    (λ c κs. search needs)
-    (λ c κs. search needs)
-    returns-2
-    returns-3
-    (λ c κs. search needs)
-    returns-4
-    (λ c κs. search needs)
-    (λ c κs. search needs)
-    (λ c κs. search needs)
-    add-result
-    returns-5)
+agreeing-retyped-spec = tie.close (tie.spec returns (λ c κs. search needs) (λ c κs. search needs) returns-2 returns-3 (λ c κs. search needs) returns-4
+    (λ c κs. search needs) (λ c κs. search needs) (λ c κs. search needs) add-result returns-5)

@@ -1,9 +1,8 @@
 -- `pair_rules::beside::beside_fault` meets its contract. No axiom.
-use mathlib.Core.Path.{sym, _∙_}
+use Rattle.octets.proofs.Vocabulary.{sym, _∙_, needs}
 use Rattle.sets.specs.Contents.{entriesOf}
 use Rattle.rules.proofs.After.{ends}
 use Rattle.pair_rules.proofs.Entries.{beside-found, beside-missing}
-use borrow.Author.Needs.{needs}
 use Rattle.pair_rules.proofs.beside.beside_fault.Statement.{statement}
 use Rattle.pair_rules.proofs.beside.beside_fault.Tie as tie
 
@@ -20,14 +19,5 @@ returns-2 c =
     rw (beside-missing (a .set .now) (a .other .now) (a .at) (a .e) (entriesOf 2 (a .other .now)) (a .k) (sym (s .entry-of .ensures) ∙ c .before .enum-told .given .1)) (ends _ _ (c .ask .ensures))
 
 pub beside-fault-spec : {M : Type 1} → statement M
-beside-fault-spec =
-    tie.close
-    (tie.spec
-    (λ c κs. search needs)
-    (λ c. search needs)
-    (λ c κs. search needs)
-    (λ c κs. search needs)
-    (λ c. search needs)
-    (λ c κs. search needs)
-    returns
-    returns-2)
+beside-fault-spec = tie.close (tie.spec (λ c κs. search needs) (λ c. search needs) (λ c κs. search needs) (λ c κs. search needs) (λ c. search needs)
+    (λ c κs. search needs) returns returns-2)

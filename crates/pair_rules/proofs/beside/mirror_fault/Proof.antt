@@ -1,11 +1,10 @@
 -- `pair_rules::beside::mirror_fault` meets its contract. No axiom.
-use native.Mathlib.Omega.{arith}
+use Rattle.octets.proofs.Vocabulary.{arith, needs}
 use Rattle.sets.specs.Contents.{bodyOf}
 use Rattle.sets.specs.Pair.{retyped}
 use Rattle.rules.proofs.After.{asks, ends}
 use Rattle.rules.proofs.Entries.{short}
 use Rattle.pair_rules.proofs.Agreeing.{agreeing-short, same-agreeing}
-use borrow.Author.Needs.{needs}
 use Rattle.pair_rules.proofs.beside.mirror_fault.Statement.{statement}
 use Rattle.pair_rules.proofs.beside.mirror_fault.Tie as tie
 
@@ -27,15 +26,5 @@ returns c =
     (asks _ _ _ (c .before .before .ask2 .ensures) (asks _ _ _ (rw (b, l) at (c .before .ask3 .ensures)) (ends _ _ (rw (n, b, l, same-agreeing mine (retyped (a .theirs .now))) at (c .ask4 .ensures)))))
 
 pub mirror-fault-spec : {M : Type 1} → statement M
-mirror-fault-spec =
-    tie.close
-    (tie.spec
-    (λ c κs. search needs)
-    (λ c κs. search needs)
-    (λ c κs. search needs)
-    (λ c κs. search needs)
-    (λ c κs. search needs)
-    (λ c κs. search needs)
-    cast-ask
-    (λ c κs. search needs)
-    returns)
+mirror-fault-spec = tie.close (tie.spec (λ c κs. search needs) (λ c κs. search needs) (λ c κs. search needs) (λ c κs. search needs) (λ c κs. search needs)
+    (λ c κs. search needs) cast-ask (λ c κs. search needs) returns)

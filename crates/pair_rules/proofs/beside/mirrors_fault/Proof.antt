@@ -1,14 +1,10 @@
 -- `pair_rules::beside::mirrors_fault` meets its contract. No axiom.
-use Prim.Native.Nat.{_+_, _-_, _*_, _≤_}
-use native.Mathlib.Omega.{arith}
-use mathlib.Core.Path.{_≡_, sym, ap, _∙_}
-use lib.ListN.{drop}
+use Rattle.octets.proofs.Vocabulary.{_≡_, sym, ap, _∙_, _+_, _-_, _*_, _≤_, drop, arith, needs}
 use Rattle.sets.specs.Contents.{entries, entriesOf}
 use Rattle.sets.proofs.Entries.{rest, rest-start, next-entry, no-entry}
 use Rattle.rules.specs.After.{after}
 use Rattle.pair_rules.specs.Pair.{mirrorsFrom}
 use Rattle.pair_rules.proofs.Entries.{mirrors-in, mirrors-past, mirrors-end}
-use borrow.Author.Needs.{needs}
 use Rattle.pair_rules.proofs.beside.mirrors_fault.Statement.{statement}
 use Rattle.pair_rules.proofs.beside.mirrors_fault.Tie as tie
 
@@ -75,27 +71,6 @@ returns c =
     ∙ mirrors-end set other (l .i) (l .k) fs (l .found) {n = n .result} (omega (arith, l .inv .1, w .loop-test .left)))
 
 pub mirrors-fault-spec : {M : Type 1} → statement M
-mirrors-fault-spec =
-    tie.close
-    (tie.spec
-    Inv-loop
-    μ-loop
-    (λ c κs. search needs)
-    loop-holds
-    (λ c κs. search needs)
-    (λ c. search needs)
-    (λ c. search needs)
-    (λ c. search needs)
-    (λ c. search needs)
-    (λ c κs. search needs)
-    (λ c. search needs)
-    (λ c. search needs)
-    loop-again
-    (λ c. search needs)
-    loop-again-2
-    (λ c κs. search needs)
-    (λ c. search needs)
-    (λ c. search needs)
-    (λ c. search needs)
-    (λ c κs. search needs)
-    returns)
+mirrors-fault-spec = tie.close (tie.spec Inv-loop μ-loop (λ c κs. search needs) loop-holds (λ c κs. search needs) (λ c. search needs) (λ c. search needs)
+    (λ c. search needs) (λ c. search needs) (λ c κs. search needs) (λ c. search needs) (λ c. search needs) loop-again (λ c. search needs) loop-again-2
+    (λ c κs. search needs) (λ c. search needs) (λ c. search needs) (λ c. search needs) (λ c κs. search needs) returns)

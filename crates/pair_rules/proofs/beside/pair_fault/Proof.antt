@@ -1,11 +1,10 @@
 -- `pair_rules::beside::pair_fault` meets its contract: type 6, and then type 7. No axiom.
-use mathlib.Core.Path.{_∙_}
+use Rattle.octets.proofs.Vocabulary.{_∙_, needs}
 use Rattle.sets.specs.Contents.{entries, entriesOf}
 use Rattle.sets.specs.Device.{deviceBody}
 use Rattle.rules.proofs.After.{first-broken, joins}
 use Rattle.pair_rules.specs.Pair.{qualifierEntryFindings, mirrorsFrom, pairFindings}
 use Rattle.pair_rules.proofs.Grouped.{pair-numbered}
-use borrow.Author.Needs.{needs}
 use Rattle.pair_rules.proofs.beside.pair_fault.Statement.{statement}
 use Rattle.pair_rules.proofs.beside.pair_fault.Tie as tie
 
@@ -18,10 +17,4 @@ returns c =
     ∙ first-broken (pairFindings set other) (pair-numbered set other)
 
 pub pair-fault-spec : {M : Type 1} → statement M
-pair-fault-spec =
-    tie.close
-    (tie.spec
-    (λ c κs. search needs)
-    (λ c κs. search needs)
-    (λ c κs. search needs)
-    returns)
+pair-fault-spec = tie.close (tie.spec (λ c κs. search needs) (λ c κs. search needs) (λ c κs. search needs) returns)

@@ -1,11 +1,10 @@
 -- `pair_rules::beside::qualifier_fault` meets its contract. No axiom.
-use native.Mathlib.Omega.{arith}
+use Rattle.octets.proofs.Vocabulary.{arith, needs}
 use Rattle.sets.specs.Contents.{bodyOf}
 use Rattle.sets.specs.Pair.{qualifierOf}
 use Rattle.rules.specs.After.{after}
 use Rattle.rules.proofs.Entries.{short}
 use Rattle.pair_rules.proofs.Agreeing.{agreeing-short, same-agreeing}
-use borrow.Author.Needs.{needs}
 use Rattle.pair_rules.proofs.beside.qualifier_fault.Statement.{statement}
 use Rattle.pair_rules.proofs.beside.qualifier_fault.Tie as tie
 
@@ -21,14 +20,5 @@ unfolding after
 returns c = let a = c .before .before .before .before .before .before .before .before .before .before .args in cc (same-agreeing (bodyOf (a .set .now) (a .e)) (qualifierOf (a .device .now)))
 
 pub qualifier-fault-spec : {M : Type 1} → statement M
-qualifier-fault-spec =
-    tie.close
-    (tie.spec
-    (λ c κs. search needs)
-    (λ c κs. search needs)
-    (λ c κs. search needs)
-    (λ c κs. search needs)
-    (λ c κs. search needs)
-    cast-ask
-    (λ c κs. search needs)
-    returns)
+qualifier-fault-spec = tie.close (tie.spec (λ c κs. search needs) (λ c κs. search needs) (λ c κs. search needs) (λ c κs. search needs) (λ c κs. search needs)
+    cast-ask (λ c κs. search needs) returns)

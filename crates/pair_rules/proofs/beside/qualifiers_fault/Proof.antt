@@ -1,9 +1,8 @@
 -- `pair_rules::beside::qualifiers_fault` meets its contract. No axiom.
-use mathlib.Core.Path.{sym, _∙_}
+use Rattle.octets.proofs.Vocabulary.{sym, _∙_, needs}
 use Rattle.sets.specs.Contents.{entriesOf}
 use Rattle.rules.proofs.After.{asks, ends}
 use Rattle.pair_rules.proofs.Entries.{qualifier-found, qualifier-missing}
-use borrow.Author.Needs.{needs}
 use Rattle.pair_rules.proofs.beside.qualifiers_fault.Statement.{statement}
 use Rattle.pair_rules.proofs.beside.qualifiers_fault.Tie as tie
 
@@ -22,16 +21,5 @@ returns-2 c =
     rw (qualifier-missing (a .set .now) (a .device .now) (entriesOf 6 (a .set .now)) (sym (s .entry-of .ensures) ∙ c .before .enum-told .given .1)) (ends _ _ (rw (s .before .behind-strings .ensures) at (c .ask2 .ensures)))
 
 pub qualifiers-fault-spec : {M : Type 1} → statement M
-qualifiers-fault-spec =
-    tie.close
-    (tie.spec
-    (λ c κs. search needs)
-    (λ c κs. search needs)
-    (λ c. search needs)
-    (λ c κs. search needs)
-    (λ c κs. search needs)
-    (λ c κs. search needs)
-    (λ c. search needs)
-    (λ c κs. search needs)
-    returns
-    returns-2)
+qualifiers-fault-spec = tie.close (tie.spec (λ c κs. search needs) (λ c κs. search needs) (λ c. search needs) (λ c κs. search needs) (λ c κs. search needs)
+    (λ c κs. search needs) (λ c. search needs) (λ c κs. search needs) returns returns-2)

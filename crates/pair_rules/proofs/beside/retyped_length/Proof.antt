@@ -3,11 +3,5 @@ use Rattle.pair_rules.proofs.Agreeing.{retyped-long, retyped-short}
 use Rattle.pair_rules.proofs.beside.retyped_length.Statement.{statement}
 use Rattle.pair_rules.proofs.beside.retyped_length.Tie as tie
 
-returns : tie.Need-returns
-returns c = retyped-short (c .before .args .body .now) (c .if1 .taken)
-
-returns-2 : tie.Need-returns-2
-returns-2 c = retyped-long (c .before .args .body .now) (c .if1 .left)
-
 pub retyped-length-spec : {M : Type 1} → statement M
-retyped-length-spec = tie.close (tie.spec returns returns-2)
+retyped-length-spec = tie.close (tie.spec (λ c. retyped-short (c .before .args .body .now) (c .if1 .taken)) (λ c. retyped-long (c .before .args .body .now) (c .if1 .left)))

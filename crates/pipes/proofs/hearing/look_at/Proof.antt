@@ -1,8 +1,6 @@
 -- `pipes::hearing::look_at` meets its contract: by its length, and by whether the library hears of it. No axiom.
-use mathlib.Core.Path.{sym, _∙_}
-use borrow.Author.Tests.{eq-eqb, ne-eqb}
+use Rattle.octets.proofs.Vocabulary.{sym, _∙_, needs, eq-eqb, ne-eqb}
 use Rattle.pipes.proofs.Looking.{looked-moves, pipe-looked-moves}
-use borrow.Author.Needs.{needs}
 use Rattle.pipes.proofs.hearing.look_at.Statement.{statement}
 use Rattle.pipes.proofs.hearing.look_at.Tie as tie
 

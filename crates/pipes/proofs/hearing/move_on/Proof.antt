@@ -1,7 +1,6 @@
 -- `pipes::hearing::move_on` meets its contract: by whether the pipe record fits. No axiom.
-use mathlib.Core.Path.{sym, _∙_}
+use Rattle.octets.proofs.Vocabulary.{sym, _∙_, needs}
 use Rattle.pipes.proofs.Fitting.{received-fits}
-use borrow.Author.Needs.{needs}
 use Rattle.pipes.proofs.hearing.move_on.Statement.{statement}
 use Rattle.pipes.proofs.hearing.move_on.Tie as tie
 
@@ -15,7 +14,5 @@ returns-2 : tie.Need-returns-2
 returns-2 c = let e = sym (c .before .before .fits-in .ensures) ∙ c .before .if1 .left in (rw (c .unheard .ensures, e), rw e)
 
 pub move-on-spec : {M : Type 1} → statement M
-move-on-spec =
-    tie.close
-    (tie.spec (λ c κs. search needs) (λ c κs. search needs) turned-requires (λ c κs. search needs) (λ c. search needs) returns (λ c κs. search needs)
-    (λ c. search needs) returns-2)
+move-on-spec = tie.close (tie.spec (λ c κs. search needs) (λ c κs. search needs) turned-requires (λ c κs. search needs) (λ c. search needs) returns
+    (λ c κs. search needs) (λ c. search needs) returns-2)

@@ -1,6 +1,6 @@
 -- `pipes::response::part_sent` meets its contract: the packet under way is a part of what is lent. No axiom.
 use Rattle.pipes.proofs.Settling.{sent-inside}
-use borrow.Author.Needs.{needs}
+use Rattle.octets.proofs.Vocabulary.{needs}
 use Rattle.pipes.proofs.response.part_sent.Statement.{statement}
 use Rattle.pipes.proofs.response.part_sent.Tie as tie
 

@@ -1,11 +1,8 @@
 -- `pipes::response::settle` meets its contract: a setup begins a transfer, all else leaves the pipe idle or as it was. No axiom.
-use mathlib.Core.Path.{sym, ap, _∙_}
-use mathlib.Core.List.{List}
-use Prim.Native.Nat.{ℕ}
+use Rattle.octets.proofs.Vocabulary.{sym, ap, _∙_, ℕ, List, needs}
 use Rattle.octets.specs.Octets.{byte}
 use Rattle.sets.specs.Device.{deviceBody, bMaxPacketSize0}
 use Rattle.pipes.proofs.Settling.{settle-begins, settle-restarts}
-use borrow.Author.Needs.{needs}
 use Rattle.pipes.proofs.response.settle.Statement.{statement}
 use Rattle.pipes.proofs.response.settle.Tie as tie
 
@@ -28,7 +25,5 @@ returns-2 c =
     settle-restarts (bMaxPacketSize0 (deviceBody (a .set .now))) (a .wire) (a .setup) (a .answer) (a .pipe .now) (was .before .before .number .result) (sym (was .before .before .before .before .is-setup .ensures) ∙ was .before .before .before .if1 .left) (was .before .before .number .ensures) (was .restart .ensures) (c .plain .ensures)
 
 pub settle-spec : {M : Type 1} → statement M
-settle-spec =
-    tie.close
-    (tie.spec (λ c κs. search needs) (λ c κs. search needs) (λ c κs. search needs) begin-requires (λ c κs. search needs) (λ c. search needs) returns
-    (λ c κs. search needs) (λ c κs. search needs) (λ c κs. search needs) (λ c. search needs) returns-2)
+settle-spec = tie.close (tie.spec (λ c κs. search needs) (λ c κs. search needs) (λ c κs. search needs) begin-requires (λ c κs. search needs) (λ c. search needs)
+    returns (λ c κs. search needs) (λ c κs. search needs) (λ c κs. search needs) (λ c. search needs) returns-2)

@@ -1,5 +1,5 @@
 -- `pipes::response::with_bytes` meets its contract. No axiom.
-use borrow.Author.Needs.{needs}
+use Rattle.octets.proofs.Vocabulary.{needs}
 use Rattle.pipes.proofs.response.with_bytes.Statement.{statement}
 use Rattle.pipes.proofs.response.with_bytes.Tie as tie
 

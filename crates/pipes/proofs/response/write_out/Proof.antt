@@ -1,5 +1,5 @@
 -- `pipes::response::write_out` meets its contract. No axiom.
-use borrow.Author.Needs.{needs}
+use Rattle.octets.proofs.Vocabulary.{needs}
 use Rattle.pipes.proofs.response.write_out.Statement.{statement}
 use Rattle.pipes.proofs.response.write_out.Tie as tie
 

@@ -1,13 +1,8 @@
 -- `records::renewal::clear` meets its contract. The invariant: the bytes before k are 0, the others as they were. No axiom.
-use Prim.Native.Nat.{_-_, _<_, _≤_}
-use mathlib.Core.Path.{_≡_, refl, ap, _∙_}
-use mathlib.Core.List.{_++_}
-use lib.ListN.{length, drop, replicate, length-set}
+use Rattle.octets.proofs.Vocabulary.{_≡_, refl, ap, _∙_, _-_, _<_, _≤_, _++_, length, drop, replicate, length-set, arith, needs}
 use borrow.Author.Count.{falls}
 use Rattle.records.proofs.Putting.{put-on, filled}
-use native.Mathlib.Omega.{arith}
 use borrow.Author.Fill.{fill-none, fill-more}
-use borrow.Author.Needs.{needs}
 use Rattle.records.proofs.renewal.clear.Statement.{statement}
 use Rattle.records.proofs.renewal.clear.Tie as tie
 
@@ -51,15 +46,4 @@ returns c =
     i .1 .1 ∙ filled old k h
 
 pub clear-spec : {M : Type 1} → statement M
-clear-spec =
-    tie.close
-    (tie.spec
-    Inv-loop
-    μ-loop
-    loop-holds
-    put-requires
-    (λ c. search needs)
-    loop-less
-    loop-again
-    same-length
-    returns)
+clear-spec = tie.close (tie.spec Inv-loop μ-loop loop-holds put-requires (λ c. search needs) loop-less loop-again same-length returns)

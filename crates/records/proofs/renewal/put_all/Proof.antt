@@ -1,11 +1,6 @@
 -- `records::renewal::put_all` meets its contract. The invariant: the bytes before k are the other slice's, the others as they were. No axiom.
-use Prim.Native.Nat.{_-_, _<_, _≤_}
-use mathlib.Core.Path.{_≡_, refl, sym, ap, _∙_}
-use mathlib.Core.List.{_++_}
-use lib.ListN.{length, take, drop, length-set}
+use Rattle.octets.proofs.Vocabulary.{_≡_, refl, sym, ap, _∙_, _-_, _<_, _≤_, _++_, length, take, drop, length-set, arith, needs}
 use borrow.Author.Count.{falls}
-use native.Mathlib.Omega.{arith}
-use borrow.Author.Needs.{needs}
 use Rattle.records.proofs.Putting.{put-on, copies-more, copies-all}
 use Rattle.records.proofs.renewal.put_all.Statement.{statement}
 use Rattle.records.proofs.renewal.put_all.Tie as tie
@@ -58,16 +53,4 @@ returns c =
     i .1 .1 ∙ copies-all k (start .args .next .now) old (sym (start .pre) ∙ h) h
 
 pub put-all-spec : {M : Type 1} → statement M
-put-all-spec =
-    tie.close
-    (tie.spec
-    Inv-loop
-    μ-loop
-    loop-holds
-    shared-slice-read-put
-    put-requires
-    (λ c. search needs)
-    loop-less
-    loop-again
-    same-length
-    returns)
+put-all-spec = tie.close (tie.spec Inv-loop μ-loop loop-holds shared-slice-read-put put-requires (λ c. search needs) loop-less loop-again same-length returns)

@@ -1,8 +1,6 @@
 -- `records::renewal::put_configuration` meets its contract: two bytes, and the 24 from the settings on. No axiom.
-use mathlib.Core.Path.{sym, ap, _∙_}
-use lib.ListN.{length}
+use Rattle.octets.proofs.Vocabulary.{sym, ap, _∙_, length, needs}
 use Rattle.records.proofs.Putting.{put-on, cleared}
-use borrow.Author.Needs.{needs}
 use Rattle.records.proofs.renewal.put_configuration.Statement.{statement}
 use Rattle.records.proofs.renewal.put_configuration.Tie as tie
 
@@ -16,14 +14,5 @@ returns c = λ d e.
     (c .before .before .clear .ensures)
 
 pub put-configuration-spec : {M : Type 1} → statement M
-put-configuration-spec =
-    tie.close
-    (tie.spec
-    (λ c κs. search needs)
-    (λ c κs. search needs)
-    (λ c. search needs)
-    (λ c. search needs)
-    (λ c. search needs)
-    (λ c κs. search needs)
-    (λ c. search needs)
-    returns)
+put-configuration-spec = tie.close (tie.spec (λ c κs. search needs) (λ c κs. search needs) (λ c. search needs) (λ c. search needs) (λ c. search needs)
+    (λ c κs. search needs) (λ c. search needs) returns)

@@ -1,7 +1,7 @@
 -- `records::renewal::put_endpoints` meets its contract: the last two parts. No axiom.
 use Rattle.records.specs.Device.{withEndpoints}
 use Rattle.records.proofs.Putting.{halts-put, toggles-put}
-use borrow.Author.Needs.{needs}
+use Rattle.octets.proofs.Vocabulary.{needs}
 use Rattle.records.proofs.renewal.put_endpoints.Statement.{statement}
 use Rattle.records.proofs.renewal.put_endpoints.Tie as tie
 
@@ -12,16 +12,5 @@ returns c = λ d n e.
     toggles-put (withEndpoints (d .alternates) (a .halts) (d .toggles) d) n (a .toggles) (halts-put d n (a .halts) e (first .before .before .put-four .ensures)) (c .before .before .put-four2 .ensures)
 
 pub put-endpoints-spec : {M : Type 1} → statement M
-put-endpoints-spec =
-    tie.close
-    (tie.spec
-    (λ c. search needs)
-    (λ c. search needs)
-    (λ c. search needs)
-    (λ c κs. search needs)
-    (λ c. search needs)
-    (λ c. search needs)
-    (λ c. search needs)
-    (λ c κs. search needs)
-    (λ c. search needs)
-    returns)
+put-endpoints-spec = tie.close (tie.spec (λ c. search needs) (λ c. search needs) (λ c. search needs) (λ c κs. search needs) (λ c. search needs)
+    (λ c. search needs) (λ c. search needs) (λ c κs. search needs) (λ c. search needs) returns)

@@ -1,9 +1,8 @@
 -- `records::renewal::put_four` meets its contract: byte by byte. No axiom.
-use mathlib.Core.Path.{_∙_}
+use Rattle.octets.proofs.Vocabulary.{_∙_, needs}
 use Rattle.records.specs.Image.{bytesOfFour}
 use Rattle.records.proofs.Image.{all-set}
 use Rattle.records.proofs.Putting.{put-on}
-use borrow.Author.Needs.{needs}
 use Rattle.records.proofs.renewal.put_four.Statement.{statement}
 use Rattle.records.proofs.renewal.put_four.Tie as tie
 
@@ -18,16 +17,5 @@ returns c =
     ∙ all-set (start .args .bytes .now) _ _ _ _ (start .pre)
 
 pub put-four-spec : {M : Type 1} → statement M
-put-four-spec =
-    tie.close
-    (tie.spec
-    (λ c. search needs)
-    (λ c κs. search needs)
-    (λ c. search needs)
-    (λ c κs. search needs)
-    (λ c. search needs)
-    (λ c κs. search needs)
-    (λ c. search needs)
-    (λ c κs. search needs)
-    (λ c. search needs)
-    returns)
+put-four-spec = tie.close (tie.spec (λ c. search needs) (λ c κs. search needs) (λ c. search needs) (λ c κs. search needs) (λ c. search needs)
+    (λ c κs. search needs) (λ c. search needs) (λ c κs. search needs) (λ c. search needs) returns)

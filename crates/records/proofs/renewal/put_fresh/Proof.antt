@@ -2,7 +2,7 @@
 use Rattle.records.specs.Device.{withAddress}
 use Rattle.records.specs.Image.{imageOf}
 use Rattle.records.proofs.Putting.{put-on}
-use borrow.Author.Needs.{needs}
+use Rattle.octets.proofs.Vocabulary.{needs}
 use Rattle.records.proofs.renewal.put_fresh.Statement.{statement}
 use Rattle.records.proofs.renewal.put_fresh.Tie as tie
 
@@ -19,14 +19,5 @@ returns c = λ d e.
     (second .before .before .put-configuration .ensures (withAddress 0 0 d) (first .before .before .put-address .ensures d e)))))
 
 pub put-fresh-spec : {M : Type 1} → statement M
-put-fresh-spec =
-    tie.close
-    (tie.spec
-    (λ c κs. search needs)
-    (λ c κs. search needs)
-    (λ c κs. search needs)
-    (λ c κs. search needs)
-    (λ c κs. search needs)
-    (λ c κs. search needs)
-    (λ c. search needs)
-    returns)
+put-fresh-spec = tie.close (tie.spec (λ c κs. search needs) (λ c κs. search needs) (λ c κs. search needs) (λ c κs. search needs) (λ c κs. search needs)
+    (λ c κs. search needs) (λ c. search needs) returns)

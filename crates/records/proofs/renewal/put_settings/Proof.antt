@@ -1,5 +1,5 @@
 -- `records::renewal::put_settings` meets its contract. No axiom.
-use borrow.Author.Needs.{needs}
+use Rattle.octets.proofs.Vocabulary.{needs}
 use Rattle.records.specs.Image.{deviceOf}
 use Rattle.records.proofs.renewal.put_settings.Statement.{statement}
 use Rattle.records.proofs.renewal.put_settings.Tie as tie

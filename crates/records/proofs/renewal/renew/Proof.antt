@@ -1,13 +1,10 @@
 -- `records::renewal::renew` meets its contract: by the length; settled first, then changed. No axiom.
-use Prim.Native.Nat.{ℕ, _<_}
-use mathlib.Core.Path.{sym, ap, _∙_}
-use borrow.Author.Tests.{eq-eqb, ne-eqb}
+use Rattle.octets.proofs.Vocabulary.{sym, ap, _∙_, ℕ, _<_, needs, eq-eqb, ne-eqb}
 use Rattle.octets.specs.Octets.{byte}
 use Rattle.records.specs.Image.{deviceOf, imageOf}
 use Rattle.records.specs.Change.{waitsAfter, settledWith, renewed}
 use Rattle.records.proofs.Image.{device-sized, image-device}
 use Rattle.records.proofs.Putting.{settled-sixteen, settles-once}
-use borrow.Author.Needs.{needs}
 use Rattle.records.proofs.renewal.renew.Statement.{statement}
 use Rattle.records.proofs.renewal.renew.Tie as tie
 
@@ -31,5 +28,4 @@ unfolding renewed
 returns-2 c = rw (ne-eqb _ _ (c .if1 .left))
 
 pub renew-spec : {M : Type 1} → statement M
-renew-spec =
-    tie.close (tie.spec (λ c κs. search needs) (λ c κs. search needs) (λ c κs. search needs) (λ c. search needs) returns returns-2)
+renew-spec = tie.close (tie.spec (λ c κs. search needs) (λ c κs. search needs) (λ c κs. search needs) (λ c. search needs) returns returns-2)

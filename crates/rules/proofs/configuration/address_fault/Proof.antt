@@ -1,6 +1,6 @@
 -- `rules::configuration::address_fault` meets its contract. No axiom.
 use Rattle.rules.specs.After.{after}
-use borrow.Author.Needs.{needs}
+use Rattle.octets.proofs.Vocabulary.{needs}
 use Rattle.rules.proofs.configuration.address_fault.Statement.{statement}
 use Rattle.rules.proofs.configuration.address_fault.Tie as tie
 
@@ -9,13 +9,5 @@ unfolding after
 returns c = cc
 
 pub address-fault-spec : {M : Type 1} → statement M
-address-fault-spec =
-    tie.close
-    (tie.spec
-    (λ c κs. search needs)
-    (λ c κs. search needs)
-    (λ c κs. search needs)
-    (λ c κs. search needs)
-    (λ c κs. search needs)
-    (λ c κs. search needs)
-    returns)
+address-fault-spec = tie.close (tie.spec (λ c κs. search needs) (λ c κs. search needs) (λ c κs. search needs) (λ c κs. search needs) (λ c κs. search needs)
+    (λ c κs. search needs) returns)

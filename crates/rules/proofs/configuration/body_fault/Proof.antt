@@ -1,9 +1,5 @@
 -- `rules::configuration::body_fault` meets its contract. No axiom.
-use Prim.Native.Nat.{_<_}
-use native.Mathlib.Omega.{arith}
-use mathlib.Core.Path.{_≡_, sym, ap, _∙_}
-use lib.ListN.{length, take, drop}
-use lib.Seq.{length-take-le}
+use Rattle.octets.proofs.Vocabulary.{_≡_, sym, ap, _∙_, _<_, length, take, drop, length-take-le, arith, needs}
 use Rattle.descriptors.specs.Cut.{cut}
 use Rattle.descriptors.specs.Configuration.{bNumInterfaces}
 use Rattle.descriptors.specs.Check.{beginning}
@@ -13,7 +9,6 @@ use Rattle.rules.specs.Configuration.{headFindings, headNumbers, restFin
 use Rattle.rules.specs.After.{after}
 use Rattle.rules.proofs.Steps.{body-none, body-stuck}
 use Rattle.rules.proofs.After.{ends, joins}
-use borrow.Author.Needs.{needs}
 use Rattle.rules.proofs.configuration.body_fault.Statement.{statement}
 use Rattle.rules.proofs.configuration.body_fault.Tie as tie
 
@@ -52,18 +47,5 @@ returns-3 c =
     ∙ ap (λ k. after (c .before .before .head-numbers-fault .result) (restFindings (a .limits) (a .start) (bNumInterfaces (take e body)) k 0 beginning before (cut (drop e body)))) (sym long))))
 
 pub body-fault-spec : {M : Type 1} → statement M
-body-fault-spec =
-    tie.close
-    (tie.spec
-    (λ c κs. search needs)
-    returns
-    (λ c κs. search needs)
-    (λ c κs. search needs)
-    (λ c κs. search needs)
-    returns-2
-    slice-aggregate-head
-    (λ c κs. search needs)
-    (λ c κs. search needs)
-    (λ c κs. search needs)
-    rest-fault-requires
-    returns-3)
+body-fault-spec = tie.close (tie.spec (λ c κs. search needs) returns (λ c κs. search needs) (λ c κs. search needs) (λ c κs. search needs) returns-2
+    slice-aggregate-head (λ c κs. search needs) (λ c κs. search needs) (λ c κs. search needs) rest-fault-requires returns-3)

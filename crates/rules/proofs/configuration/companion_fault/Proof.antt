@@ -1,6 +1,6 @@
 -- `rules::configuration::companion_fault` meets its contract. No axiom.
 use Rattle.rules.specs.After.{after}
-use borrow.Author.Needs.{needs}
+use Rattle.octets.proofs.Vocabulary.{needs}
 use Rattle.rules.proofs.configuration.companion_fault.Statement.{statement}
 use Rattle.rules.proofs.configuration.companion_fault.Tie as tie
 
@@ -9,6 +9,4 @@ unfolding after
 returns c = cc
 
 pub companion-fault-spec : {M : Type 1} → statement M
-companion-fault-spec =
-    tie.close
-    (tie.spec (λ c κs. search needs) (λ c κs. search needs) (λ c κs. search needs) (λ c κs. search needs) returns)
+companion-fault-spec = tie.close (tie.spec (λ c κs. search needs) (λ c κs. search needs) (λ c κs. search needs) (λ c κs. search needs) returns)

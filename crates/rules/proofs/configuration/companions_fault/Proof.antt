@@ -1,16 +1,10 @@
 -- `rules::configuration::companions_fault` meets its contract. No axiom.
-use Prim.Native.Nat.{_-_, _≤_}
-use native.Mathlib.Omega.{arith}
-use mathlib.Core.Path.{_≡_, refl, sym, ap, _∙_}
-use mathlib.Core.Bool.{false}
-use lib.ListN.{length, drop}
-use lib.Dec.{eqb}
+use Rattle.octets.proofs.Vocabulary.{_≡_, refl, sym, ap, _∙_, _-_, _≤_, false, length, drop, eqb, arith, needs}
 use Rattle.descriptors.specs.Cut.{cut}
 use Rattle.descriptors.specs.Walk.{standIn, paceOf}
 use Rattle.rules.specs.Configurations.{companionsFrom}
 use Rattle.rules.specs.After.{after}
 use Rattle.rules.proofs.Steps.{goes-on, companions-stuck, companions-on, companions-end}
-use borrow.Author.Needs.{needs}
 use Rattle.rules.proofs.configuration.companions_fault.Statement.{statement}
 use Rattle.rules.proofs.configuration.companions_fault.Tie as tie
 
@@ -59,21 +53,5 @@ returns-2 c =
     c .ask .ensures ∙ sym (l .inv ∙ companions-end (a .start) (a .body .now) (l .at) (l .behind) (l .due) (l .found) (c .before .loop-test .left))
 
 pub companions-fault-spec : {M : Type 1} → statement M
-companions-fault-spec =
-    tie.close
-    (tie.spec
-    Inv-loop
-    μ-loop
-    loop-holds
-    cast-place
-    (λ c κs. search needs)
-    returns
-    (λ c. search needs)
-    (λ c. search needs)
-    part-d-end
-    (λ c κs. search needs)
-    (λ c κs. search needs)
-    loop-less
-    loop-again
-    (λ c κs. search needs)
-    returns-2)
+companions-fault-spec = tie.close (tie.spec Inv-loop μ-loop loop-holds cast-place (λ c κs. search needs) returns (λ c. search needs) (λ c. search needs)
+    part-d-end (λ c κs. search needs) (λ c κs. search needs) loop-less loop-again (λ c κs. search needs) returns-2)

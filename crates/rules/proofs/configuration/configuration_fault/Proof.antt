@@ -1,6 +1,6 @@
 -- `rules::configuration::configuration_fault` meets its contract. No axiom.
 use Rattle.rules.proofs.After.{asks, ends, joins}
-use borrow.Author.Needs.{needs}
+use Rattle.octets.proofs.Vocabulary.{needs}
 use Rattle.rules.proofs.configuration.configuration_fault.Statement.{statement}
 use Rattle.rules.proofs.configuration.configuration_fault.Tie as tie
 
@@ -11,14 +11,5 @@ returns c =
     (joins _ _ _ (c .before .before .before .before .before .body-fault .ensures) (joins _ _ _ (c .before .before .before .before .accompanied-fault .ensures) (asks _ _ _ (rw (c .before .before .before .peek .ensures) at (c .before .before .ask3 .ensures)) (ends _ _ (c .ask4 .ensures))))))
 
 pub configuration-fault-spec : {M : Type 1} → statement M
-configuration-fault-spec =
-    tie.close
-    (tie.spec
-    (λ c κs. search needs)
-    (λ c κs. search needs)
-    (λ c κs. search needs)
-    (λ c κs. search needs)
-    (λ c κs. search needs)
-    (λ c κs. search needs)
-    (λ c κs. search needs)
-    returns)
+configuration-fault-spec = tie.close (tie.spec (λ c κs. search needs) (λ c κs. search needs) (λ c κs. search needs) (λ c κs. search needs)
+    (λ c κs. search needs) (λ c κs. search needs) (λ c κs. search needs) returns)

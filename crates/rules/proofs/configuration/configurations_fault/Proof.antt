@@ -1,9 +1,5 @@
 -- `rules::configuration::configurations_fault` meets its contract. No axiom.
-use Prim.Native.Nat.{_+_, _-_, _*_, _≤_, _<_}
-use native.Mathlib.Omega.{arith}
-use mathlib.Core.Path.{_≡_, refl, sym, ap, _∙_}
-use mathlib.Core.List.{List, [], _∷_}
-use lib.ListN.{length}
+use Rattle.octets.proofs.Vocabulary.{_≡_, refl, sym, ap, _∙_, _+_, _-_, _*_, _≤_, _<_, List, [], _∷_, length, arith, needs}
 use Rattle.sets.proofs.Entries.{rest, rest-start, next-entry, no-entry}
 use Rattle.rules.specs.After.{after}
 use Rattle.octets.proofs.Tables.{with-long}
@@ -11,7 +7,6 @@ use Rattle.descriptors.specs.Configuration.{bConfigurationValue}
 use Rattle.sets.specs.Contents.{bodyOf, entries}
 use Rattle.rules.specs.Configuration.{configurationsFrom}
 use Rattle.rules.proofs.Entries.{Seen, seen-none, seen-more, configuration-in, configuration-past, configurations-end, body-small}
-use borrow.Author.Needs.{needs}
 use Rattle.rules.proofs.configuration.configurations_fault.Statement.{statement}
 use Rattle.rules.proofs.configuration.configurations_fault.Tie as tie
 
@@ -81,26 +76,6 @@ returns c =
     ∙ configurations-end (a .limits) set (4 + 8 * l .i) (l .index) (l .inv .2) (l .found))
 
 pub configurations-fault-spec : {M : Type 1} → statement M
-configurations-fault-spec =
-    tie.close
-    (tie.spec
-    Inv-loop
-    μ-loop
-    (λ c κs. search needs)
-    loop-holds
-    (λ c κs. search needs)
-    (λ c. search needs)
-    (λ c. search needs)
-    (λ c. search needs)
-    (λ c. search needs)
-    (λ c κs. search needs)
-    (λ c κs. search needs)
-    (λ c κs. search needs)
-    configuration-fault-requires
-    (λ c κs. search needs)
-    (λ c. search needs)
-    (λ c. search needs)
-    loop-again
-    (λ c. search needs)
-    loop-again-2
-    returns)
+configurations-fault-spec = tie.close (tie.spec Inv-loop μ-loop (λ c κs. search needs) loop-holds (λ c κs. search needs) (λ c. search needs) (λ c. search needs)
+    (λ c. search needs) (λ c. search needs) (λ c κs. search needs) (λ c κs. search needs) (λ c κs. search needs) configuration-fault-requires
+    (λ c κs. search needs) (λ c. search needs) (λ c. search needs) loop-again (λ c. search needs) loop-again-2 returns)

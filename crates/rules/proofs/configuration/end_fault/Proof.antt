@@ -1,6 +1,6 @@
 -- `rules::configuration::end_fault` meets its contract. No axiom.
 use Rattle.rules.specs.After.{after}
-use borrow.Author.Needs.{needs}
+use Rattle.octets.proofs.Vocabulary.{needs}
 use Rattle.rules.proofs.configuration.end_fault.Statement.{statement}
 use Rattle.rules.proofs.configuration.end_fault.Tie as tie
 
@@ -9,11 +9,4 @@ unfolding after
 returns c = cc
 
 pub end-fault-spec : {M : Type 1} → statement M
-end-fault-spec =
-    tie.close
-    (tie.spec
-    (λ c. search needs)
-    (λ c. search needs)
-    (λ c κs. search needs)
-    (λ c κs. search needs)
-    returns)
+end-fault-spec = tie.close (tie.spec (λ c. search needs) (λ c. search needs) (λ c κs. search needs) (λ c κs. search needs) returns)

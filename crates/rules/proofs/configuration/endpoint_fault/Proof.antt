@@ -2,7 +2,7 @@
 use Rattle.descriptors.specs.Descriptor.{bEndpointAddress, bmAttributes, wMaxPacketSize, bInterval, transferType}
 use Rattle.rules.specs.Configuration.{numberFindings, sizeFindings, intervalFindings}
 use Rattle.rules.proofs.After.{asks, joins}
-use borrow.Author.Needs.{needs}
+use Rattle.octets.proofs.Vocabulary.{needs}
 use Rattle.rules.proofs.configuration.endpoint_fault.Statement.{statement}
 use Rattle.rules.proofs.configuration.endpoint_fault.Tie as tie
 
@@ -21,17 +21,5 @@ returns c =
     (rw address at (c .address-fault .ensures))))))
 
 pub endpoint-fault-spec : {M : Type 1} → statement M
-endpoint-fault-spec =
-    tie.close
-    (tie.spec
-    (λ c κs. search needs)
-    (λ c κs. search needs)
-    (λ c κs. search needs)
-    (λ c κs. search needs)
-    (λ c κs. search needs)
-    (λ c κs. search needs)
-    (λ c κs. search needs)
-    (λ c κs. search needs)
-    (λ c κs. search needs)
-    (λ c κs. search needs)
-    returns)
+endpoint-fault-spec = tie.close (tie.spec (λ c κs. search needs) (λ c κs. search needs) (λ c κs. search needs) (λ c κs. search needs) (λ c κs. search needs)
+    (λ c κs. search needs) (λ c κs. search needs) (λ c κs. search needs) (λ c κs. search needs) (λ c κs. search needs) returns)

@@ -1,6 +1,6 @@
 -- `rules::configuration::head_numbers_fault` meets its contract. No axiom.
 use Rattle.rules.specs.After.{after}
-use borrow.Author.Needs.{needs}
+use Rattle.octets.proofs.Vocabulary.{needs}
 use Rattle.rules.proofs.configuration.head_numbers_fault.Statement.{statement}
 use Rattle.rules.proofs.configuration.head_numbers_fault.Tie as tie
 
@@ -9,15 +9,5 @@ unfolding after
 returns c = cc
 
 pub head-numbers-fault-spec : {M : Type 1} → statement M
-head-numbers-fault-spec =
-    tie.close
-    (tie.spec
-    (λ c κs. search needs)
-    (λ c κs. search needs)
-    (λ c κs. search needs)
-    (λ c κs. search needs)
-    (λ c κs. search needs)
-    (λ c κs. search needs)
-    (λ c κs. search needs)
-    (λ c κs. search needs)
-    returns)
+head-numbers-fault-spec = tie.close (tie.spec (λ c κs. search needs) (λ c κs. search needs) (λ c κs. search needs) (λ c κs. search needs) (λ c κs. search needs)
+    (λ c κs. search needs) (λ c κs. search needs) (λ c κs. search needs) returns)

@@ -1,6 +1,6 @@
 -- `rules::configuration::interval_fault` meets its contract. No axiom.
 use Rattle.rules.specs.After.{after}
-use borrow.Author.Needs.{needs}
+use Rattle.octets.proofs.Vocabulary.{needs}
 use Rattle.rules.proofs.configuration.interval_fault.Statement.{statement}
 use Rattle.rules.proofs.configuration.interval_fault.Tie as tie
 
@@ -9,12 +9,5 @@ unfolding after
 returns c = cc
 
 pub interval-fault-spec : {M : Type 1} → statement M
-interval-fault-spec =
-    tie.close
-    (tie.spec
-    (λ c κs. search needs)
-    (λ c κs. search needs)
-    (λ c κs. search needs)
-    (λ c κs. search needs)
-    (λ c κs. search needs)
+interval-fault-spec = tie.close (tie.spec (λ c κs. search needs) (λ c κs. search needs) (λ c κs. search needs) (λ c κs. search needs) (λ c κs. search needs)
     returns)

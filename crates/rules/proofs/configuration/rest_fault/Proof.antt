@@ -1,15 +1,11 @@
 -- `rules::configuration::rest_fault` meets its contract. No axiom.
-use Prim.Native.Nat.{_-_, _≤_}
-use native.Mathlib.Omega.{arith}
-use mathlib.Core.Path.{_≡_, sym, _∙_}
-use lib.ListN.{length, drop}
+use Rattle.octets.proofs.Vocabulary.{_≡_, sym, _∙_, _-_, _≤_, length, drop, arith, needs}
 use Rattle.descriptors.specs.Cut.{cut}
 use Rattle.descriptors.specs.Walk.{before, standIn, paceOf}
 use Rattle.descriptors.specs.Check.{beginning}
 use Rattle.rules.specs.Configuration.{progressIn, restFindings}
 use Rattle.rules.specs.After.{after}
 use Rattle.rules.proofs.Steps.{goes-on, rest-stuck, rest-on, rest-end}
-use borrow.Author.Needs.{needs}
 use Rattle.rules.proofs.configuration.rest_fault.Statement.{statement}
 use Rattle.rules.proofs.configuration.rest_fault.Tie as tie
 
@@ -63,27 +59,6 @@ returns-2 c =
     ∙ sym (l .inv ∙ rest-end (a .limits) (a .start) (a .interfaces) (a .body .now) (l .at) (l .head) (progressIn (l .progress)) (standIn (l .last)) (l .found) (c .before .before .loop-test .left))
 
 pub rest-fault-spec : {M : Type 1} → statement M
-rest-fault-spec =
-    tie.close
-    (tie.spec
-    Inv-loop
-    μ-loop
-    (λ c κs. search needs)
-    loop-holds
-    cast-place
-    (λ c κs. search needs)
-    (λ c κs. search needs)
-    (λ c κs. search needs)
-    returns
-    (λ c. search needs)
-    (λ c. search needs)
-    part-d-end
-    (λ c κs. search needs)
-    (λ c κs. search needs)
-    (λ c κs. search needs)
-    (λ c κs. search needs)
-    loop-less
-    loop-again
-    (λ c κs. search needs)
-    (λ c κs. search needs)
-    returns-2)
+rest-fault-spec = tie.close (tie.spec Inv-loop μ-loop (λ c κs. search needs) loop-holds cast-place (λ c κs. search needs) (λ c κs. search needs)
+    (λ c κs. search needs) returns (λ c. search needs) (λ c. search needs) part-d-end (λ c κs. search needs) (λ c κs. search needs) (λ c κs. search needs)
+    (λ c κs. search needs) loop-less loop-again (λ c κs. search needs) (λ c κs. search needs) returns-2)

@@ -1,8 +1,6 @@
 -- `rules::configuration::type_fault` meets its contract. No axiom.
-use mathlib.Core.Path.{sym, _∙_}
-use borrow.Author.Tests.{eq-eqb, ne-eqb}
+use Rattle.octets.proofs.Vocabulary.{sym, _∙_, needs, eq-eqb, ne-eqb}
 use Rattle.rules.specs.After.{after}
-use borrow.Author.Needs.{needs}
 use Rattle.rules.proofs.configuration.type_fault.Statement.{statement}
 use Rattle.rules.proofs.configuration.type_fault.Tie as tie
 
@@ -17,12 +15,4 @@ unfolding after
 returns-3 c = simp (ne-eqb _ _ (λ e. c .before .if1 .left (c .before .before .peek .ensures ∙ e)), ne-eqb _ _ (λ e. c .if2 .left (c .before .before .peek .ensures ∙ e)))
 
 pub type-fault-spec : {M : Type 1} → statement M
-type-fault-spec =
-    tie.close
-    (tie.spec
-    (λ c κs. search needs)
-    (λ c κs. search needs)
-    returns
-    (λ c κs. search needs)
-    returns-2
-    returns-3)
+type-fault-spec = tie.close (tie.spec (λ c κs. search needs) (λ c κs. search needs) returns (λ c κs. search needs) returns-2 returns-3)

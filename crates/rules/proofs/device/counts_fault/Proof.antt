@@ -1,6 +1,6 @@
 -- `rules::device::counts_fault` meets its contract. No axiom.
 use Rattle.rules.specs.After.{after}
-use borrow.Author.Needs.{needs}
+use Rattle.octets.proofs.Vocabulary.{needs}
 use Rattle.rules.proofs.device.counts_fault.Statement.{statement}
 use Rattle.rules.proofs.device.counts_fault.Tie as tie
 
@@ -9,14 +9,5 @@ unfolding after
 returns c = cc
 
 pub counts-fault-spec : {M : Type 1} → statement M
-counts-fault-spec =
-    tie.close
-    (tie.spec
-    (λ c κs. search needs)
-    (λ c κs. search needs)
-    (λ c κs. search needs)
-    (λ c κs. search needs)
-    (λ c κs. search needs)
-    (λ c κs. search needs)
-    (λ c κs. search needs)
-    returns)
+counts-fault-spec = tie.close (tie.spec (λ c κs. search needs) (λ c κs. search needs) (λ c κs. search needs) (λ c κs. search needs) (λ c κs. search needs)
+    (λ c κs. search needs) (λ c κs. search needs) returns)

@@ -1,10 +1,8 @@
 -- `rules::device::device_fault` meets its contract: the device's entry, and the BOS of a kind that has one. No axiom.
-use mathlib.Core.Path.{sym, _∙_}
-use mathlib.Core.List.{[]}
+use Rattle.octets.proofs.Vocabulary.{sym, _∙_, [], needs}
 use Rattle.sets.specs.Contents.{entriesOf}
 use Rattle.rules.specs.Device.{deviceEntryFindings}
 use Rattle.rules.proofs.After.{joins, nothing-more}
-use borrow.Author.Needs.{needs}
 use Rattle.rules.proofs.device.device_fault.Statement.{statement}
 use Rattle.rules.proofs.device.device_fault.Tie as tie
 

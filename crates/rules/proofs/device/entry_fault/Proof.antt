@@ -1,9 +1,8 @@
 -- `rules::device::entry_fault` meets its contract. No axiom.
-use mathlib.Core.Path.{sym, _∙_}
+use Rattle.octets.proofs.Vocabulary.{sym, _∙_, needs}
 use Rattle.sets.specs.Contents.{entriesOf}
 use Rattle.rules.proofs.Entries.{device-found, device-missing}
 use Rattle.rules.proofs.After.{asks, ends}
-use borrow.Author.Needs.{needs}
 use Rattle.rules.proofs.device.entry_fault.Statement.{statement}
 use Rattle.rules.proofs.device.entry_fault.Tie as tie
 
@@ -22,15 +21,5 @@ returns-2 c =
     rw (device-missing (a .limits) (a .set .now) (entriesOf 1 (a .set .now)) (sym (s .entry-of .ensures) ∙ c .before .enum-told .given .1)) (ends _ _ (c .ask2 .ensures))
 
 pub entry-fault-spec : {M : Type 1} → statement M
-entry-fault-spec =
-    tie.close
-    (tie.spec
-    (λ c κs. search needs)
-    (λ c. search needs)
-    (λ c κs. search needs)
-    (λ c κs. search needs)
-    (λ c κs. search needs)
-    (λ c. search needs)
-    (λ c κs. search needs)
-    returns
-    returns-2)
+entry-fault-spec = tie.close (tie.spec (λ c κs. search needs) (λ c. search needs) (λ c κs. search needs) (λ c κs. search needs) (λ c κs. search needs)
+    (λ c. search needs) (λ c κs. search needs) returns returns-2)

@@ -2,7 +2,7 @@
 use Rattle.sets.specs.Contents.{bodyOf}
 use Rattle.rules.specs.Device.{deviceHead}
 use Rattle.rules.proofs.After.{asks, joins}
-use borrow.Author.Needs.{needs}
+use Rattle.octets.proofs.Vocabulary.{needs}
 use Rattle.rules.proofs.device.one_fault.Statement.{statement}
 use Rattle.rules.proofs.device.one_fault.Tie as tie
 
@@ -17,14 +17,5 @@ returns c =
     (joins _ (deviceHead (a .limits) (a .e .offset) (bodyOf set (a .e))) _ (rw b at (c .before .before .head-fault .ensures)) (rw (b, c .before .count-of .ensures) at (c .counts-fault .ensures)))))
 
 pub one-fault-spec : {M : Type 1} → statement M
-one-fault-spec =
-    tie.close
-    (tie.spec
-    (λ c κs. search needs)
-    (λ c κs. search needs)
-    (λ c κs. search needs)
-    (λ c κs. search needs)
-    (λ c κs. search needs)
-    (λ c κs. search needs)
-    (λ c κs. search needs)
-    returns)
+one-fault-spec = tie.close (tie.spec (λ c κs. search needs) (λ c κs. search needs) (λ c κs. search needs) (λ c κs. search needs) (λ c κs. search needs)
+    (λ c κs. search needs) (λ c κs. search needs) returns)

@@ -1,8 +1,7 @@
 -- `rules::device::serial_fault` meets its contract. No axiom.
 use Rattle.rules.specs.After.{after}
-use borrow.Author.Tests.{eq-eqb, ne-eqb}
+use Rattle.octets.proofs.Vocabulary.{needs, eq-eqb, ne-eqb}
 use Rattle.rules.proofs.After.{ends}
-use borrow.Author.Needs.{needs}
 use Rattle.rules.proofs.device.serial_fault.Statement.{statement}
 use Rattle.rules.proofs.device.serial_fault.Tie as tie
 
@@ -14,17 +13,5 @@ unfolding after
 returns-2 c = simp (ne-eqb _ _ (c .before .before .before .before .before .before .before .if1 .left)) (cc)
 
 pub serial-fault-spec : {M : Type 1} → statement M
-serial-fault-spec =
-    tie.close
-    (tie.spec
-    (λ c κs. search needs)
-    returns
-    (λ c κs. search needs)
-    (λ c κs. search needs)
-    (λ c κs. search needs)
-    (λ c κs. search needs)
-    (λ c. search needs)
-    (λ c κs. search needs)
-    (λ c κs. search needs)
-    (λ c κs. search needs)
-    returns-2)
+serial-fault-spec = tie.close (tie.spec (λ c κs. search needs) returns (λ c κs. search needs) (λ c κs. search needs) (λ c κs. search needs)
+    (λ c κs. search needs) (λ c. search needs) (λ c κs. search needs) (λ c κs. search needs) (λ c κs. search needs) returns-2)

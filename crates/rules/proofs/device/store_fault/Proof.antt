@@ -1,6 +1,6 @@
 -- `rules::device::store_fault` meets its contract. No axiom.
 use Rattle.rules.specs.After.{after}
-use borrow.Author.Needs.{needs}
+use Rattle.octets.proofs.Vocabulary.{needs}
 use Rattle.rules.proofs.device.store_fault.Statement.{statement}
 use Rattle.rules.proofs.device.store_fault.Tie as tie
 
@@ -9,14 +9,5 @@ unfolding after
 returns c = cc
 
 pub store-fault-spec : {M : Type 1} → statement M
-store-fault-spec =
-    tie.close
-    (tie.spec
-    (λ c κs. search needs)
-    (λ c κs. search needs)
-    (λ c κs. search needs)
-    (λ c κs. search needs)
-    (λ c κs. search needs)
-    (λ c. search needs)
-    (λ c κs. search needs)
-    returns)
+store-fault-spec = tie.close (tie.spec (λ c κs. search needs) (λ c κs. search needs) (λ c κs. search needs) (λ c κs. search needs) (λ c κs. search needs)
+    (λ c. search needs) (λ c κs. search needs) returns)

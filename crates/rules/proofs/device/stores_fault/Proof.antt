@@ -1,9 +1,8 @@
 -- `rules::device::stores_fault` meets its contract. No axiom.
-use mathlib.Core.Path.{sym, _∙_}
+use Rattle.octets.proofs.Vocabulary.{sym, _∙_, needs}
 use Rattle.sets.specs.Contents.{entriesOf}
 use Rattle.rules.proofs.Entries.{store-found, store-missing}
 use Rattle.rules.proofs.After.{asks, ends}
-use borrow.Author.Needs.{needs}
 use Rattle.rules.proofs.device.stores_fault.Statement.{statement}
 use Rattle.rules.proofs.device.stores_fault.Tie as tie
 
@@ -22,20 +21,6 @@ returns-2 c =
     rw (store-missing (a .set .now) (entriesOf 15 (a .set .now)) (sym (s .entry-of .ensures) ∙ c .before .before .enum-told .given .1)) (ends _ _ (rw (c .before .peek .ensures) at (c .ask2 .ensures)))
 
 pub stores-fault-spec : {M : Type 1} → statement M
-stores-fault-spec =
-    tie.close
-    (tie.spec
-    (λ c κs. search needs)
-    (λ c. search needs)
-    (λ c κs. search needs)
-    (λ c κs. search needs)
-    (λ c κs. search needs)
-    (λ c κs. search needs)
-    (λ c. search needs)
-    (λ c κs. search needs)
-    (λ c. search needs)
-    (λ c. search needs)
-    (λ c. search needs)
-    (λ c κs. search needs)
-    returns
+stores-fault-spec = tie.close (tie.spec (λ c κs. search needs) (λ c. search needs) (λ c κs. search needs) (λ c κs. search needs) (λ c κs. search needs)
+    (λ c κs. search needs) (λ c. search needs) (λ c κs. search needs) (λ c. search needs) (λ c. search needs) (λ c. search needs) (λ c κs. search needs) returns
     returns-2)

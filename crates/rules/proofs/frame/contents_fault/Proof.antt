@@ -1,15 +1,10 @@
 -- `rules::frame::contents_fault` meets its contract. No axiom.
-use Prim.Native.Nat.{_+_, _-_, _*_, _≤_}
-use native.Mathlib.Omega.{arith}
-use mathlib.Core.Path.{_≡_, sym, ap, _∙_}
+use Rattle.octets.proofs.Vocabulary.{_≡_, sym, ap, _∙_, _+_, _-_, _*_, _≤_, true, eqb, arith, needs}
 use Rattle.sets.proofs.Entries.{rest, rest-start, next-entry, no-entry}
 use Rattle.rules.specs.After.{after}
-use mathlib.Core.Bool.{true}
-use lib.Dec.{eqb}
 use Rattle.sets.specs.Contents.{total, bodiesAt, entries}
 use Rattle.rules.specs.Frame.{contentsAsked, noEntry}
 use Rattle.rules.proofs.Entries.{contents-turn, contents-end}
-use borrow.Author.Needs.{needs}
 use Rattle.rules.proofs.frame.contents_fault.Statement.{statement}
 use Rattle.rules.proofs.frame.contents_fault.Tie as tie
 
@@ -52,30 +47,7 @@ returns c =
     ∙ contents-end (a .limits) (total set) (l .i) (l .last) (l .start) (l .found) (w .before .before .peek .result) (omega (arith, l .inv .0, w .loop-test .left)))
 
 pub contents-fault-spec : {M : Type 1} → statement M
-contents-fault-spec =
-    tie.close
-    (tie.spec
-    Inv-loop
-    μ-loop
-    (λ c κs. search needs)
-    (λ c. search needs)
-    (λ c. search needs)
-    (λ c. search needs)
-    loop-holds
-    (λ c κs. search needs)
-    (λ c. search needs)
-    (λ c. search needs)
-    (λ c. search needs)
-    (λ c κs. search needs)
-    (λ c. search needs)
-    (λ c. search needs)
-    (λ c. search needs)
-    (λ c. search needs)
-    loop-again
-    (λ c. search needs)
-    (λ c. search needs)
-    (λ c. search needs)
-    (λ c κs. search needs)
-    (λ c. search needs)
-    (λ c κs. search needs)
-    returns)
+contents-fault-spec = tie.close (tie.spec Inv-loop μ-loop (λ c κs. search needs) (λ c. search needs) (λ c. search needs) (λ c. search needs) loop-holds
+    (λ c κs. search needs) (λ c. search needs) (λ c. search needs) (λ c. search needs) (λ c κs. search needs) (λ c. search needs) (λ c. search needs)
+    (λ c. search needs) (λ c. search needs) loop-again (λ c. search needs) (λ c. search needs) (λ c. search needs) (λ c κs. search needs) (λ c. search needs)
+    (λ c κs. search needs) returns)

@@ -1,6 +1,6 @@
 -- `rules::frame::frame_fault` meets its contract. No axiom.
 use Rattle.rules.proofs.After.{asks, ends}
-use borrow.Author.Needs.{needs}
+use Rattle.octets.proofs.Vocabulary.{needs}
 use Rattle.rules.proofs.frame.frame_fault.Statement.{statement}
 use Rattle.rules.proofs.frame.frame_fault.Tie as tie
 
@@ -16,21 +16,6 @@ returns c =
     (asks _ _ _ (rw (c .before .before .peek2 .ensures) at (c .before .ask6 .ensures)) (ends _ _ (rw (n, w) at (c .ask7 .ensures))))))))
 
 pub frame-fault-spec : {M : Type 1} → statement M
-frame-fault-spec =
-    tie.close
-    (tie.spec
-    (λ c κs. search needs)
-    (λ c. search needs)
-    (λ c κs. search needs)
-    (λ c. search needs)
-    (λ c κs. search needs)
-    (λ c κs. search needs)
-    (λ c κs. search needs)
-    (λ c κs. search needs)
-    (λ c κs. search needs)
-    (λ c κs. search needs)
-    (λ c κs. search needs)
-    (λ c. search needs)
-    (λ c. search needs)
-    (λ c κs. search needs)
-    returns)
+frame-fault-spec = tie.close (tie.spec (λ c κs. search needs) (λ c. search needs) (λ c κs. search needs) (λ c. search needs) (λ c κs. search needs)
+    (λ c κs. search needs) (λ c κs. search needs) (λ c κs. search needs) (λ c κs. search needs) (λ c κs. search needs) (λ c κs. search needs)
+    (λ c. search needs) (λ c. search needs) (λ c κs. search needs) returns)

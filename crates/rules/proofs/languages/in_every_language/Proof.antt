@@ -1,10 +1,5 @@
 -- `rules::languages::in_every_language` meets its contract: the table is right for the languages passed. No axiom.
-use Prim.Native.Nat.{ℕ, _+_, _-_, _≤_, _<_}
-use native.Mathlib.Omega.{arith}
-use mathlib.Core.Bool.{Bool, _&&_, and-true, and-assoc}
-use mathlib.Core.Path.{_≡_, sym, ap, _∙_}
-use lib.ListN.{length, drop}
-use borrow.Author.Needs.{needs}
+use Rattle.octets.proofs.Vocabulary.{_≡_, sym, ap, _∙_, ℕ, _+_, _-_, _≤_, _<_, Bool, _&&_, and-true, and-assoc, length, drop, arith, needs}
 use Rattle.octets.specs.Sentences.{every, any}
 use Rattle.octets.specs.Table.{has}
 use Rattle.octets.proofs.Tables.{has-all}
@@ -44,16 +39,5 @@ returns c =
     ∙ rw (every-empty, and-true))
 
 pub in-every-language-spec : {M : Type 1} → statement M
-in-every-language-spec =
-    tie.close
-    (tie.spec
-    Inv-loop
-    μ-loop
-    loop-holds
-    (λ c. search needs)
-    (λ c κs. search needs)
-    (λ c κs. search needs)
-    (λ c. search needs)
-    (λ c. search needs)
-    loop-again
-    returns)
+in-every-language-spec = tie.close (tie.spec Inv-loop μ-loop loop-holds (λ c. search needs) (λ c κs. search needs) (λ c κs. search needs) (λ c. search needs)
+    (λ c. search needs) loop-again returns)

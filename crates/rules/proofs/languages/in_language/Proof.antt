@@ -1,10 +1,5 @@
 -- `rules::languages::in_language` meets its contract: those in the new table, and those that the entries left still add, are all. No axiom.
-use Prim.Native.Nat.{ℕ, _-_, _<_}
-use mathlib.Core.Bool.{_&&_, _||_, and-false, or-false}
-use mathlib.Core.List.{map}
-use mathlib.Core.Path.{_≡_, refl, sym, ap, _∙_}
-use lib.ListN.{length}
-use borrow.Author.Needs.{needs}
+use Rattle.octets.proofs.Vocabulary.{_≡_, refl, sym, ap, _∙_, ℕ, _-_, _<_, map, _&&_, _||_, and-false, or-false, length, needs}
 use Rattle.octets.specs.Sentences.{any}
 use Rattle.octets.specs.Table.{has}
 use Rattle.octets.proofs.Tables.{has-none, with-long}
@@ -54,19 +49,5 @@ returns c =
     ∙ rw (only-empty, any-empty, and-false, or-false))
 
 pub in-language-spec : {M : Type 1} → statement M
-in-language-spec =
-    tie.close
-    (tie.spec
-    Inv-loop
-    μ-loop
-    (λ c κs. search needs)
-    loop-holds
-    (λ c κs. search needs)
-    (λ c. search needs)
-    (λ c κs. search needs)
-    (λ c κs. search needs)
-    (λ c. search needs)
-    loop-again
-    (λ c. search needs)
-    loop-again-2
-    returns)
+in-language-spec = tie.close (tie.spec Inv-loop μ-loop (λ c κs. search needs) loop-holds (λ c κs. search needs) (λ c. search needs) (λ c κs. search needs)
+    (λ c κs. search needs) (λ c. search needs) loop-again (λ c. search needs) loop-again-2 returns)

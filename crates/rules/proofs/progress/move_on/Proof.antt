@@ -1,7 +1,5 @@
 -- `rules::progress::move_on` meets its contract. No axiom.
-use mathlib.Core.Path.{sym, _∙_}
-use borrow.Author.Tests.{eq-eqb, ne-eqb}
-use borrow.Author.Needs.{needs}
+use Rattle.octets.proofs.Vocabulary.{sym, _∙_, needs, eq-eqb, ne-eqb}
 use Rattle.rules.proofs.progress.move_on.Statement.{statement}
 use Rattle.rules.proofs.progress.move_on.Tie as tie
 
@@ -15,6 +13,4 @@ returns-3 : tie.Need-returns-3
 returns-3 c = simp (ne-eqb _ _ (λ e. c .before .if1 .left (c .before .before .peek .ensures ∙ e)), ne-eqb _ _ (λ e. c .if2 .left (c .before .before .peek .ensures ∙ e)))
 
 pub move-on-spec : {M : Type 1} → statement M
-move-on-spec =
-    tie.close
-    (tie.spec (λ c κs. search needs) (λ c κs. search needs) returns (λ c κs. search needs) returns-2 returns-3)
+move-on-spec = tie.close (tie.spec (λ c κs. search needs) (λ c κs. search needs) returns (λ c κs. search needs) returns-2 returns-3)

@@ -1,6 +1,6 @@
 -- `rules::string::body_fault` meets its contract. No axiom.
 use Rattle.rules.specs.After.{after}
-use borrow.Author.Needs.{needs}
+use Rattle.octets.proofs.Vocabulary.{needs}
 use Rattle.rules.proofs.string.body_fault.Statement.{statement}
 use Rattle.rules.proofs.string.body_fault.Tie as tie
 
@@ -9,13 +9,5 @@ unfolding after
 returns c = cc
 
 pub body-fault-spec : {M : Type 1} → statement M
-body-fault-spec =
-    tie.close
-    (tie.spec
-    (λ c κs. search needs)
-    (λ c. search needs)
-    (λ c κs. search needs)
-    (λ c κs. search needs)
-    (λ c κs. search needs)
-    (λ c κs. search needs)
-    returns)
+body-fault-spec = tie.close (tie.spec (λ c κs. search needs) (λ c. search needs) (λ c κs. search needs) (λ c κs. search needs) (λ c κs. search needs)
+    (λ c κs. search needs) returns)

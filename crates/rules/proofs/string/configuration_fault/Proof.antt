@@ -1,8 +1,5 @@
 -- `rules::string::configuration_fault` meets its contract. No axiom.
-use Prim.Native.Nat.{ℕ, _-_, _≤_, _<_}
-use native.Mathlib.Omega.{arith}
-use mathlib.Core.Path.{_≡_, refl, sym, _∙_}
-use lib.ListN.{length, drop}
+use Rattle.octets.proofs.Vocabulary.{_≡_, refl, sym, _∙_, ℕ, _-_, _≤_, _<_, length, drop, arith, needs}
 use Rattle.descriptors.specs.Cut.{cut}
 use Rattle.descriptors.specs.Walk.{standIn, paceOf}
 use Rattle.octets.specs.Octets.{part}
@@ -17,7 +14,6 @@ use Rattle.rules.specs.After.{after}
 use Rattle.rules.proofs.Entries.{judged-same, short}
 use Rattle.rules.proofs.Steps.{goes-on, interfaces-stuck, interfaces-on, interfaces-end}
 use Rattle.rules.proofs.After.{joins}
-use borrow.Author.Needs.{needs}
 use Rattle.rules.proofs.string.configuration_fault.Statement.{statement}
 use Rattle.rules.proofs.string.configuration_fault.Tie as tie
 
@@ -90,22 +86,5 @@ returns-2 c =
     refs (c .before .before) (l .inv ∙ interfaces-end (a .set .now) (a .e .offset) (c .before .before .before .before .body-of .result .now) (l .at) (l .found) (c .loop-test .left))
 
 pub configuration-fault-spec : {M : Type 1} → statement M
-configuration-fault-spec =
-    tie.close
-    (tie.spec
-    Inv-loop
-    μ-loop
-    (λ c κs. search needs)
-    (λ c κs. search needs)
-    (λ c κs. search needs)
-    loop-holds
-    cast-place
-    (λ c κs. search needs)
-    returns
-    (λ c. search needs)
-    (λ c. search needs)
-    part-interface-fault-end
-    (λ c κs. search needs)
-    loop-less
-    loop-again
-    returns-2)
+configuration-fault-spec = tie.close (tie.spec Inv-loop μ-loop (λ c κs. search needs) (λ c κs. search needs) (λ c κs. search needs) loop-holds cast-place
+    (λ c κs. search needs) returns (λ c. search needs) (λ c. search needs) part-interface-fault-end (λ c κs. search needs) loop-less loop-again returns-2)

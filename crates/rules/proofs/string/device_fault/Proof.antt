@@ -1,11 +1,10 @@
 -- `rules::string::device_fault` meets its contract. No axiom.
-use Prim.Native.Nat.{_<_}
+use Rattle.octets.proofs.Vocabulary.{_<_, needs}
 use Rattle.sets.specs.Contents.{bodiesAt}
 use Rattle.sets.specs.Device.{deviceBody, iManufacturer, iProduct, iSerialNumber}
 use Rattle.rules.specs.Strings.{referenceFindings}
 use Rattle.rules.proofs.Entries.{judged-same}
 use Rattle.rules.proofs.After.{joins}
-use borrow.Author.Needs.{needs}
 use Rattle.rules.proofs.string.device_fault.Statement.{statement}
 use Rattle.rules.proofs.string.device_fault.Tie as tie
 
@@ -33,18 +32,5 @@ returns c =
     (rw (at, c .before .peek4 .ensures, b, judged-same j s 0 16 (iSerialNumber d) (third (c .before))) at (c .reference-fault3 .ensures)))
 
 pub device-fault-spec : {M : Type 1} → statement M
-device-fault-spec =
-    tie.close
-    (tie.spec
-    (λ c κs. search needs)
-    (λ c κs. search needs)
-    (λ c. search needs)
-    (λ c. search needs)
-    (λ c. search needs)
-    (λ c κs. search needs)
-    (λ c κs. search needs)
-    (λ c κs. search needs)
-    (λ c κs. search needs)
-    (λ c κs. search needs)
-    (λ c κs. search needs)
-    returns)
+device-fault-spec = tie.close (tie.spec (λ c κs. search needs) (λ c κs. search needs) (λ c. search needs) (λ c. search needs) (λ c. search needs)
+    (λ c κs. search needs) (λ c κs. search needs) (λ c κs. search needs) (λ c κs. search needs) (λ c κs. search needs) (λ c κs. search needs) returns)

@@ -1,14 +1,11 @@
 -- `rules::string::entries_fault` meets its contract. No axiom.
-use Prim.Native.Nat.{_+_, _-_, _*_}
-use mathlib.Core.Path.{_≡_, sym, ap, _∙_}
-use lib.ListN.{drop}
+use Rattle.octets.proofs.Vocabulary.{_≡_, sym, ap, _∙_, _+_, _-_, _*_, drop, needs}
 use Rattle.sets.proofs.Entries.{rest, rest-start, next-entry, no-entry}
 use Rattle.rules.specs.After.{after}
 use Rattle.sets.specs.Contents.{entries}
 use Rattle.sets.specs.Strings.{words}
 use Rattle.rules.specs.Strings.{stringsFrom}
 use Rattle.rules.proofs.Entries.{string-in, string-past, strings-end}
-use borrow.Author.Needs.{needs}
 use Rattle.rules.proofs.string.entries_fault.Statement.{statement}
 use Rattle.rules.proofs.string.entries_fault.Tie as tie
 
@@ -60,22 +57,5 @@ returns c =
     ∙ strings-end set (words (drop 2 (a .zero .now))) (a .serial) (4 + 8 * l .i) (l .found))
 
 pub entries-fault-spec : {M : Type 1} → statement M
-entries-fault-spec =
-    tie.close
-    (tie.spec
-    Inv-loop
-    μ-loop
-    (λ c κs. search needs)
-    loop-holds
-    (λ c κs. search needs)
-    (λ c. search needs)
-    (λ c. search needs)
-    (λ c. search needs)
-    (λ c. search needs)
-    (λ c κs. search needs)
-    entry-fault-requires
-    (λ c. search needs)
-    loop-again
-    (λ c. search needs)
-    loop-again-2
-    returns)
+entries-fault-spec = tie.close (tie.spec Inv-loop μ-loop (λ c κs. search needs) loop-holds (λ c κs. search needs) (λ c. search needs) (λ c. search needs)
+    (λ c. search needs) (λ c. search needs) (λ c κs. search needs) entry-fault-requires (λ c. search needs) loop-again (λ c. search needs) loop-again-2 returns)

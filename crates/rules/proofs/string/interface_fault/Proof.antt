@@ -1,8 +1,6 @@
 -- `rules::string::interface_fault` meets its contract. No axiom.
-use mathlib.Core.Path.{sym, _∙_}
-use borrow.Author.Tests.{eq-eqb, ne-eqb}
+use Rattle.octets.proofs.Vocabulary.{sym, _∙_, needs, eq-eqb, ne-eqb}
 use Rattle.rules.specs.After.{after}
-use borrow.Author.Needs.{needs}
 use Rattle.rules.proofs.string.interface_fault.Statement.{statement}
 use Rattle.rules.proofs.string.interface_fault.Tie as tie
 
@@ -14,11 +12,4 @@ unfolding after
 returns-2 c = simp (ne-eqb _ _ (λ e. c .if1 .left (c .before .peek .ensures ∙ e)))
 
 pub interface-fault-spec : {M : Type 1} → statement M
-interface-fault-spec =
-    tie.close
-    (tie.spec
-    (λ c κs. search needs)
-    (λ c κs. search needs)
-    (λ c κs. search needs)
-    returns
-    returns-2)
+interface-fault-spec = tie.close (tie.spec (λ c κs. search needs) (λ c κs. search needs) (λ c κs. search needs) returns returns-2)

@@ -1,5 +1,5 @@
 -- `rules::string::judged_fault` meets its contract. No axiom.
-use mathlib.Core.Path.{ap, _∙_}
+use Rattle.octets.proofs.Vocabulary.{ap, _∙_, needs}
 use Rattle.sets.specs.Contents.{entries}
 use Rattle.sets.specs.Device.{deviceBody, iSerialNumber}
 use Rattle.sets.specs.Pieces.{piecesIn, piecesOf}
@@ -9,7 +9,6 @@ use Rattle.rules.specs.Strings.{stringsFrom, listedFrom, deviceReference
 use Rattle.rules.specs.After.{Judges}
 use Rattle.rules.proofs.Entries.{some-left}
 use Rattle.rules.proofs.After.{asks, joins}
-use borrow.Author.Needs.{needs}
 use Rattle.rules.proofs.string.judged_fault.Statement.{statement}
 use Rattle.rules.proofs.string.judged_fault.Tie as tie
 
@@ -19,9 +18,6 @@ judges c = record {
   index = c .before .serial-index .ensures;
   named = λ j h. c .in-every-language .ensures j h ∙ ap (λ ls. inEvery ls (piecesOf 3 (piecesIn (c .before .before .before .before .args .set .now))) j) (c .before .before .before .before .pre .listed);
 }
-
-device-fault-requires : tie.Need-device-fault-requires
-device-fault-requires c κs = judges (c .before .before .before .before .before .before)
 
 references-fault-requires : tie.Need-references-fault-requires
 references-fault-requires c κs = judges (c .before .before .before .before .before .before .before .before)
@@ -37,19 +33,6 @@ returns c =
     (joins _ (deviceReferences set) _ (c .before .before .device-fault .ensures) (c .references-fault .ensures))))
 
 pub judged-fault-spec : {M : Type 1} → statement M
-judged-fault-spec =
-    tie.close
-    (tie.spec
-    (λ c κs. search needs)
-    (λ c κs. search needs)
-    (λ c κs. search needs)
-    (λ c κs. search needs)
-    (λ c κs. search needs)
-    (λ c. search needs)
-    (λ c. search needs)
-    (λ c. search needs)
-    (λ c κs. search needs)
-    (λ c κs. search needs)
-    device-fault-requires
-    references-fault-requires
-    returns)
+judged-fault-spec = tie.close (tie.spec (λ c κs. search needs) (λ c κs. search needs) (λ c κs. search needs) (λ c κs. search needs) (λ c κs. search needs)
+    (λ c. search needs) (λ c. search needs) (λ c. search needs) (λ c κs. search needs) (λ c κs. search needs)
+    (λ c κs. judges (c .before .before .before .before .before .before)) references-fault-requires returns)

@@ -1,14 +1,10 @@
 -- `rules::string::languages_fault` meets its contract. No axiom.
-use Prim.Native.Nat.{_+_, _-_, _≤_}
-use native.Mathlib.Omega.{arith}
-use mathlib.Core.Path.{_≡_, refl, sym, ap, _∙_}
-use lib.ListN.{length, drop}
+use Rattle.octets.proofs.Vocabulary.{_≡_, refl, sym, ap, _∙_, _+_, _-_, _≤_, length, drop, arith, needs}
 use Rattle.sets.specs.Strings.{words}
 use Rattle.sets.proofs.Strings.{words-more, words-end}
 use Rattle.rules.specs.Strings.{languagesFrom}
 use Rattle.rules.specs.After.{after}
 use Rattle.rules.proofs.Entries.{languages-turn, languages-end}
-use borrow.Author.Needs.{needs}
 use Rattle.rules.proofs.string.languages_fault.Statement.{statement}
 use Rattle.rules.proofs.string.languages_fault.Tie as tie
 
@@ -47,18 +43,5 @@ returns c =
     ∙ languages-end (a .start) (l .at) (l .last) (l .found))
 
 pub languages-fault-spec : {M : Type 1} → statement M
-languages-fault-spec =
-    tie.close
-    (tie.spec
-    Inv-loop
-    μ-loop
-    loop-holds
-    (λ c. search needs)
-    cast-place
-    (λ c κs. search needs)
-    (λ c κs. search needs)
-    (λ c κs. search needs)
-    (λ c. search needs)
-    (λ c. search needs)
-    loop-again
-    returns)
+languages-fault-spec = tie.close (tie.spec Inv-loop μ-loop loop-holds (λ c. search needs) cast-place (λ c κs. search needs) (λ c κs. search needs)
+    (λ c κs. search needs) (λ c. search needs) (λ c. search needs) loop-again returns)

@@ -1,14 +1,11 @@
 -- `rules::string::listed_fault` meets its contract. No axiom.
-use Prim.Native.Nat.{_+_, _-_, _*_}
-use mathlib.Core.Path.{_≡_, sym, ap, _∙_}
-use lib.ListN.{drop}
+use Rattle.octets.proofs.Vocabulary.{_≡_, sym, ap, _∙_, _+_, _-_, _*_, drop, needs}
 use Rattle.sets.proofs.Entries.{rest, rest-start, next-entry, no-entry}
 use Rattle.rules.specs.After.{after}
 use Rattle.sets.specs.Contents.{entries}
 use Rattle.sets.specs.Strings.{words}
 use Rattle.rules.specs.Strings.{listedFrom}
 use Rattle.rules.proofs.Entries.{listed-in, listed-past, listed-end}
-use borrow.Author.Needs.{needs}
 use Rattle.rules.proofs.string.listed_fault.Statement.{statement}
 use Rattle.rules.proofs.string.listed_fault.Tie as tie
 
@@ -57,21 +54,5 @@ returns c =
     ∙ listed-end set (words (drop 2 (a .zero .now))) (4 + 8 * l .i) (l .found))
 
 pub listed-fault-spec : {M : Type 1} → statement M
-listed-fault-spec =
-    tie.close
-    (tie.spec
-    Inv-loop
-    μ-loop
-    (λ c κs. search needs)
-    loop-holds
-    (λ c κs. search needs)
-    (λ c. search needs)
-    (λ c. search needs)
-    (λ c. search needs)
-    (λ c. search needs)
-    (λ c κs. search needs)
-    (λ c. search needs)
-    loop-again
-    (λ c. search needs)
-    loop-again-2
-    returns)
+listed-fault-spec = tie.close (tie.spec Inv-loop μ-loop (λ c κs. search needs) loop-holds (λ c κs. search needs) (λ c. search needs) (λ c. search needs)
+    (λ c. search needs) (λ c. search needs) (λ c κs. search needs) (λ c. search needs) loop-again (λ c. search needs) loop-again-2 returns)

@@ -1,6 +1,6 @@
 -- `rules::string::reference_fault` meets its contract. No axiom.
 use Rattle.rules.specs.After.{after}
-use borrow.Author.Needs.{needs}
+use Rattle.octets.proofs.Vocabulary.{needs}
 use Rattle.rules.proofs.string.reference_fault.Statement.{statement}
 use Rattle.rules.proofs.string.reference_fault.Tie as tie
 
@@ -9,10 +9,4 @@ unfolding after
 returns c = cc
 
 pub reference-fault-spec : {M : Type 1} → statement M
-reference-fault-spec =
-    tie.close
-    (tie.spec
-    (λ c κs. search needs)
-    (λ c κs. search needs)
-    (λ c κs. search needs)
-    returns)
+reference-fault-spec = tie.close (tie.spec (λ c κs. search needs) (λ c κs. search needs) (λ c κs. search needs) returns)

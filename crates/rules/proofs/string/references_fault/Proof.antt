@@ -1,12 +1,10 @@
 -- `rules::string::references_fault` meets its contract. No axiom.
-use Prim.Native.Nat.{_+_, _-_, _*_}
-use mathlib.Core.Path.{_≡_, sym, ap, _∙_}
+use Rattle.octets.proofs.Vocabulary.{_≡_, sym, ap, _∙_, _+_, _-_, _*_, needs}
 use Rattle.sets.proofs.Entries.{rest, rest-start, next-entry, no-entry}
 use Rattle.rules.specs.After.{after}
 use Rattle.sets.specs.Contents.{entries}
 use Rattle.rules.specs.Strings.{referencesFrom}
 use Rattle.rules.proofs.Entries.{references-in, references-past, references-end, entry-small}
-use borrow.Author.Needs.{needs}
 use Rattle.rules.proofs.string.references_fault.Statement.{statement}
 use Rattle.rules.proofs.string.references_fault.Tie as tie
 
@@ -57,18 +55,5 @@ returns c =
     ∙ references-end set (l .found))
 
 pub references-fault-spec : {M : Type 1} → statement M
-references-fault-spec =
-    tie.close
-    (tie.spec
-    Inv-loop
-    μ-loop
-    (λ c κs. search needs)
-    loop-holds
-    (λ c κs. search needs)
-    (λ c. search needs)
-    configuration-fault-requires
-    (λ c. search needs)
-    loop-again
-    (λ c. search needs)
-    loop-again-2
-    returns)
+references-fault-spec = tie.close (tie.spec Inv-loop μ-loop (λ c κs. search needs) loop-holds (λ c κs. search needs) (λ c. search needs)
+    configuration-fault-requires (λ c. search needs) loop-again (λ c. search needs) loop-again-2 returns)

@@ -1,11 +1,8 @@
 -- `rules::string::strings_fault` meets its contract. No axiom.
-use native.Mathlib.Omega.{arith}
-use mathlib.Core.Path.{_≡_, refl, sym, _∙_}
-use mathlib.Core.List.{[]}
+use Rattle.octets.proofs.Vocabulary.{_≡_, refl, sym, _∙_, [], arith, needs}
 use Rattle.sets.specs.Strings.{words}
 use Rattle.sets.proofs.Strings.{zero-some, zero-none, languages-of}
 use Rattle.rules.proofs.Entries.{zero-small}
-use borrow.Author.Needs.{needs}
 use Rattle.rules.proofs.string.strings_fault.Statement.{statement}
 use Rattle.rules.proofs.string.strings_fault.Tie as tie
 
@@ -35,24 +32,6 @@ judged-fault-requires-2 c κs =
       small = omega arith;
     }
 
-returns : tie.Need-returns
-returns c = c .judged-fault .ensures
-
-returns-2 : tie.Need-returns-2
-returns-2 c = c .judged-fault2 .ensures
-
 pub strings-fault-spec : {M : Type 1} → statement M
-strings-fault-spec =
-    tie.close
-    (tie.spec
-    (λ c κs. search needs)
-    (λ c. search needs)
-    (λ c κs. search needs)
-    judged-fault-requires
-    (λ c. search needs)
-    (λ c. search needs)
-    (λ c. search needs)
-    (λ c. search needs)
-    judged-fault-requires-2
-    returns
-    returns-2)
+strings-fault-spec = tie.close (tie.spec (λ c κs. search needs) (λ c. search needs) (λ c κs. search needs) judged-fault-requires (λ c. search needs)
+    (λ c. search needs) (λ c. search needs) (λ c. search needs) judged-fault-requires-2 (λ c. c .judged-fault .ensures) (λ c. c .judged-fault2 .ensures))

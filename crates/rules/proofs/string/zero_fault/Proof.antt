@@ -2,7 +2,7 @@
 use Rattle.rules.specs.After.{after}
 use Rattle.rules.proofs.Entries.{one-at-least, four-at-most}
 use Rattle.rules.proofs.After.{asks}
-use borrow.Author.Needs.{needs}
+use Rattle.octets.proofs.Vocabulary.{needs}
 use Rattle.rules.proofs.string.zero_fault.Statement.{statement}
 use Rattle.rules.proofs.string.zero_fault.Tie as tie
 
@@ -16,11 +16,4 @@ unfolding after
 returns-2 c = rw (c .if1 .left)
 
 pub zero-fault-spec : {M : Type 1} → statement M
-zero-fault-spec =
-    tie.close
-    (tie.spec
-    (λ c κs. search needs)
-    (λ c κs. search needs)
-    (λ c κs. search needs)
-    returns
-    returns-2)
+zero-fault-spec = tie.close (tie.spec (λ c κs. search needs) (λ c κs. search needs) (λ c κs. search needs) returns returns-2)

@@ -1,11 +1,9 @@
 -- `set_writer::layout::lay` meets its contract: header, contents, bodies. No axiom.
-use native.Mathlib.Omega.{arith}
-use mathlib.Core.Path.{refl}
+use Rattle.octets.proofs.Vocabulary.{refl, arith, needs}
 use Rattle.buffers.proofs.Written.{room-for, next}
 use Rattle.set_writer.specs.Writer.{contents, bodyBytes, front}
 use Rattle.set_writer.specs.Places.{piecesAt}
 use Rattle.set_writer.proofs.Laying.{headed}
-use borrow.Author.Needs.{needs}
 use Rattle.set_writer.proofs.layout.lay.Statement.{statement}
 use Rattle.set_writer.proofs.layout.lay.Tie as tie
 
@@ -34,7 +32,5 @@ returns c =
     next g (contents (front ps) ps) (bodyBytes ps) refl (c .before .before .before .before .before .before .put-contents .ensures) .onward _ _ (c .before .before .put-bodies .ensures)
 
 pub lay-spec : {M : Type 1} → statement M
-lay-spec =
-    tie.close
-    (tie.spec (λ c. search needs) (λ c. search needs) (λ c. search needs) (λ c. search needs) (λ c κs. search needs) put-contents-requires put-bodies-requires
-    (λ c. search needs) returns)
+lay-spec = tie.close (tie.spec (λ c. search needs) (λ c. search needs) (λ c. search needs) (λ c. search needs) (λ c κs. search needs) put-contents-requires
+    put-bodies-requires (λ c. search needs) returns)

@@ -1,8 +1,5 @@
 -- `set_writer::layout::put_bodies` meets its contract: the bodies of the places that are left. No axiom.
-use Prim.Native.Nat.{_-_, _≤_}
-use native.Mathlib.Omega.{arith}
-use lib.ListN.{length}
-use borrow.Author.Needs.{needs}
+use Rattle.octets.proofs.Vocabulary.{_-_, _≤_, length, arith, needs}
 use Rattle.buffers.proofs.Written.{Going, begun, room-for, next, done, same}
 use Rattle.set_writer.specs.Writer.{bodyBytes}
 use Rattle.set_writer.specs.Places.{piecesAt}
@@ -51,7 +48,5 @@ returns c =
     done (s .loop .inv .1) (no-bodies stream places i (c .loop-test .left))
 
 pub put-bodies-spec : {M : Type 1} → statement M
-put-bodies-spec =
-    tie.close
-    (tie.spec Inv-loop μ-loop loop-holds (λ c. search needs) (λ c. search needs) (λ c κs. search needs) put-bytes-requires (λ c. search needs)
-    (λ c. search needs) loop-again (λ c. same (c .before .loop .inv .1)) returns)
+put-bodies-spec = tie.close (tie.spec Inv-loop μ-loop loop-holds (λ c. search needs) (λ c. search needs) (λ c κs. search needs) put-bytes-requires
+    (λ c. search needs) (λ c. search needs) loop-again (λ c. same (c .before .loop .inv .1)) returns)

@@ -1,9 +1,5 @@
 -- `set_writer::layout::put_contents` meets its contract: the entries of the places that are left. No axiom.
-use Prim.Native.Nat.{_+_, _-_, _≤_, _<_}
-use native.Mathlib.Omega.{arith}
-use mathlib.Core.Path.{ap, _∙_}
-use lib.ListN.{length, length-append, length-map}
-use borrow.Author.Needs.{needs}
+use Rattle.octets.proofs.Vocabulary.{ap, _∙_, _+_, _-_, _≤_, _<_, length, length-append, length-map, arith, needs}
 use Rattle.buffers.proofs.Written.{Going, begun, room-for, next, done, same}
 use Rattle.set_writer.specs.Writer.{entryBytes, contents, bodyBytes, front}
 use Rattle.set_writer.specs.Places.{pieceAt, piecesAt}
@@ -85,7 +81,5 @@ returns c =
     done (s .loop .inv .2) (no-entries stream places i (c .loop-test .left) (s .loop .offset))
 
 pub put-contents-spec : {M : Type 1} → statement M
-put-contents-spec =
-    tie.close
-    (tie.spec Inv-loop μ-loop mul-offset add-offset loop-holds (λ c. search needs) (λ c. search needs) put-entry-requires (λ c κs. search needs) add-offset-2
-    (λ c. search needs) (λ c. search needs) loop-again (λ c. same (c .before .loop .inv .2)) returns)
+put-contents-spec = tie.close (tie.spec Inv-loop μ-loop mul-offset add-offset loop-holds (λ c. search needs) (λ c. search needs) put-entry-requires
+    (λ c κs. search needs) add-offset-2 (λ c. search needs) (λ c. search needs) loop-again (λ c. same (c .before .loop .inv .2)) returns)

@@ -1,6 +1,5 @@
 -- `set_writer::pieces::body_at` meets its contract, by its three calls. No axiom.
-use mathlib.Core.Path.{_∙_}
-use borrow.Author.Needs.{needs}
+use Rattle.octets.proofs.Vocabulary.{_∙_, needs}
 use Rattle.set_writer.proofs.pieces.body_at.Statement.{statement}
 use Rattle.set_writer.proofs.pieces.body_at.Tie as tie
 

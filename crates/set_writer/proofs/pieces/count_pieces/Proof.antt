@@ -1,9 +1,5 @@
 -- `set_writer::pieces::count_pieces` meets its contract: the stream ends as what is left of it does, and has as many pieces more. No axiom.
-use Prim.Native.Nat.{_+_, _-_, _≤_}
-use native.Mathlib.Omega.{arith}
-use mathlib.Core.Path.{_≡_, refl, sym, ap, _∙_}
-use lib.ListN.{length, drop}
-use borrow.Author.Needs.{needs}
+use Rattle.octets.proofs.Vocabulary.{_≡_, refl, sym, ap, _∙_, _+_, _-_, _≤_, length, drop, arith, needs}
 use Rattle.set_writer.specs.Writer.{ends, pieces}
 use Rattle.set_writer.proofs.Stream.{stream-broken, stream-ends, stream-pieces, stream-over, stream-none}
 use Rattle.set_writer.proofs.pieces.count_pieces.Statement.{statement}
@@ -46,7 +42,5 @@ returns-2 c =
     sym (rw (s .loop .inv .2 ∙ stream-over stream (s .loop .at) l, m))
 
 pub count-pieces-spec : {M : Type 1} → statement M
-count-pieces-spec =
-    tie.close
-    (tie.spec Inv-loop μ-loop (λ c. (omega arith, omega arith, refl, omega arith)) (λ c κs. search needs) (λ c. search needs) returns (λ c. omega arith)
-    (λ c. omega arith) (λ c. omega (arith, c .before .size-at .ensures)) loop-again returns-2)
+count-pieces-spec = tie.close (tie.spec Inv-loop μ-loop (λ c. (omega arith, omega arith, refl, omega arith)) (λ c κs. search needs) (λ c. search needs) returns
+    (λ c. omega arith) (λ c. omega arith) (λ c. omega (arith, c .before .size-at .ensures)) loop-again returns-2)

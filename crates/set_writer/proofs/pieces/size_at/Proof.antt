@@ -1,7 +1,5 @@
 -- `set_writer::pieces::size_at` meets its contract. No axiom.
-use Prim.Native.Nat.{ℕ, _+_}
-use mathlib.Core.Path.{ap, _∙_}
-use borrow.Author.Needs.{needs}
+use Rattle.octets.proofs.Vocabulary.{ap, _∙_, ℕ, _+_, needs}
 use Rattle.set_writer.proofs.pieces.size_at.Statement.{statement}
 use Rattle.set_writer.proofs.pieces.size_at.Tie as tie
 

@@ -1,6 +1,5 @@
 -- `sets::capabilities::good_store_entries` meets its contract. No axiom.
-use mathlib.Core.Path.{sym, ap, _∙_}
-use borrow.Author.Needs.{needs}
+use Rattle.octets.proofs.Vocabulary.{sym, ap, _∙_, needs}
 use Rattle.sets.specs.Device.{goodStore}
 use Rattle.sets.specs.Contents.{entriesOf}
 use Rattle.sets.specs.Pieces.{sole}
@@ -29,15 +28,5 @@ returns-3 c =
     sole-missing (a .set .now) goodStore (entriesOf 15 (a .set .now)) (sym (s .entry-of .ensures) ∙ c .enum-told .given .1) ∙ ap (sole goodStore) (of-kind (a .set .now) 15)
 
 pub good-store-entries-spec : {M : Type 1} → statement M
-good-store-entries-spec =
-    tie.close
-    (tie.spec
-    (λ c κs. search needs)
-    returns
-    (λ c κs. search needs)
-    (λ c. search needs)
-    (λ c κs. search needs)
-    (λ c κs. search needs)
-    (λ c. search needs)
-    returns-2
-    returns-3)
+good-store-entries-spec = tie.close (tie.spec (λ c κs. search needs) returns (λ c κs. search needs) (λ c. search needs) (λ c κs. search needs)
+    (λ c κs. search needs) (λ c. search needs) returns-2 returns-3)

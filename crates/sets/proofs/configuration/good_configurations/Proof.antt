@@ -1,12 +1,5 @@
 -- `sets::configuration::good_configurations` meets its contract: what is asked of all configurations is asked of those left, until so many are passed. No axiom.
-use Prim.Native.Nat.{_+_, _-_, _≤_, _<_}
-use native.Mathlib.Omega.{arith}
-use mathlib.Core.Bool.{_&&_, and-true, and-assoc}
-use mathlib.Core.List.{map}
-use mathlib.Core.Path.{_≡_, refl, sym, ap, _∙_}
-use lib.ListN.{length}
-use borrow.Author.Needs.{needs}
-use borrow.Author.Tests.{not-true, not-false}
+use Rattle.octets.proofs.Vocabulary.{_≡_, refl, sym, ap, _∙_, _+_, _-_, _≤_, _<_, map, _&&_, and-true, and-assoc, length, arith, needs, not-true, not-false}
 use Rattle.octets.specs.Sentences.{every, only}
 use Rattle.descriptors.specs.Check.{verdict, configurationRefers}
 use Rattle.descriptors.specs.Configuration.{bConfigurationValue}
@@ -145,24 +138,6 @@ returns-2 c =
     rw (good, refer)
 
 pub good-configurations-spec : {M : Type 1} → statement M
-good-configurations-spec =
-    tie.close
-    (tie.spec
-    Inv-loop
-    μ-loop
-    loop-holds
-    entry-whole-requires
-    add-i
-    body-whole-requires
-    (λ c κs. search needs)
-    (λ c κs. search needs)
-    (λ c κs. search needs)
-    (λ c κs. search needs)
-    returns
-    (λ c κs. search needs)
-    add-index
-    loop-less
-    loop-again
-    loop-less-2
-    loop-again-2
+good-configurations-spec = tie.close (tie.spec Inv-loop μ-loop loop-holds entry-whole-requires add-i body-whole-requires (λ c κs. search needs)
+    (λ c κs. search needs) (λ c κs. search needs) (λ c κs. search needs) returns (λ c κs. search needs) add-index loop-less loop-again loop-less-2 loop-again-2
     returns-2)

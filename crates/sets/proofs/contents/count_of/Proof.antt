@@ -1,10 +1,5 @@
 -- `sets::contents::count_of` meets its contract: those counted and those left are all. No axiom.
-use Prim.Native.Nat.{_+_, _-_, _≤_}
-use native.Mathlib.Nat.{zero-add}
-use native.Mathlib.Omega.{arith}
-use mathlib.Core.Path.{_≡_, refl, sym, ap, _∙_}
-use lib.ListN.{length}
-use borrow.Author.Needs.{needs}
+use Rattle.octets.proofs.Vocabulary.{_≡_, refl, sym, ap, _∙_, _+_, _-_, _≤_, length, arith, zero-add, needs}
 use Rattle.octets.specs.Sentences.{only}
 use Rattle.sets.specs.Contents.{isKind, entriesOf}
 use Rattle.sets.proofs.Entries.{rest-start, restOf, asked-here, asked-other, asked-none}
@@ -43,18 +38,5 @@ returns c =
     omega arith
 
 pub count-of-spec : {M : Type 1} → statement M
-count-of-spec =
-    tie.close
-    (tie.spec
-    Inv-loop
-    μ-loop
-    (λ c κs. search needs)
-    loop-holds
-    (λ c κs. search needs)
-    (λ c. search needs)
-    (λ c. search needs)
-    (λ c. search needs)
-    loop-again
-    (λ c. search needs)
-    loop-again-2
-    returns)
+count-of-spec = tie.close (tie.spec Inv-loop μ-loop (λ c κs. search needs) loop-holds (λ c κs. search needs) (λ c. search needs) (λ c. search needs)
+    (λ c. search needs) loop-again (λ c. search needs) loop-again-2 returns)

@@ -1,10 +1,6 @@
 -- `sets::contents::entry_whole` meets its contract: the eight bytes are there. No axiom.
-use Prim.Native.Nat.{_+_, _*_, _-_}
-use native.Mathlib.Omega.{arith}
-use mathlib.Core.Path.{_∙_}
-use lib.ListN.{drop}
+use Rattle.octets.proofs.Vocabulary.{_∙_, _+_, _*_, _-_, drop, arith, needs}
 use Rattle.sets.proofs.Entries.{entry-whole}
-use borrow.Author.Needs.{needs}
 use Rattle.sets.proofs.contents.entry_whole.Statement.{statement}
 use Rattle.sets.proofs.contents.entry_whole.Tie as tie
 
@@ -15,14 +11,5 @@ returns c =
     c .entry-in .ensures ∙ entry-whole (drop at (a .set .now)) (at + 8 - at) (omega arith)
 
 pub entry-whole-spec : {M : Type 1} → statement M
-entry-whole-spec =
-    tie.close
-    (tie.spec
-    (λ c. search needs)
-    (λ c. search needs)
-    (λ c. search needs)
-    (λ c. search needs)
-    (λ c. search needs)
-    (λ c. search needs)
-    (λ c κs. search needs)
-    returns)
+entry-whole-spec = tie.close (tie.spec (λ c. search needs) (λ c. search needs) (λ c. search needs) (λ c. search needs) (λ c. search needs) (λ c. search needs)
+    (λ c κs. search needs) returns)

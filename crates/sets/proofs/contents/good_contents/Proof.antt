@@ -1,11 +1,5 @@
 -- `sets::contents::good_contents` meets its contract: the entries passed are good and counted, and what is asked of all is asked of those left. No axiom.
-use Prim.Native.Nat.{_-_}
-use native.Mathlib.Omega.{arith}
-use mathlib.Core.Bool.{true}
-use mathlib.Core.Path.{refl, sym, ap, _∙_}
-use lib.Dec.{eqb}
-use borrow.Author.Needs.{needs}
-use borrow.Author.Tests.{not-true, not-false}
+use Rattle.octets.proofs.Vocabulary.{refl, sym, ap, _∙_, _-_, true, eqb, arith, needs, not-true, not-false}
 use Rattle.octets.proofs.Sentences.{never}
 use Rattle.sets.specs.Contents.{total, goodContents}
 use Rattle.sets.proofs.Entries.{rest-start, no-entry, contentsFrom, contents-all, contents-end, counts-start, counts-end, Outlined, outline-not, outline-on}
@@ -76,28 +70,6 @@ returns-2 c =
     }
 
 pub good-contents-spec : {M : Type 1} → statement M
-good-contents-spec =
-    tie.close
-    (tie.spec
-    Inv-loop
-    μ-loop
-    (λ c κs. search needs)
-    (λ c. search needs)
-    (λ c. search needs)
-    (λ c. search needs)
-    loop-holds
-    (λ c κs. search needs)
-    (λ c κs. search needs)
-    (λ c κs. search needs)
-    (λ c κs. search needs)
-    returns
-    (λ c. search needs)
-    (λ c. search needs)
-    (λ c κs. search needs)
-    (λ c κs. search needs)
-    (λ c. search needs)
-    (λ c. search needs)
-    loop-again
-    (λ c κs. search needs)
-    (λ c. search needs)
-    returns-2)
+good-contents-spec = tie.close (tie.spec Inv-loop μ-loop (λ c κs. search needs) (λ c. search needs) (λ c. search needs) (λ c. search needs) loop-holds
+    (λ c κs. search needs) (λ c κs. search needs) (λ c κs. search needs) (λ c κs. search needs) returns (λ c. search needs) (λ c. search needs)
+    (λ c κs. search needs) (λ c κs. search needs) (λ c. search needs) (λ c. search needs) loop-again (λ c κs. search needs) (λ c. search needs) returns-2)

@@ -1,9 +1,5 @@
 -- `sets::contents::kind_at` meets its contract. No axiom.
-use Prim.Native.Nat.{_+_, _*_}
-use native.Mathlib.Omega.{arith}
-use mathlib.Core.Path.{_≡_, sym, ap, _∙_}
-use lib.Seq.{getD-drop}
-use borrow.Author.Needs.{needs}
+use Rattle.octets.proofs.Vocabulary.{_≡_, sym, ap, _∙_, _+_, _*_, getD-drop, arith, needs}
 use Rattle.octets.specs.Octets.{byte}
 use Rattle.sets.proofs.contents.kind_at.Statement.{statement}
 use Rattle.sets.proofs.contents.kind_at.Tie as tie

@@ -1,5 +1,5 @@
 -- `sets::contents::precedes` meets its contract. No axiom.
-use borrow.Author.Needs.{needs}
+use Rattle.octets.proofs.Vocabulary.{needs}
 use Rattle.sets.proofs.Entries.{by-rank}
 use Rattle.sets.proofs.contents.precedes.Statement.{statement}
 use Rattle.sets.proofs.contents.precedes.Tie as tie

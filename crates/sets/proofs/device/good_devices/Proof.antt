@@ -1,5 +1,5 @@
 -- `sets::device::good_devices` meets its contract. No axiom.
-use borrow.Author.Needs.{needs}
+use Rattle.octets.proofs.Vocabulary.{needs}
 use Rattle.sets.proofs.device.good_devices.Statement.{statement}
 use Rattle.sets.proofs.device.good_devices.Tie as tie
 

@@ -1,11 +1,5 @@
 -- `sets::opening::first_groups` meets its contract: group after group. No axiom.
-use Prim.Native.Nat.{_+_, _≤_}
-use native.Mathlib.Omega.{arith}
-use mathlib.Core.Bool.{true}
-use mathlib.Core.Path.{_≡_, refl, sym, _∙_}
-use lib.ListN.{length, getElem?}
-use borrow.Author.Needs.{needs}
-use borrow.Author.Tests.{not-true, not-false, eqb-true}
+use Rattle.octets.proofs.Vocabulary.{_≡_, refl, sym, _∙_, _+_, _≤_, true, length, getElem?, arith, needs, not-true, not-false, eqb-true}
 use Rattle.sets.specs.declared.EntryFound.the-variants.{At}
 use Rattle.sets.specs.Contents.{entries, entriesOf, goodFrame, goodContents}
 use Rattle.sets.specs.Found.{found}
@@ -48,17 +42,11 @@ returns c =
     let n = c .stops .ensures in
     (λ z. absurd (omega arith), λ _ serial. n ∙ rw (sym (c .before .before .good-frame .ensures) ∙ not-true (c .before .before .good-frame .result) (c .before .if1 .taken)))
 
-good-contents-requires : tie.Need-good-contents-requires
-good-contents-requires c κs = frame-whole _ (frame c)
-
 returns-2 : tie.Need-returns-2
 unfolding opening
 returns-2 c =
     let n = c .stops2 .ensures in
     (λ z. absurd (omega arith), λ _ serial. n ∙ rw (frame (c .before .before .before .before), sym (c .before .before .before .good-contents .ensures .good) ∙ not-true (c .before .before .before .good-contents .result .good) (c .before .if2 .taken)))
-
-good-devices-requires : tie.Need-good-devices-requires
-good-devices-requires c κs = lies (c .before)
 
 returns-3 : tie.Need-returns-3
 unfolding opening
@@ -105,23 +93,6 @@ returns-5 c =
     )
 
 pub first-groups-spec : {M : Type 1} → statement M
-first-groups-spec =
-    tie.close
-    (tie.spec
-    (λ c κs. search needs)
-    (λ c κs. search needs)
-    returns
-    good-contents-requires
-    (λ c κs. search needs)
-    returns-2
-    (λ c κs. search needs)
-    (λ c. search needs)
-    good-devices-requires
-    (λ c κs. search needs)
-    returns-3
-    (λ c κs. search needs)
-    add-t12
-    (λ c. search needs)
-    (λ c κs. search needs)
-    returns-4
-    returns-5)
+first-groups-spec = tie.close (tie.spec (λ c κs. search needs) (λ c κs. search needs) returns (λ c κs. frame-whole _ (frame c)) (λ c κs. search needs) returns-2
+    (λ c κs. search needs) (λ c. search needs) (λ c κs. lies (c .before)) (λ c κs. search needs) returns-3 (λ c κs. search needs) add-t12 (λ c. search needs)
+    (λ c κs. search needs) returns-4 returns-5)

@@ -1,11 +1,5 @@
 -- `sets::opening::last_groups` meets its contract: group after group, behind the first three. No axiom.
-use Prim.Native.Nat.{ℕ}
-use native.Mathlib.Nat.{add-sub-cancel-left}
-use mathlib.Core.Bool.{Bool, true, _&&_, not}
-use mathlib.Core.List.{List}
-use mathlib.Core.Path.{_≡_, sym, _∙_}
-use borrow.Author.Needs.{needs}
-use borrow.Author.Tests.{not-true, not-false}
+use Rattle.octets.proofs.Vocabulary.{_≡_, sym, _∙_, ℕ, List, Bool, true, _&&_, not, add-sub-cancel-left, needs, not-true, not-false}
 use Rattle.octets.specs.Sentences.{pick}
 use Rattle.descriptors.specs.declared.limits.Limits.{Limits}
 use Rattle.sets.specs.Opening.{lent, goodConfigurations, goodBlock, opening}
@@ -70,17 +64,5 @@ returns-4 : tie.Need-returns-4
 returns-4 c = λ limits b g. met (c .before) limits b g (not-false (c .before .good-serial .result) (c .if3 .left))
 
 pub last-groups-spec : {M : Type 1} → statement M
-last-groups-spec =
-    tie.close
-    (tie.spec
-    (λ c. search needs)
-    (λ c. search needs)
-    (λ c. search needs)
-    (λ c. search needs)
-    returns
-    (λ c κs. search needs)
-    returns-2
-    (λ c κs. search needs)
-    (λ c κs. search needs)
-    returns-3
-    returns-4)
+last-groups-spec = tie.close (tie.spec (λ c. search needs) (λ c. search needs) (λ c. search needs) (λ c. search needs) returns (λ c κs. search needs) returns-2
+    (λ c κs. search needs) (λ c κs. search needs) returns-3 returns-4)

@@ -1,6 +1,5 @@
 -- `sets::opening::opening` meets its contract: the groups before the configurations, these, and the groups after them. No axiom.
-use mathlib.Core.Path.{ap}
-use borrow.Author.Needs.{needs}
+use Rattle.octets.proofs.Vocabulary.{ap, needs}
 use Rattle.descriptors.proofs.CheckReferences.{told}
 use Rattle.sets.proofs.Passing.{ordered}
 use Rattle.sets.proofs.opening.opening.Statement.{statement}
@@ -27,12 +26,4 @@ returns-2 c =
     c .finish .ensures (c .before .before .before .before .before .before .before .before .before .before .before .args .limits) (c .before .before .before .before .before .before .before .before .begin .ensures .0 (c .before .before .before .before .before .before .if1 .left) .met) (ap (λ v. v .good) (c .before .before .good-configurations .ensures))
 
 pub opening-spec : {M : Type 1} → statement M
-opening-spec =
-    tie.close
-    (tie.spec
-    (λ c κs. search needs)
-    returns
-    read-strings-requires
-    good-configurations-requires
-    finish-requires
-    returns-2)
+opening-spec = tie.close (tie.spec (λ c κs. search needs) returns read-strings-requires good-configurations-requires finish-requires returns-2)

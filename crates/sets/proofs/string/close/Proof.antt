@@ -1,9 +1,7 @@
 -- `sets::string::close` meets its contract: one number after the other. No axiom.
-use mathlib.Core.Logic.{⊎-elim}
-use mathlib.Core.Path.{_≡_}
+use Rattle.octets.proofs.Vocabulary.{_≡_, ⊎-elim, needs}
 use Rattle.octets.specs.Sentences.{pick}
 use Rattle.sets.specs.Checks.{noNames}
-use borrow.Author.Needs.{needs}
 use Rattle.sets.proofs.string.close.Statement.{statement}
 use Rattle.sets.proofs.string.close.Tie as tie
 

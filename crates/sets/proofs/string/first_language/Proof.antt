@@ -1,9 +1,5 @@
 -- `sets::string::first_language` meets its contract: the first word behind string 0's head. No axiom.
-use Prim.Native.Nat.{ℕ}
-use mathlib.Core.Path.{sym, ap, _∙_}
-use mathlib.Core.List.{List}
-use lib.ListN.{getD}
-use borrow.Author.Needs.{needs}
+use Rattle.octets.proofs.Vocabulary.{sym, ap, _∙_, ℕ, List, getD, needs}
 use Rattle.sets.proofs.Strings.{words-more, words-end}
 use Rattle.sets.proofs.string.first_language.Statement.{statement}
 use Rattle.sets.proofs.string.first_language.Tie as tie

@@ -1,10 +1,6 @@
 -- `sets::string::good_string_entry` meets its contract. No axiom.
-use mathlib.Core.Path.{sym}
-use mathlib.Core.Bool.{and-true, and-false, or-true}
-use borrow.Author.Tests.{ne-eqb, not-true, not-false}
-use lib.Dec.{eqb}
+use Rattle.octets.proofs.Vocabulary.{sym, and-true, and-false, or-true, eqb, needs, ne-eqb, not-true, not-false}
 use Rattle.sets.proofs.Passing.{index-zero, not-serial, serial-index}
-use borrow.Author.Needs.{needs}
 use Rattle.sets.proofs.string.good_string_entry.Statement.{statement}
 use Rattle.sets.proofs.string.good_string_entry.Tie as tie
 
@@ -24,5 +20,4 @@ returns-5 : tie.Need-returns-5
 returns-5 c = rw (← c .before .before .before .before .before .before .before .good-string .ensures, not-false (c .before .before .before .before .before .before .before .good-string .result) (c .before .before .before .before .before .before .if1 .left), ne-eqb _ _ (c .before .before .before .before .if2 .left), ne-eqb _ _ (c .before .before .if3 .left), ne-eqb _ _ (c .if4 .left), or-true) (sym (and-true (c .before .before .before .before .before .before .before .before .before .args .listed)))
 
 pub good-string-entry-spec : {M : Type 1} → statement M
-good-string-entry-spec =
-    tie.close (tie.spec (λ c κs. search needs) returns returns-2 returns-3 returns-4 returns-5)
+good-string-entry-spec = tie.close (tie.spec (λ c κs. search needs) returns returns-2 returns-3 returns-4 returns-5)

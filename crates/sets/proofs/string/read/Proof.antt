@@ -1,11 +1,5 @@
 -- `sets::string::read` meets its contract: where the strings are not good, the table has 0 alone. No axiom.
-use Prim.Native.Nat.{ℕ}
-use native.Mathlib.Omega.{arith}
-use mathlib.Core.Bool.{Bool, true, false, false≢true}
-use mathlib.Core.List.{List}
-use mathlib.Core.Path.{_≡_, refl, sym, _∙_}
-use lib.ListN.{drop}
-use borrow.Author.Needs.{needs}
+use Rattle.octets.proofs.Vocabulary.{_≡_, refl, sym, _∙_, ℕ, List, Bool, true, false, false≢true, drop, arith, needs}
 use Rattle.octets.specs.Sentences.{pick}
 use Rattle.sets.specs.Checks.{mayName}
 use Rattle.sets.specs.Strings.{words, goodLanguages}
@@ -20,9 +14,6 @@ zero-named set languages = go (goodLanguages languages)
     go : (b : Bool) → pick b true true ≡ true
     go true = refl
     go false = refl
-
-read-entries-requires : tie.Need-read-entries-requires
-read-entries-requires c κs = c .before .before .before .pre
 
 returns : tie.Need-returns
 returns c =
@@ -43,4 +34,4 @@ returns-2 c = record {
 }
 
 pub read-spec : {M : Type 1} → statement M
-read-spec = tie.close (tie.spec read-entries-requires returns (λ c κs. search needs) returns-2)
+read-spec = tie.close (tie.spec (λ c κs. c .before .before .before .pre) returns (λ c κs. search needs) returns-2)

@@ -1,6 +1,5 @@
 -- `sets::string::read_entries` meets its contract. No axiom.
-use mathlib.Core.Path.{sym, _∙_}
-use borrow.Author.Needs.{needs}
+use Rattle.octets.proofs.Vocabulary.{sym, _∙_, needs}
 use Rattle.sets.proofs.Pieces.{none-of}
 use Rattle.sets.proofs.Strings.{with-none}
 use Rattle.sets.proofs.string.read_entries.Statement.{statement}
@@ -25,13 +24,5 @@ returns-2 c =
     )
 
 pub read-entries-spec : {M : Type 1} → statement M
-read-entries-spec =
-    tie.close
-    (tie.spec
-    (λ c κs. search needs)
-    (λ c κs. search needs)
-    read-listed-requires
-    returns
-    (λ c κs. search needs)
-    (λ c κs. search needs)
+read-entries-spec = tie.close (tie.spec (λ c κs. search needs) (λ c κs. search needs) read-listed-requires returns (λ c κs. search needs) (λ c κs. search needs)
     returns-2)

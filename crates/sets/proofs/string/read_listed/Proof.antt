@@ -1,15 +1,9 @@
 -- `sets::string::read_listed` meets its contract: one step of the pass after another. No axiom.
-use Prim.Native.Nat.{_+_, _-_}
-use mathlib.Core.Bool.{false≢true}
-use mathlib.Core.List.{[], _∷_}
-use mathlib.Core.Path.{_≡_, sym, _∙_}
-use lib.ListN.{length, drop}
-use borrow.Author.Tests.{not-true, not-false}
+use Rattle.octets.proofs.Vocabulary.{_≡_, sym, _∙_, _+_, _-_, [], _∷_, false≢true, length, drop, needs, not-true, not-false}
 use Rattle.sets.specs.Strings.{words}
 use Rattle.sets.specs.Pieces.{pieceFor}
 use Rattle.sets.specs.Checks.{goodStringPiece}
 use Rattle.sets.proofs.Entries.{rest, next-entry, no-entry}
-use borrow.Author.Needs.{needs}
 use Rattle.sets.proofs.Passing.{Passing, begins, listed-here, moves, other, refused, skips, takes, all-good, names-read}
 use Rattle.sets.proofs.string.read_listed.Statement.{statement}
 use Rattle.sets.proofs.string.read_listed.Tie as tie
@@ -76,34 +70,7 @@ returns-2 c =
     )
 
 pub read-listed-spec : {M : Type 1} → statement M
-read-listed-spec =
-    tie.close
-    (tie.spec
-    Inv-loop
-    μ-loop
-    (λ c κs. search needs)
-    (λ c κs. search needs)
-    loop-holds
-    (λ c κs. search needs)
-    (λ c. search needs)
-    (λ c κs. search needs)
-    (λ c. search needs)
-    (λ c κs. search needs)
-    (λ c. search needs)
-    loop-again
-    (λ c. search needs)
-    lists-beside-requires
-    (λ c κs. search needs)
-    (λ c κs. search needs)
-    returns
-    (λ c κs. search needs)
-    (λ c κs. search needs)
-    (λ c. search needs)
-    loop-again-2
-    (λ c. search needs)
-    loop-again-3
-    (λ c. search needs)
-    loop-again-4
-    (λ c. search needs)
-    (λ c κs. search needs)
-    returns-2)
+read-listed-spec = tie.close (tie.spec Inv-loop μ-loop (λ c κs. search needs) (λ c κs. search needs) loop-holds (λ c κs. search needs) (λ c. search needs)
+    (λ c κs. search needs) (λ c. search needs) (λ c κs. search needs) (λ c. search needs) loop-again (λ c. search needs) lists-beside-requires
+    (λ c κs. search needs) (λ c κs. search needs) returns (λ c κs. search needs) (λ c κs. search needs) (λ c. search needs) loop-again-2 (λ c. search needs)
+    loop-again-3 (λ c. search needs) loop-again-4 (λ c. search needs) (λ c κs. search needs) returns-2)

@@ -1,10 +1,5 @@
 -- `single_walk::collect::collect` meets its contract: the head, and the walk behind it. No axiom.
-use Prim.Native.Nat.{_<_, _≤_}
-use native.Mathlib.Omega.{arith}
-use mathlib.Core.Bool.{Bool, true, _&&_}
-use mathlib.Core.Path.{_≡_, refl, sym, _∙_}
-use lib.Seq.{length-take-le}
-use lib.ListN.{length, take, drop}
+use Rattle.octets.proofs.Vocabulary.{_≡_, refl, sym, _∙_, _<_, _≤_, Bool, true, _&&_, length, take, drop, length-take-le, arith, needs}
 use Rattle.octets.specs.Table.{has}
 use Rattle.descriptors.specs.Cut.{cut}
 use Rattle.descriptors.specs.Walk.{before, paceOf, stepOf, walked}
@@ -18,7 +13,6 @@ use Rattle.descriptors.proofs.Surveying.{surveys}
 use Rattle.single_walk.specs.Course.{limitsAt}
 use Rattle.descriptors.proofs.SequenceRules.{part-bytes}
 use Rattle.single_walk.proofs.Whole.{first-ends, collects-refused, same-verdict, surveys-found}
-use borrow.Author.Needs.{needs}
 use Rattle.single_walk.proofs.collect.collect.Statement.{statement}
 use Rattle.single_walk.proofs.collect.collect.Tie as tie
 
@@ -97,20 +91,5 @@ returns-3 : tie.Need-returns-3
 returns-3 c = collects-refused (c .refuse2 .ensures) (sym (checked (c .before .before) (c .before .if2 .left)))
 
 pub collect-spec : {M : Type 1} → statement M
-collect-spec =
-    tie.close
-    (tie.spec
-    (λ c κs. search needs)
-    (λ c κs. search needs)
-    returns
-    slice-aggregate-head
-    (λ c κs. search needs)
-    (λ c κs. search needs)
-    (λ c κs. search needs)
-    rest-requires
-    (λ c κs. search needs)
-    (λ c κs. search needs)
-    survey-of-requires
-    returns-2
-    (λ c κs. search needs)
-    returns-3)
+collect-spec = tie.close (tie.spec (λ c κs. search needs) (λ c κs. search needs) returns slice-aggregate-head (λ c κs. search needs) (λ c κs. search needs)
+    (λ c κs. search needs) rest-requires (λ c κs. search needs) (λ c κs. search needs) survey-of-requires returns-2 (λ c κs. search needs) returns-3)

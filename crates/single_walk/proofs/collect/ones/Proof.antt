@@ -1,9 +1,8 @@
 -- `single_walk::collect::ones` meets its contract: a power of two less one. No axiom.
-use native.Mathlib.Omega.{arith}
+use Rattle.octets.proofs.Vocabulary.{arith, needs}
 use lib.Pow.{pow-pos}
 use Rattle.octets.proofs.Bits.{shifted-one}
 use Rattle.single_walk.proofs.Rules.{lowest-bits}
-use borrow.Author.Needs.{needs}
 use Rattle.single_walk.proofs.collect.ones.Statement.{statement}
 use Rattle.single_walk.proofs.collect.ones.Tie as tie
 

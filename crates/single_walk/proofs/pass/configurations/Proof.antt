@@ -1,14 +1,5 @@
 -- `single_walk::pass::configurations` meets its contract: what is asked of all configurations is asked of those left, and what is known is known before them. No axiom.
-use Prim.Native.Nat.{_+_, _-_, _≤_, _<_}
-use native.Mathlib.Omega.{arith}
-use mathlib.Core.Bool.{_&&_, _||_, true, false≢true, and-true, and-assoc}
-use mathlib.Core.Logic.{⊎-elim}
-use mathlib.Core.List.{map}
-use mathlib.Core.Path.{_≡_, refl, sym, ap, _∙_}
-use lib.Dec.{eqb}
-use lib.ListN.{length}
-use borrow.Author.Needs.{needs}
-use borrow.Author.Tests.{not-true, not-false}
+use Rattle.octets.proofs.Vocabulary.{_≡_, refl, sym, ap, _∙_, _+_, _-_, _≤_, _<_, map, _&&_, _||_, true, false≢true, and-true, and-assoc, ⊎-elim, length, eqb, arith, needs, not-true, not-false}
 use Rattle.octets.specs.Sentences.{every, only}
 use Rattle.octets.specs.Table.{has}
 use Rattle.octets.proofs.Sentences.{both}
@@ -176,28 +167,6 @@ returns-2 c =
     }
 
 pub configurations-spec : {M : Type 1} → statement M
-configurations-spec =
-    tie.close
-    (tie.spec
-    Inv-loop
-    μ-loop
-    (λ c κs. search needs)
-    (λ c κs. search needs)
-    loop-holds
-    entry-whole-requires
-    (λ c. search needs)
-    body-whole-requires
-    (λ c κs. search needs)
-    walk-once-requires
-    (λ c κs. search needs)
-    (λ c κs. search needs)
-    (λ c κs. search needs)
-    returns
-    (λ c κs. search needs)
-    (λ c κs. search needs)
-    add-index
-    loop-less
-    loop-again
-    (λ c. search needs)
-    loop-again-2
-    returns-2)
+configurations-spec = tie.close (tie.spec Inv-loop μ-loop (λ c κs. search needs) (λ c κs. search needs) loop-holds entry-whole-requires (λ c. search needs)
+    body-whole-requires (λ c κs. search needs) walk-once-requires (λ c κs. search needs) (λ c κs. search needs) (λ c κs. search needs) returns
+    (λ c κs. search needs) (λ c κs. search needs) add-index loop-less loop-again (λ c. search needs) loop-again-2 returns-2)

@@ -1,13 +1,8 @@
 -- `single_walk::pass::walk_once` meets its contract: the limits ask of a body what those of their speed ask. No axiom.
-use mathlib.Core.Path.{sym, ap, _∙_}
-use mathlib.Core.Bool.{false≢true}
-use borrow.Author.Needs.{needs}
+use Rattle.octets.proofs.Vocabulary.{sym, ap, _∙_, false≢true, needs}
 use Rattle.descriptors.specs.Check.{verdict, configurationRefers}
 use Rattle.single_walk.proofs.pass.walk_once.Statement.{statement}
 use Rattle.single_walk.proofs.pass.walk_once.Tie as tie
-
-collect-requires : tie.Need-collect-requires
-collect-requires c κs = c .before .before .before .pre .1
 
 returns : tie.Need-returns
 returns c =
@@ -25,12 +20,5 @@ returns-2 c = record {
 }
 
 pub walk-once-spec : {M : Type 1} → statement M
-walk-once-spec =
-    tie.close
-    (tie.spec
-    (λ c κs. search needs)
-    collect-requires
-    returns
-    (λ c κs. search needs)
-    (λ c κs. search needs)
+walk-once-spec = tie.close (tie.spec (λ c κs. search needs) (λ c κs. c .before .before .before .pre .1) returns (λ c κs. search needs) (λ c κs. search needs)
     returns-2)

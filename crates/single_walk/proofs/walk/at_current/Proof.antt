@@ -1,5 +1,5 @@
 -- `single_walk::walk::at_current` meets its contract. No axiom.
-use borrow.Author.Needs.{needs}
+use Rattle.octets.proofs.Vocabulary.{needs}
 use Rattle.single_walk.proofs.walk.at_current.Statement.{statement}
 use Rattle.single_walk.proofs.walk.at_current.Tie as tie
 
@@ -7,6 +7,4 @@ returns : tie.Need-returns
 returns c = rw (c .first-found .ensures, c .before .with-bit2 .ensures, c .before .before .with-bit .ensures, c .before .before .before .peek .ensures)
 
 pub at-current-spec : {M : Type 1} → statement M
-at-current-spec =
-    tie.close
-    (tie.spec (λ c κs. search needs) (λ c κs. search needs) (λ c κs. search needs) (λ c κs. search needs) returns)
+at-current-spec = tie.close (tie.spec (λ c κs. search needs) (λ c κs. search needs) (λ c κs. search needs) (λ c κs. search needs) returns)

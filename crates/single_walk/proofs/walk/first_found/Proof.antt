@@ -1,8 +1,6 @@
 -- `single_walk::walk::first_found` meets its contract. No axiom.
-use mathlib.Core.Path.{sym, _∙_}
-use borrow.Author.Tests.{eq-eqb, ne-eqb}
+use Rattle.octets.proofs.Vocabulary.{sym, _∙_, needs, eq-eqb, ne-eqb}
 use Rattle.octets.specs.Octets.{byte}
-use borrow.Author.Needs.{needs}
 use Rattle.single_walk.proofs.walk.first_found.Statement.{statement}
 use Rattle.single_walk.proofs.walk.first_found.Tie as tie
 
@@ -16,16 +14,5 @@ returns-3 : tie.Need-returns-3
 returns-3 c = rw (ne-eqb (byte (c .before .before .before .before .args .d .now) 2) (c .before .before .before .before .args .wanted .address) (λ q. c .if1 .left (c .before .before .peek .ensures ∙ q)))
 
 pub first-found-spec : {M : Type 1} → statement M
-first-found-spec =
-    tie.close
-    (tie.spec
-    (λ c κs. search needs)
-    (λ c. search needs)
-    (λ c. search needs)
-    (λ c κs. search needs)
-    (λ c. search needs)
-    (λ c. search needs)
-    (λ c. search needs)
-    returns
-    returns-2
-    returns-3)
+first-found-spec = tie.close (tie.spec (λ c κs. search needs) (λ c. search needs) (λ c. search needs) (λ c κs. search needs) (λ c. search needs)
+    (λ c. search needs) (λ c. search needs) returns returns-2 returns-3)

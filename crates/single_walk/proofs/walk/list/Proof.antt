@@ -1,12 +1,8 @@
 -- `single_walk::walk::list` meets its contract. No axiom.
-use mathlib.Core.Path.{refl, sym, _∙_}
-use mathlib.Core.List.{[], _∷_}
-use lib.Dec.{leb}
-use borrow.Author.Tests.{leb-true}
+use Rattle.octets.proofs.Vocabulary.{refl, sym, _∙_, [], _∷_, leb, needs, leb-true}
 use Rattle.octets.proofs.Sentences.{never, conjunct}
 use Rattle.descriptors.specs.Descriptor.{typeAllowed, goodEndpoint}
 use Rattle.descriptors.specs.Sequence.{free}
-use borrow.Author.Needs.{needs}
 use Rattle.single_walk.specs.Course.{limitsAt}
 use Rattle.single_walk.proofs.walk.list.Statement.{statement}
 use Rattle.single_walk.proofs.walk.list.Tie as tie
@@ -28,6 +24,4 @@ returns-2 : tie.Need-returns-2
 returns-2 c = record { may = sym (c .if1 .left) ∙ c .before .may-list .ensures; on = λ e. never e refl }
 
 pub list-spec : {M : Type 1} → statement M
-list-spec =
-    tie.close
-    (tie.spec (λ c κs. search needs) list-requires with-endpoint-requires returns returns-2)
+list-spec = tie.close (tie.spec (λ c κs. search needs) list-requires with-endpoint-requires returns returns-2)

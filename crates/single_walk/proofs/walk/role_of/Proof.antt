@@ -1,18 +1,7 @@
 -- `single_walk::walk::role_of` meets its contract. No axiom.
-use Prim.Native.Nat.{_/_, _%_}
-use native.Mathlib.Omega.{arith}
-use mathlib.Core.Path.{sym, _∙_}
-use borrow.Author.Tests.{eq-eqb, ne-eqb}
-use lib.ListN.{getD}
-use borrow.Author.Needs.{needs}
+use Rattle.octets.proofs.Vocabulary.{sym, _∙_, _/_, _%_, getD, arith, needs, eq-eqb, ne-eqb}
 use Rattle.single_walk.proofs.walk.role_of.Statement.{statement}
 use Rattle.single_walk.proofs.walk.role_of.Tie as tie
-
-cast-wide : tie.Need-cast-wide
-cast-wide c = omega (arith, c .pre)
-
-element-copy-out-wide : tie.Need-element-copy-out-wide
-element-copy-out-wide c = c .pre
 
 returns : tie.Need-returns
 returns c =
@@ -35,13 +24,4 @@ returns-4 c =
     rw (ne-eqb (a .setting / 256) (getD (a .alternates .now) (a .setting % 256) 0) (λ e. c .before .before .if1 .left (e ∙ sym (c .before .before .before .wide .ensures))), ne-eqb (a .setting) (a .wanted .setting) (c .if3 .left))
 
 pub role-of-spec : {M : Type 1} → statement M
-role-of-spec =
-    tie.close
-    (tie.spec
-    cast-wide
-    element-copy-out-wide
-    (λ c κs. search needs)
-    returns
-    returns-2
-    returns-3
-    returns-4)
+role-of-spec = tie.close (tie.spec (λ c. omega (arith, c .pre)) (λ c. c .pre) (λ c κs. search needs) returns returns-2 returns-3 returns-4)

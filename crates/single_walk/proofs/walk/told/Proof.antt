@@ -1,11 +1,7 @@
 -- `single_walk::walk::told` meets its contract. No axiom.
-use mathlib.Core.Path.{refl}
-use borrow.Author.Needs.{needs}
+use Rattle.octets.proofs.Vocabulary.{refl, needs}
 use Rattle.single_walk.proofs.walk.told.Statement.{statement}
 use Rattle.single_walk.proofs.walk.told.Tie as tie
 
-returns : tie.Need-returns
-returns c = (rw (c .before .before .next-of .ensures), refl, refl)
-
 pub told-spec : {M : Type 1} → statement M
-told-spec = tie.close (tie.spec (λ c κs. search needs) returns)
+told-spec = tie.close (tie.spec (λ c κs. search needs) (λ c. (rw (c .before .before .next-of .ensures), refl, refl)))

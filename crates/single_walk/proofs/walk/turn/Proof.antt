@@ -1,9 +1,6 @@
 -- `single_walk::walk::turn` meets its contract: by its type. No axiom.
-use mathlib.Core.Path.{refl, sym, ap, _∙_}
-use mathlib.Core.Bool.{not}
-use borrow.Author.Tests.{ne-eqb}
+use Rattle.octets.proofs.Vocabulary.{refl, sym, ap, _∙_, not, needs, ne-eqb}
 use Rattle.octets.proofs.Sentences.{never}
-use borrow.Author.Needs.{needs}
 use Rattle.single_walk.proofs.walk.turn.Statement.{statement}
 use Rattle.single_walk.proofs.walk.turn.Tie as tie
 
@@ -40,13 +37,4 @@ returns-3 c =
     }
 
 pub turn-spec : {M : Type 1} → statement M
-turn-spec =
-    tie.close
-    (tie.spec
-    (λ c κs. search needs)
-    (λ c κs. search needs)
-    returns
-    (λ c κs. search needs)
-    returns-2
-    (λ c κs. search needs)
-    returns-3)
+turn-spec = tie.close (tie.spec (λ c κs. search needs) (λ c κs. search needs) returns (λ c κs. search needs) returns-2 (λ c κs. search needs) returns-3)

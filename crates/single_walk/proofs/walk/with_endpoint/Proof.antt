@@ -1,6 +1,5 @@
 -- `single_walk::walk::with_endpoint` meets its contract. No axiom.
-use borrow.Author.Tests.{eq-eqb, ne-eqb}
-use borrow.Author.Needs.{needs}
+use Rattle.octets.proofs.Vocabulary.{needs, eq-eqb, ne-eqb}
 use Rattle.single_walk.proofs.walk.with_endpoint.Statement.{statement}
 use Rattle.single_walk.proofs.walk.with_endpoint.Tie as tie
 
@@ -14,5 +13,4 @@ returns-3 : tie.Need-returns-3
 returns-3 c = rw (c .at-current .ensures, ne-eqb (c .before .before .before .before .args .role) 0 (c .before .before .if1 .left), ne-eqb (c .before .before .before .before .args .role) 1 (c .before .if2 .left))
 
 pub with-endpoint-spec : {M : Type 1} → statement M
-with-endpoint-spec =
-    tie.close (tie.spec returns (λ c κs. search needs) returns-2 (λ c κs. search needs) returns-3)
+with-endpoint-spec = tie.close (tie.spec returns (λ c κs. search needs) returns-2 (λ c κs. search needs) returns-3)

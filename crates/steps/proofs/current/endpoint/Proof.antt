@@ -1,8 +1,5 @@
 -- `steps::current::endpoint` meets its contract: by the order of refusals. No axiom.
-use native.Mathlib.Omega.{arith}
-use mathlib.Core.Path.{sym, _∙_}
-use borrow.Author.Needs.{needs}
-use borrow.Author.Tests.{not-true, not-false}
+use Rattle.octets.proofs.Vocabulary.{sym, _∙_, arith, needs, not-true, not-false}
 use Rattle.sets.specs.Opening.{lent}
 use Rattle.steps.specs.Gathering.{viewIn}
 use Rattle.steps.proofs.Configurations.{no-zero, usable}
@@ -73,18 +70,5 @@ returns-4 c =
     c .part-of .ensures ∙ rw (c .before .find .ensures, same, entry) (sym (answers (a .opening) v (a .set .now) (a .device) (a .nth) opens (sym fit ∙ not-false _ (c .before .before .before .before .if2 .left)) (c .before .before .if3 .left)))
 
 pub endpoint-spec : {M : Type 1} → statement M
-endpoint-spec =
-    tie.close
-    (tie.spec
-    returns
-    (λ c κs. search needs)
-    (λ c κs. search needs)
-    walk-requires
-    (λ c κs. search needs)
-    (λ c κs. search needs)
-    (λ c κs. search needs)
-    returns-2
-    returns-3
-    find-requires
-    part-of-requires
-    returns-4)
+endpoint-spec = tie.close (tie.spec returns (λ c κs. search needs) (λ c κs. search needs) walk-requires (λ c κs. search needs) (λ c κs. search needs)
+    (λ c κs. search needs) returns-2 returns-3 find-requires part-of-requires returns-4)

@@ -1,5 +1,5 @@
 -- `steps::facts::gather` meets its contract: fact by fact. No axiom.
-use borrow.Author.Needs.{needs}
+use Rattle.octets.proofs.Vocabulary.{needs}
 use Rattle.steps.proofs.facts.gather.Tie as tie
 use Rattle.steps.proofs.facts.gather.Statement.{statement}
 

@@ -1,6 +1,5 @@
 -- `steps::facts::locate` meets its contract: by the type. No axiom.
-use borrow.Author.Tests.{eq-eqb, ne-eqb}
-use borrow.Author.Needs.{needs}
+use Rattle.octets.proofs.Vocabulary.{needs, eq-eqb, ne-eqb}
 use Rattle.events.specs.Requests.{locate}
 use Rattle.steps.proofs.Configurations.{located-found}
 use Rattle.steps.proofs.facts.locate.Tie as tie
@@ -29,19 +28,5 @@ unfolding locate
 returns-5 c = λ paired p. rw (ne-eqb _ _ (c .before .before .if2 .left), ne-eqb _ _ (c .before .if3 .left), c .if4 .left)
 
 pub locate-spec : {M : Type 1} → statement M
-locate-spec =
-    tie.close
-    (tie.spec
-    (λ c. search needs)
-    (λ c. search needs)
-    returns
-    (λ c κs. search needs)
-    (λ c κs. search needs)
-    returns-2
-    (λ c κs. search needs)
-    (λ c κs. search needs)
-    returns-3
-    (λ c κs. search needs)
-    (λ c κs. search needs)
-    returns-4
-    returns-5)
+locate-spec = tie.close (tie.spec (λ c. search needs) (λ c. search needs) returns (λ c κs. search needs) (λ c κs. search needs) returns-2 (λ c κs. search needs)
+    (λ c κs. search needs) returns-3 (λ c κs. search needs) (λ c κs. search needs) returns-4 returns-5)

@@ -1,7 +1,5 @@
 -- `steps::facts::look_up` meets its contract: the selected body is well cut, since the set opens. No axiom.
-use native.Mathlib.Omega.{arith}
-use borrow.Author.Needs.{needs}
-use mathlib.Core.Path.{ap, _∙_}
+use Rattle.octets.proofs.Vocabulary.{ap, _∙_, arith, needs}
 use Rattle.sets.specs.Opening.{lent}
 use Rattle.sets.specs.Found.{isFound}
 use Rattle.steps.specs.Gathering.{bodyFound}
@@ -25,13 +23,5 @@ returns c = let a = c .before .before .before .before .before .before .before .b
     }
 
 pub look-up-spec : {M : Type 1} → statement M
-look-up-spec =
-    tie.close
-    (tie.spec
-    (λ c κs. search needs)
-    (λ c κs. search needs)
-    (λ c κs. search needs)
-    walk-requires
-    (λ c κs. search needs)
-    (λ c κs. search needs)
-    returns)
+look-up-spec = tie.close (tie.spec (λ c κs. search needs) (λ c κs. search needs) (λ c κs. search needs) walk-requires (λ c κs. search needs)
+    (λ c κs. search needs) returns)

@@ -1,16 +1,7 @@
 -- `steps::facts::question_of` meets its contract: by cases. No axiom.
-use borrow.Author.Needs.{needs}
+use Rattle.octets.proofs.Vocabulary.{needs}
 use Rattle.steps.proofs.facts.question_of.Tie as tie
 use Rattle.steps.proofs.facts.question_of.Statement.{statement}
-
-returns-2 : tie.Need-returns-2
-returns-2 c = rw (c .naming .ensures, c .before .enum-told .given .1)
-
-returns-3 : tie.Need-returns-3
-returns-3 c = rw (c .naming2 .ensures, c .before .enum-told2 .given .1)
-
-returns-4 : tie.Need-returns-4
-returns-4 c = rw (c .naming3 .ensures, c .before .enum-told3 .given .1)
 
 returns-5 : tie.Need-returns-5
 returns-5 c = rw (c .naming4 .ensures, c .before .before .event2 .given .1)
@@ -18,48 +9,11 @@ returns-5 c = rw (c .naming4 .ensures, c .before .before .event2 .given .1)
 returns-6 : tie.Need-returns-6
 returns-6 c = rw (c .naming5 .ensures, c .before .before .event3 .given .1)
 
-returns-7 : tie.Need-returns-7
-returns-7 c = rw (c .naming6 .ensures, c .before .enum-told4 .given .1)
-
-returns-8 : tie.Need-returns-8
-returns-8 c = rw (c .naming7 .ensures, c .before .enum-told5 .given .1)
-
-returns-9 : tie.Need-returns-9
-returns-9 c = rw (c .naming8 .ensures, c .before .enum-told6 .given .1)
-
-returns-10 : tie.Need-returns-10
-returns-10 c = rw (c .naming9 .ensures, c .before .enum-told7 .given .1)
-
 pub question-of-spec : {M : Type 1} → statement M
-question-of-spec =
-    tie.close
-    (tie.spec
-    (λ c. search needs)
-    (λ c. search needs)
-    (λ c κs. search needs)
-    (λ c. search needs)
-    (λ c κs. search needs)
-    (λ c. search needs)
-    (λ c κs. search needs)
-    (λ c. search needs)
-    (λ c κs. search needs)
-    (λ c. search needs)
-    (λ c κs. search needs)
-    (λ c. search needs)
-    (λ c κs. search needs)
-    (λ c. search needs)
-    (λ c κs. search needs)
-    (λ c. search needs)
-    (λ c κs. search needs)
-    (λ c. search needs)
-    (λ c κs. search needs)
-    (λ c. search needs)
-    returns-2
-    returns-3
-    returns-4
-    returns-5
-    returns-6
-    returns-7
-    returns-8
-    returns-9
-    returns-10)
+question-of-spec = tie.close (tie.spec (λ c. search needs) (λ c. search needs) (λ c κs. search needs) (λ c. search needs) (λ c κs. search needs)
+    (λ c. search needs) (λ c κs. search needs) (λ c. search needs) (λ c κs. search needs) (λ c. search needs) (λ c κs. search needs) (λ c. search needs)
+    (λ c κs. search needs) (λ c. search needs) (λ c κs. search needs) (λ c. search needs) (λ c κs. search needs) (λ c. search needs) (λ c κs. search needs)
+    (λ c. search needs) (λ c. rw (c .naming .ensures, c .before .enum-told .given .1)) (λ c. rw (c .naming2 .ensures, c .before .enum-told2 .given .1))
+    (λ c. rw (c .naming3 .ensures, c .before .enum-told3 .given .1)) returns-5 returns-6 (λ c. rw (c .naming6 .ensures, c .before .enum-told4 .given .1))
+    (λ c. rw (c .naming7 .ensures, c .before .enum-told5 .given .1)) (λ c. rw (c .naming8 .ensures, c .before .enum-told6 .given .1))
+    (λ c. rw (c .naming9 .ensures, c .before .enum-told7 .given .1)))

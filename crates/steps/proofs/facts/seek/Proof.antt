@@ -1,11 +1,8 @@
 -- `steps::facts::seek` meets its contract: one by one. No axiom.
-use borrow.Author.Needs.{needs}
+use Rattle.octets.proofs.Vocabulary.{needs}
 use Rattle.steps.proofs.Telling.{serial-short}
 use Rattle.steps.proofs.facts.seek.Statement.{statement}
 use Rattle.steps.proofs.facts.seek.Tie as tie
-
-returns : tie.Need-returns
-returns c = λ z. absurd (c .if1 .taken z)
 
 locate-requires : tie.Need-locate-requires
 locate-requires c κs =
@@ -18,5 +15,4 @@ returns-2 c = λ z paired.
     record { configuration = rw asked at (c .before .has-asked .ensures); located = rw asked at (c .locate .ensures paired) }
 
 pub seek-spec : {M : Type 1} → statement M
-seek-spec =
-    tie.close (tie.spec returns (λ c κs. search needs) (λ c κs. search needs) locate-requires returns-2)
+seek-spec = tie.close (tie.spec (λ c. λ z. absurd (c .if1 .taken z)) (λ c κs. search needs) (λ c κs. search needs) locate-requires returns-2)

@@ -1,7 +1,5 @@
 -- `trimming::keeping::any_referenced` meets its contract: before the i-th entry there is none. No axiom.
-use Prim.Native.Nat.{_-_}
-use mathlib.Core.Path.{_≡_, sym, ap, _∙_}
-use borrow.Author.Needs.{needs}
+use Rattle.octets.proofs.Vocabulary.{_≡_, sym, ap, _∙_, _-_, needs}
 use Rattle.octets.specs.Sentences.{any}
 use Rattle.sets.specs.Contents.{entries}
 use Rattle.sets.proofs.Entries.{rest, rest-start, asked-next, asked-end, any-cons, any-empty}
@@ -36,7 +34,5 @@ returns-2 c =
     sym (asked-end (any (tableNames (a .names .now))) (a .set .now) _ (c .before .before .peek .ensures) _ (c .before .loop .inv) (c .loop-test .left) ∙ any-empty (tableNames (a .names .now)))
 
 pub any-referenced-spec : {M : Type 1} → statement M
-any-referenced-spec =
-    tie.close
-    (tie.spec Inv-loop μ-loop (λ c κs. search needs) loop-holds (λ c κs. search needs) (λ c. search needs) (λ c κs. search needs) returns (λ c. search needs)
-    loop-again returns-2)
+any-referenced-spec = tie.close (tie.spec Inv-loop μ-loop (λ c κs. search needs) loop-holds (λ c κs. search needs) (λ c. search needs) (λ c κs. search needs)
+    returns (λ c. search needs) loop-again returns-2)

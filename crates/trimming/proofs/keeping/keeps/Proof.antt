@@ -1,6 +1,5 @@
 -- `trimming::keeping::keeps` meets its contract. No axiom.
-use borrow.Author.Tests.{eq-eqb, ne-eqb}
-use borrow.Author.Needs.{needs}
+use Rattle.octets.proofs.Vocabulary.{needs, eq-eqb, ne-eqb}
 use Rattle.trimming.proofs.keeping.keeps.Statement.{statement}
 use Rattle.trimming.proofs.keeping.keeps.Tie as tie
 

@@ -1,10 +1,5 @@
 -- `trimming::keeping::names_of` meets its contract: what is in the table or named by the entries that are left. No axiom.
-use Prim.Native.Nat.{ℕ, _+_, _-_, _<_}
-use mathlib.Core.Bool.{true, _||_, or-assoc, or-false}
-use mathlib.Core.List.{map}
-use mathlib.Core.Path.{_≡_, refl, sym, ap, _∙_}
-use lib.ListN.{length}
-use borrow.Author.Needs.{needs}
+use Rattle.octets.proofs.Vocabulary.{_≡_, refl, sym, ap, _∙_, ℕ, _+_, _-_, _<_, map, true, _||_, or-assoc, or-false, length, needs}
 use Rattle.octets.specs.Sentences.{any, every, only}
 use Rattle.octets.specs.Table.{has}
 use Rattle.descriptors.specs.Cut.{cut, wellCut}
@@ -68,8 +63,6 @@ returns c =
     ∙ sym (named-by (a .set .now) j)
 
 pub names-of-spec : {M : Type 1} → statement M
-names-of-spec =
-    tie.close
-    (tie.spec Inv-loop μ-loop (λ c κs. search needs) (λ c κs. search needs) (λ c κs. search needs) (λ c κs. search needs) (λ c κs. search needs) (λ c κs. search needs)
-    (λ c κs. search needs) (λ c κs. search needs) loop-holds (λ c κs. search needs) (λ c. search needs) (λ c κs. search needs) with-configuration-requires
-    (λ c. search needs) loop-again (λ c. search needs) loop-again-2 returns)
+names-of-spec = tie.close (tie.spec Inv-loop μ-loop (λ c κs. search needs) (λ c κs. search needs) (λ c κs. search needs) (λ c κs. search needs)
+    (λ c κs. search needs) (λ c κs. search needs) (λ c κs. search needs) (λ c κs. search needs) loop-holds (λ c κs. search needs) (λ c. search needs)
+    (λ c κs. search needs) with-configuration-requires (λ c. search needs) loop-again (λ c. search needs) loop-again-2 returns)

@@ -1,5 +1,5 @@
 -- `trimming::keeping::table_names` meets its contract. No axiom.
-use borrow.Author.Needs.{needs}
+use Rattle.octets.proofs.Vocabulary.{needs}
 use Rattle.trimming.proofs.keeping.table_names.Statement.{statement}
 use Rattle.trimming.proofs.keeping.table_names.Tie as tie
 

@@ -1,9 +1,5 @@
 -- `trimming::keeping::with_configuration` meets its contract: what is in the table or still to be collected by the walk. No axiom.
-use Prim.Native.Nat.{ℕ, _-_, _<_}
-use native.Mathlib.Omega.{arith}
-use mathlib.Core.Bool.{_||_}
-use mathlib.Core.Path.{_≡_, refl, sym, ap, _∙_}
-use lib.ListN.{length}
+use Rattle.octets.proofs.Vocabulary.{_≡_, refl, sym, ap, _∙_, ℕ, _-_, _<_, _||_, length, arith, needs}
 use Rattle.octets.specs.Sentences.{member}
 use Rattle.octets.specs.Table.{has}
 use Rattle.octets.proofs.Tables.{with-long}
@@ -13,7 +9,6 @@ use Rattle.descriptors.proofs.Walks.{spanned}
 use Rattle.descriptors.proofs.Ahead.{Place, Turn, at-first, steps, turn}
 use Rattle.sets.proofs.Bodies.{bytes-part}
 use Rattle.trimming.proofs.Naming.{first-in, walked-in, long-pick, none-in}
-use borrow.Author.Needs.{needs}
 use Rattle.trimming.proofs.keeping.with_configuration.Statement.{statement}
 use Rattle.trimming.proofs.keeping.with_configuration.Tie as tie
 

@@ -1,6 +1,5 @@
 -- `trimming::keeping::with_interface` meets its contract. No axiom.
-use borrow.Author.Tests.{eq-eqb, ne-eqb}
-use borrow.Author.Needs.{needs}
+use Rattle.octets.proofs.Vocabulary.{needs, eq-eqb, ne-eqb}
 use Rattle.trimming.proofs.keeping.with_interface.Statement.{statement}
 use Rattle.trimming.proofs.keeping.with_interface.Tie as tie
 

@@ -1,12 +1,6 @@
 -- `trimming::sliding::moved` meets its contract. No axiom.
-use Prim.Native.Nat.{ℕ, _+_, _-_, _≤_, _<_}
-use native.Mathlib.Omega.{arith}
+use Rattle.octets.proofs.Vocabulary.{_≡_, sym, ap, _∙_, ℕ, _+_, _-_, _≤_, _<_, List, length, drop, getD, set, length-drop, paste, paste-zero, paste-suc, length-paste, drop-paste, getD-drop, arith, needs}
 use native.Mathlib.Numerals.{add-one}
-use mathlib.Core.Path.{_≡_, sym, ap, _∙_}
-use mathlib.Core.List.{List}
-use lib.ListN.{length, drop, getD, set, length-drop}
-use lib.Seq.{paste, paste-zero, paste-suc, length-paste, drop-paste, getD-drop}
-use borrow.Author.Needs.{needs}
 use Rattle.trimming.proofs.sliding.moved.Statement.{statement}
 use Rattle.trimming.proofs.sliding.moved.Tie as tie
 
@@ -83,7 +77,5 @@ returns c =
     l .inv .1 ∙ ap (paste (a .set .now) (a .to) (drop (a .from) (a .set .now))) n
 
 pub moved-spec : {M : Type 1} → statement M
-moved-spec =
-    tie.close
-    (tie.spec Inv-loop μ-loop loop-holds (λ c. search needs) slice-read-set (λ c. search needs) slice-write-set (λ c. search needs) (λ c. search needs)
-    loop-again same-length returns)
+moved-spec = tie.close (tie.spec Inv-loop μ-loop loop-holds (λ c. search needs) slice-read-set (λ c. search needs) slice-write-set (λ c. search needs)
+    (λ c. search needs) loop-again same-length returns)
