@@ -7,8 +7,10 @@ use records::Device;
 // The bytes of an answer's part.
 fn part_of<'a>(set: &'a [u8], serial: &'a [u8], answer: Answer) -> &'a [u8] {
     match answer {
-        Answer::SetPart { offset, length } => buffers::head(buffers::tail(set, offset), length),
-        Answer::SerialPart { length } => buffers::head(serial, length),
+        Answer::SetPart { offset, length } => {
+            buffers::head(buffers::tail(set, offset as usize), length as usize)
+        }
+        Answer::SerialPart { length } => buffers::head(serial, length as usize),
         Answer::Done => buffers::head(set, 0),
         Answer::OneByte(_) => buffers::head(set, 0),
         Answer::TwoBytes(_, _) => buffers::head(set, 0),

@@ -54,8 +54,12 @@ fn print_answer(answer: Answer, asked: u16, size: u32) {
     tell(b" -> ", reply::number(answer) as usize, b"");
     print_handed(answer);
     match answer {
-        Answer::SetPart { offset, length } => print_part(b" set ", offset, length, asked, size),
-        Answer::SerialPart { length } => print_part(b" serial ", 0, length, asked, size),
+        Answer::SetPart { offset, length } => {
+            print_part(b" set ", offset as usize, length as usize, asked, size)
+        }
+        Answer::SerialPart { length } => {
+            print_part(b" serial ", 0, length as usize, asked, size)
+        }
         Answer::Done => (),
         Answer::OneByte(_) => (),
         Answer::TwoBytes(_, _) => (),
