@@ -185,16 +185,18 @@ pub fn walk(body: &[u8], alternates: [u8; 16], asked: Asked) -> Survey
     requires { ⌜ wellCut (cut (now body)) ≡ true ⌝ }
     ensures { λ r. ⌜ Surveys (configurationOf (now (body .entry))) alternates asked r ⌝ }
 {
+    // A slice that is named whole before it is handed on is lent in registers.
+    let all = &body[..];
     let mut seen = nothing_seen();
     let mut last = walk::BEFORE_FIRST;
-    let mut at = octets::peek(body, 0) as usize;
-    while at < body.len() {
-        let step = walk::step_over(body, at, last);
+    let mut at = octets::peek(all, 0) as usize;
+    while at < all.len() {
+        let step = walk::step_over(all, at, last);
         let end = step.end;
         let stand = step.stand;
         last = step.setting;
-        seen = move_on(seen, &body[at..end], stand, &alternates[..], asked);
-        at = walk::behind(body, end);
+        seen = move_on(seen, &all[at..end], stand, &alternates[..], asked);
+        at = walk::behind(all, end);
     }
     seen
 }

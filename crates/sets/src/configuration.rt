@@ -87,13 +87,15 @@ pub fn by_index(set: &[u8], index: ConfigurationIndex) -> EntryFound
 pub fn by_value(set: &[u8], value: ConfigurationValue) -> EntryFound
     ensures { λ r. ⌜ r ≡ found (first (valued (now (set .entry)) (value .0)) (entriesOf 2 (now (set .entry)))) ⌝ }
 {
-    let count = octets::peek(set, 2);
+    // A slice that is named whole before it is handed on is lent in registers.
+    let all = &set[..];
+    let count = octets::peek(all, 2);
     let mut i: u8 = 0;
     while i < count {
-        let e = entry_at(set, i);
+        let e = entry_at(all, i);
         i += 1;
         if e.kind == CONFIGURATION {
-            if octets::peek(body_of(set, e), 5) == value.0 {
+            if octets::peek(body_of(all, e), 5) == value.0 {
                 return EntryFound::At(e);
             }
         }

@@ -15,11 +15,11 @@ use Rattle.descriptors.proofs.survey.walk.Statement.{statement}
 use Rattle.descriptors.proofs.survey.walk.Tie as tie
 
 abbrev Inv-loop : tie.InvT-loop
-Inv-loop body asked alternates seen₀ last₀ at₀ seen last at =
+Inv-loop body asked alternates all seen₀ last₀ at₀ seen last at =
     Place body at × Walking (surveying alternates asked) body (walked (surveying alternates asked) nothingSeen before (cut (drop at₀ body))) seen (standIn last) at
 
 abbrev μ-loop : tie.MeasureT-loop
-μ-loop body asked alternates seen₀ last₀ at₀ seen last at = length body - at
+μ-loop body asked alternates all seen₀ last₀ at₀ seen last at = length body - at
 
 loop-holds : tie.Need-loop-holds Inv-loop μ-loop
 loop-holds c =
