@@ -17,12 +17,12 @@
  * little room; on a board's processor what every call of a board must keep. */
 #ifdef __x86_64__
 #define MOST 608
-#define MOST_OF_TWO 760
+#define MOST_OF_TWO 744
 #define MOST_OF_TABLE 984
 #define MOST_OF_PIPE 648
 #define MOST_OF_PACKET 420
-#define MOST_OF_TWO_PIPE 856
-#define MOST_OF_TWO_PACKET 484
+#define MOST_OF_TWO_PIPE 840
+#define MOST_OF_TWO_PACKET 468
 #else
 #define MOST 1024
 #define MOST_OF_TWO 1024
