@@ -18,6 +18,9 @@ LABEL = re.compile(r"(\.L\w+):$")
 DATA = re.compile(r"^\t\.(?:byte|short|hword|half|2byte|long|word|4byte)\t(.*)", re.M)
 CONDITION = "eq|ne|hs|lo|mi|pl|vs|vc|hi|ls|ge|lt|gt|le"
 
+# What a helper (memcpy and its kind) may take: those of tools/bare take 16 bytes.
+HELPER = 16
+
 # What an instruction does: the bytes that it takes off the stack, then what follows (go on, call, jump, leave, give back, table, stop) and where; maybe: or nothing of it.
 Deed = namedtuple("Deed", "takes then where maybe", defaults=(0, "go on", None, False))
 # Of a function: the bytes that it takes and does not give back, the most at any place, and its calls with the bytes there.
@@ -39,6 +42,9 @@ def arm(words, operands, _):
         return to(operands.split(", ")[1], True)
     if name == "b":
         return to(operands, bool(condition))
+    if name == "bl" and operands.startswith(".L"):
+        # A jump too far for a Cortex-M0's branch: the return address is on the stack by then.
+        return to(operands)
     if name == "bl":
         return Deed(0, "call", operands.strip('"'))
     if name in ("pop", "ldr") and takes and re.search(r"\bpc\b", operands) or (name, operands) == ("bx", "lr"):
@@ -140,12 +146,12 @@ class Depths:
         return found + ([(number + 1, depth)] if deed.maybe else [])
 
     def deepest(self, name, path=()):
-        """The most bytes that a call takes, with its callees': (bytes, path). Helpers' frames are not known here and come on top."""
+        """The most bytes that a call takes, with its callees': (bytes, path). A helper is not known here: it has HELPER bytes."""
         if name in path:
             raise Unexpected(f"{name} calls itself, by " + " ".join(path))
         if name not in self.known:
             found = self.of(name)
-            below = [(depth, *self.deepest(callee, (*path, name))) for callee, depth in found.calls if callee in self.lines]
+            below = [(depth, *(self.deepest(callee, (*path, name)) if callee in self.lines else (HELPER, (callee,)))) for callee, depth in found.calls]
             most, depth, way = max(((depth + more, depth, way) for depth, more, way in below), default=(0, 0, ()))
             self.known[name] = (most, (f"{name} {depth}", *way)) if most > found.most else (found.most, (f"{name} {found.most}",))
         return self.known[name]
