@@ -2,6 +2,8 @@
 // given and of what is to come out or, on a board, of what happens (2 each), the buffer's length (2), and these four. The heading is written
 // as it stands, and behind it the answer. tests/programs/benched.py has the form of a record; tests/programs/lay_out, take_apart, dumps, trims, runs and replay
 // make the records.
+#![tactic(auto)]
+
 ghost use Rattle.std.specs.Prelude.{◌≤◌, ◌≡◌, length};
 
 use libc::STDIN_FILENO;

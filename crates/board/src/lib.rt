@@ -1,4 +1,6 @@
 // The C interface: every function of include/heideklonk.h, and nothing else.
+#![tactic(auto)]
+
 ghost use Rattle.std.specs.Prelude.{◌≡◌};
 ghost use Rattle.sets.specs.Opening.{lent};
 ghost use Rattle.sets.specs.View.{opening_of};

@@ -1,4 +1,6 @@
 // Bytes written into a lent buffer, and parts of one. Each function that writes does so at a place and gives the place behind what it wrote.
+#![tactic(auto)]
+
 ghost use Rattle.std.specs.Prelude.{◌≡◌, [], ◌∷◌, take, drop};
 ghost use Rattle.buffers.specs.Written.{Room, Wrote};
 

@@ -14,7 +14,7 @@ use crate::{sequence, types, walk};
 use octets::table::holds;
 
 // Whether a body, or bodies, are good; and whether they are and every string reference in them is in a table.
-#[derive(Drop)]
+#[derive(Clone, Copy)]
 pub struct Verdict {
     pub good: bool,
     pub refers: bool,
@@ -62,7 +62,7 @@ pub fn refuse() -> Verdict
 
 // ---- the same in few numbers
 // One more descriptor: whether it may come, and if so the order and the references then.
-#[derive(Drop)]
+#[derive(Clone, Copy)]
 struct Turned {
     good: bool,
     order: Order,

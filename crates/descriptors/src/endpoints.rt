@@ -12,7 +12,7 @@ use crate::walk;
 use crate::walk::Stand;
 
 // Where a descriptor lies in a body.
-#[derive(Drop)]
+#[derive(Clone, Copy)]
 pub enum DescriptorFound {
     At { offset: usize, length: usize },
     Nothing,

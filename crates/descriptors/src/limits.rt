@@ -4,7 +4,7 @@ ghost use Rattle.descriptors.specs.Limits.{full_ranges, high_ranges, super_range
 ghost use Rattle.descriptors.specs.Descriptor.{good_address, sized};
 
 // A range of numbers, both ends in it.
-#[derive(Drop)]
+#[derive(Clone, Copy)]
 pub struct Range {
     pub least: u16,
     pub most: u16,
@@ -12,7 +12,7 @@ pub struct Range {
 
 // What a speed allows of endpoints. `polling` and `period` are the bInterval of interrupt and isochronous endpoints; `bursts` is the largest number in
 // w_max_packet_size's bits 15-11.
-#[derive(Drop)]
+#[derive(Clone, Copy)]
 pub struct Ranges {
     pub bulk: Range,
     pub interrupt: Range,
@@ -23,7 +23,7 @@ pub struct Ranges {
 }
 
 // The speeds. Each has its ranges.
-#[derive(Drop)]
+#[derive(Clone, Copy)]
 pub enum Speed {
     Full,
     High,
@@ -32,7 +32,7 @@ pub enum Speed {
 
 // What a kind of set allows. `control` is bMaxPacketSize0; bit t of `entries` stands for descriptor type t; `companions` asks for one after every
 // endpoint.
-#[derive(Drop)]
+#[derive(Clone, Copy)]
 pub struct Limits {
     pub control: Range,
     pub speed: Speed,

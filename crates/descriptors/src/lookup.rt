@@ -6,7 +6,7 @@ ghost use Rattle.descriptors.specs.Lookup.{with_bit};
 use crate::Endpoint;
 
 // The endpoint that was looked for, or that there is none.
-#[derive(Drop)]
+#[derive(Clone, Copy)]
 pub enum EndpointFound {
     At(Endpoint),
     Nothing,

@@ -11,7 +11,7 @@ use crate::walk::BEFORE_FIRST;
 
 // `last` is the setting of the descriptor before, as the step gives it. `coming` endpoints are still to come. A bit for each address: `others` are
 // those of the interfaces before, `own` those of this interface's settings, `setting` those of this setting.
-#[derive(Drop)]
+#[derive(Clone, Copy)]
 pub struct Order {
     pub last: u32,
     pub coming: u32,
@@ -21,7 +21,7 @@ pub struct Order {
 }
 
 // A setting that comes: whether it may, and the addresses then.
-#[derive(Drop)]
+#[derive(Clone, Copy)]
 struct Placing {
     good: bool,
     others: u32,
@@ -29,7 +29,7 @@ struct Placing {
 }
 
 // An interface descriptor: whether it may come, and the order then.
-#[derive(Drop)]
+#[derive(Clone, Copy)]
 pub struct Begun {
     pub good: bool,
     pub order: Order,

@@ -17,7 +17,7 @@ use crate::{Endpoint, types, walk};
 const PAST_SIXTEEN: u32 = 0x_ffff0000;
 
 // What an event asks of the selected configuration: an endpoint, by its address, and a setting of an interface.
-#[derive(Drop)]
+#[derive(Clone, Copy)]
 pub struct Asked {
     pub address: u16,
     pub interface: u16,
@@ -27,7 +27,7 @@ pub struct Asked {
 // Bit k of `existing` and `current`: whether interface k exists, and whether its current setting does. Of the endpoints of the current settings,
 // `halting` has the bits of the bulk and interrupt ones, and `endpoint` is the one that is asked for. `there`: the setting that is asked for
 // exists; `bits` has those of its endpoints and of the endpoints of the interface's current setting.
-#[derive(Drop)]
+#[derive(Clone, Copy)]
 pub struct Survey {
     pub existing: u32,
     pub current: u32,

@@ -9,7 +9,7 @@ use crate::types::{CLASS, INTERFACE};
 pub const BEFORE_FIRST: u32 = 65791;
 
 // Where a descriptor stands: under which setting, or (not `inside`) before the first interface.
-#[derive(Drop)]
+#[derive(Clone, Copy)]
 pub struct Stand {
     pub inside: bool,
     pub interface: u8,
@@ -17,7 +17,7 @@ pub struct Stand {
 }
 
 // One step of a walk: where the descriptor ends, and the setting under which it stands, as the next step takes it and taken apart.
-#[derive(Drop)]
+#[derive(Clone, Copy)]
 pub struct Step {
     pub end: usize,
     pub setting: u32,

@@ -7,7 +7,7 @@ use descriptors::types;
 use sets::Entry;
 
 // What export answers: its number, and the dump's length, 0 after a refusal.
-#[derive(Drop)]
+#[derive(Clone, Copy)]
 pub struct Dumped {
     pub number: u8,
     pub written: u16,

@@ -1,4 +1,6 @@
 // A dump: a device descriptor and configuration bodies end to end. Splitting it, and its bodies with their string references zeroed, as a stream of pieces.
+#![tactic(auto)]
+
 ghost use Rattle.std.specs.Prelude.{◌≡◌, true, ◌&&◌, map, ◌+◌, ◌<◌, ◌≤◌, length, set, drop, ltb};
 ghost use Rattle.octets.specs.Octets.{word};
 ghost use Rattle.octets.specs.Sentences.{pick};
@@ -17,7 +19,7 @@ pub mod import;
 const DEVICE_LENGTH: usize = 18;
 
 // What splitting finds: how many configuration bodies.
-#[derive(Drop)]
+#[derive(Clone, Copy)]
 pub enum Shape {
     Broken,
     Bodies(usize),

@@ -2,7 +2,7 @@
 use descriptors::survey::Survey;
 
 // Where the descriptor that is asked for lies: a body of the set, the serial block, or nowhere.
-#[derive(Drop)]
+#[derive(Clone, Copy)]
 pub enum Located {
     Body { offset: u16, length: u16 },
     Serial { length: u16 },
@@ -11,7 +11,7 @@ pub enum Located {
 
 // paired: two sets are lent; configured: the set has a configuration with the record's value; waking: some configuration supports remote wakeup; survey: what the selected configuration has; interface: it has the interface that is asked for;
 // configuration: the set has the value that SET_CONFIGURATION asks for; located: what GET_DESCRIPTOR asks for.
-#[derive(Drop)]
+#[derive(Clone, Copy)]
 pub struct Facts {
     pub paired: bool,
     pub configured: bool,

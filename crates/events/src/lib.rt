@@ -1,4 +1,6 @@
 // What happens to a device, and what it answers.
+#![tactic(auto)]
+
 ghost use Rattle.std.specs.Prelude.{◌≡◌};
 ghost use Rattle.events.specs.Step.{setup_event};
 
@@ -16,7 +18,7 @@ pub mod standard;
 const SETUP_LENGTH: usize = 8;
 
 // An event: a setup of eight bytes, a setup of any other length, or one of the eight others.
-#[derive(Drop)]
+#[derive(Clone, Copy)]
 pub enum Event {
     Request(Setup),
     Malformed,
@@ -32,7 +34,7 @@ pub enum Event {
 
 // What an event answers: done, with no, one or two bytes; the part of the set from `offset` on; the serial block's first bytes; or a
 // refusal, under document 01's number. Offset and length are those of an accepted set: small, so that an answer takes little of the stack.
-#[derive(Drop)]
+#[derive(Clone, Copy)]
 pub enum Answer {
     Done,
     OneByte(u8),
@@ -43,7 +45,7 @@ pub enum Answer {
 }
 
 // An event's answer, and the record that it leaves.
-#[derive(Drop)]
+#[derive(Clone, Copy)]
 pub struct Outcome {
     pub answer: Answer,
     pub device: Device,

@@ -7,7 +7,7 @@ use crate::Answer;
 use records::Change;
 
 // An answer; whether the event is a setup that settles the record; and what else it changes.
-#[derive(Drop)]
+#[derive(Clone, Copy)]
 pub struct Reaction {
     pub answer: Answer,
     pub settles: bool,

@@ -23,7 +23,7 @@ pub fn number(answer: Answer) -> u8
 }
 
 // The bytes handed back: how many, and the first and the second, or 0.
-#[derive(Drop)]
+#[derive(Clone, Copy)]
 pub struct Handed {
     pub count: u8,
     pub first: u8,

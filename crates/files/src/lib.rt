@@ -1,4 +1,6 @@
 // Files, lines and arguments for the programs that makers and service staff run.
+#![tactic(auto)]
+
 ghost use Rattle.io.specs.Counts.{IsPrefixLen};
 
 use libc::STDOUT_FILENO;

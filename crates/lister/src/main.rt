@@ -1,4 +1,6 @@
 // The lister: reads set.bin and unit.bin where it is run, and writes the set's lines or its refusal. The argument `super` names a SuperSpeed set.
+#![tactic(auto)]
+
 use descriptors::limits::Limits;
 use libc::STDOUT_FILENO;
 

@@ -1,4 +1,6 @@
 // The lister's lines, written into a lent buffer. Each function writes at a place and gives the place behind what it wrote.
+#![tactic(auto)]
+
 ghost use Rattle.std.specs.Prelude.{◌≡◌, true, ◌≤◌, length};
 ghost use mathlib.Core.List.{flat_map};
 ghost use Rattle.octets.specs.Sentences.{every};

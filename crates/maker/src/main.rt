@@ -5,6 +5,8 @@
 //     trim            set.bin and unit.bin become trimmed.bin
 //     explain [super] which rule of opening set.bin with unit.bin breaks first, and at which byte
 //     explain pair    the same of full.bin and high.bin with unit.bin, and of which of the three
+#![tactic(auto)]
+
 mod explain;
 mod export;
 mod import;

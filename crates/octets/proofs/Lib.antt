@@ -4,4 +4,3 @@ pub mod Words
 pub mod Tables
 pub mod Counting
 pub mod Vocabulary
-pub mod Walking

@@ -1,4 +1,6 @@
 // Bytes and little-endian numbers of a slice, and the bits of a u32.
+#![tactic(auto)]
+
 pub mod table;
 
 ghost use Rattle.std.specs.Prelude.{◌≡◌, ◌&&◌, not, ℕ, ◌<◌};

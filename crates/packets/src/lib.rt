@@ -1,4 +1,6 @@
 // A reply, cut into packets.
+#![tactic(auto)]
+
 ghost use Rattle.std.specs.Prelude.{◌≡◌, true, ◌+◌, length};
 ghost use Rattle.octets.specs.Octets.{part};
 ghost use Rattle.packets.specs.Packets.{can_cut, packet_count, packet};
@@ -7,7 +9,7 @@ ghost use Rattle.packets.specs.Packets.{can_cut, packet_count, packet};
 pub const NO_SUCH_PACKET: u8 = 15;
 
 // A packet: document 01's number, and the part of the reply that it is.
-#[derive(Drop)]
+#[derive(Clone, Copy)]
 pub struct Packet {
     pub number: u8,
     pub offset: usize,

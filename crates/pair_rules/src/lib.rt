@@ -1,4 +1,6 @@
 // The rules of opening two sets one by one: which is the first that a pair breaks, of which block, and where. For a bench computer.
+#![tactic(auto)]
+
 pub mod beside;
 
 ghost use Rattle.std.specs.Prelude.{◌≡◌};
@@ -16,7 +18,7 @@ pub const HIGH: u8 = 1;
 pub const SERIAL: u8 = 2;
 
 // What a maker is told: the pair's number, the block that the rule is about, the rule, and the byte of that block.
-#[derive(Drop)]
+#[derive(Clone, Copy)]
 pub struct ExplainedTwo {
     pub number: u8,
     pub block: u8,

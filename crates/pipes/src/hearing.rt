@@ -14,7 +14,7 @@ use requests::Setup;
 
 // What an event gets before the library hears of it: its number, the order, and whether the library has to hear of it: of a setup, a reset, and a
 // transfer that has ended.
-#[derive(Drop)]
+#[derive(Clone, Copy)]
 pub struct Moved {
     pub number: u8,
     pub order: u8,

@@ -11,7 +11,7 @@ use events::{Answer, reply as answers};
 use requests::Setup;
 
 // What an event gets: its number, the order, and the bytes handed back: how many, and the first and the second, or 0.
-#[derive(Drop)]
+#[derive(Clone, Copy)]
 pub struct Response {
     pub number: u8,
     pub order: u8,

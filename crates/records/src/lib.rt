@@ -1,4 +1,6 @@
 // The device record: what a board keeps between events.
+#![tactic(auto)]
+
 ghost use Rattle.std.specs.Prelude.{◌≡◌, false, ◌<◌, length};
 ghost use Rattle.descriptors.specs.declared.survey.Asked.{Asked};
 ghost use Rattle.descriptors.specs.Survey.{Surveys};
@@ -56,7 +58,7 @@ const NO_STATE: u8 = 255;
 // applies, or 128 plus the selector of the test mode that it enters, 255 for none; power: 0 bus, 1 own supply; suspended: 0 or 1; speed: 0 full, 1
 // high, and 1 plus 16 times the selector of an entered test mode; bit e of halts and toggles is OUT endpoint e, bit 16 + e is IN.
 #[repr(C)]
-#[derive(Drop)]
+#[derive(Clone, Copy)]
 pub struct Device {
     pub state: u8,
     pub address: u8,
@@ -74,7 +76,7 @@ pub struct Device {
 // What an event changes of a record: nothing, or the fields that a variant names, which get these values. Small, so that it travels where the record would not.
 // Address: nothing waits any more; Configuration: every setting, halt and toggle becomes 0; Setting: one interface gets another; Passed: the device is awake, too;
 // Fresh: the fresh record, but for its power source and its speed; TestMode: byte 7 of an entered test mode, and nothing waits any more.
-#[derive(Drop)]
+#[derive(Clone, Copy)]
 pub enum Change {
     Kept,
     Waiting(u8),

@@ -1,10 +1,12 @@
 // The eight setup bytes, and the table of the fifteen standard requests.
+#![tactic(auto)]
+
 ghost use Rattle.std.specs.Prelude.{◌≡◌};
 ghost use Rattle.requests.specs.Table.{setup_of, row_of, in_state, largest_index, fields_fit, refusal};
 ghost use Rattle.requests.specs.Found.{found_of};
 
 // The setup bytes as numbers.
-#[derive(Drop)]
+#[derive(Clone, Copy)]
 pub struct Setup {
     pub bmRequestType: u8,
     pub bRequest: u8,
@@ -15,7 +17,7 @@ pub struct Setup {
 
 // What a row of the table asks: the type and the code; wValue at most `value`; wIndex at most `index`, or `string` where the type asked is a string;
 // wLength from `shortest` to `longest`; the state from `lowest` to `highest`.
-#[derive(Drop)]
+#[derive(Clone, Copy)]
 pub struct Row {
     pub bmRequestType: u8,
     pub bRequest: u8,
@@ -29,7 +31,7 @@ pub struct Row {
 }
 
 // What a search of the table finds.
-#[derive(Drop)]
+#[derive(Clone, Copy)]
 pub enum RowFound {
     Is(Row),
     Missing,

@@ -22,7 +22,7 @@ use sets::Entry;
 use sets::contents::{body_of, entry_at};
 
 // Where a descriptor stands: at `at` of a body that begins at `start`; the interface descriptor before it begins at `head`.
-#[derive(Drop)]
+#[derive(Clone, Copy)]
 pub struct Spot {
     pub start: u16,
     pub at: u16,
@@ -30,14 +30,14 @@ pub struct Spot {
 }
 
 // The setting in which the descriptor before stands, and its own.
-#[derive(Drop)]
+#[derive(Clone, Copy)]
 pub struct Passage {
     pub last: Stand,
     pub stand: Stand,
 }
 
 // What a configuration's entry is held to: the index that is next, and whether its value was there before.
-#[derive(Drop)]
+#[derive(Clone, Copy)]
 pub struct Turn {
     pub index: u8,
     pub again: bool,

@@ -25,7 +25,7 @@ pub fn frame_fault(set: &[u8], found: Fault) -> Fault
 }
 
 // What an entry stands behind: the last entry, if it is not the first, and the bodies so far, which end at `end`.
-#[derive(Drop)]
+#[derive(Clone, Copy)]
 pub struct Behind {
     pub first: bool,
     pub last: Entry,

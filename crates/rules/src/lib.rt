@@ -1,4 +1,6 @@
 // The rules of opening one by one: which is the first that a set breaks, and where. For a bench computer.
+#![tactic(auto)]
+
 pub mod configuration;
 pub mod device;
 pub mod frame;
@@ -17,14 +19,14 @@ use descriptors::limits::Limits;
 use sets::opening::SERIAL_BROKEN;
 
 // A broken rule and the byte where it is broken; rule 0 where none is.
-#[derive(Drop)]
+#[derive(Clone, Copy)]
 pub struct Fault {
     pub rule: u16,
     pub place: u32,
 }
 
 // What a maker is told: opening's number, the rule, and the byte of the set, or of the serial block in group 6.
-#[derive(Drop)]
+#[derive(Clone, Copy)]
 pub struct Explained {
     pub number: u8,
     pub rule: u16,

@@ -10,7 +10,7 @@ use descriptors::walk::Stand;
 
 // How far the check of a body is, as its definition keeps it: how many endpoints of this setting are still to come; and, a bit
 // for each address, the addresses of this setting, of this interface's settings, and of all that was seen. Where it stands is the step's to say.
-#[derive(Drop)]
+#[derive(Clone, Copy)]
 pub struct Progress {
     pub coming: u8,
     pub setting: u32,

@@ -136,7 +136,7 @@ fn listed_fault(found: Fault, set: &[u8], zero: &[u8]) -> Fault
 
 // ---- the references
 // A byte: byte k of what begins at `at` of what begins at `start`.
-#[derive(Drop)]
+#[derive(Clone, Copy)]
 pub struct Spot {
     pub start: u16,
     pub at: u16,
@@ -144,7 +144,7 @@ pub struct Spot {
 }
 
 // What references are judged by: whether string 0 is there, and iSerialNumber.
-#[derive(Drop)]
+#[derive(Clone, Copy)]
 pub struct Judge {
     pub there: bool,
     pub serial: u8,

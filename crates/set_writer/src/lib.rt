@@ -1,4 +1,6 @@
 // The set writer: pieces end to end, in any order, become a set in a lent buffer.
+#![tactic(auto)]
+
 ghost use Rattle.std.specs.Prelude.{◌≡◌, true, ◌≤◌, length};
 ghost use Rattle.set_writer.specs.Writer.{ends, pieces, laid_length, sorted, set_of};
 ghost use Rattle.set_writer.specs.Reported.{length_written, Handed, Reported};
@@ -23,7 +25,7 @@ pub const MOST_ENTRIES: usize = 64;
 pub const LONGEST_SET: usize = 16384;
 
 // What the writer answers: its number, and the opening number of the set that the pieces make, which says why 21; 0 where no set was made.
-#[derive(Drop)]
+#[derive(Clone, Copy)]
 pub struct Report {
     pub number: u8,
     pub opening: u8,

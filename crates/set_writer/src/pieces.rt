@@ -5,7 +5,7 @@ ghost use Rattle.set_writer.specs.Writer.{piece_of};
 ghost use Rattle.set_writer.specs.Places.{count_of};
 
 // What counting finds.
-#[derive(Drop)]
+#[derive(Clone, Copy)]
 pub enum Counted {
     // The stream does not end where its lengths say.
     Broken,

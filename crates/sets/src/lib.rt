@@ -1,4 +1,6 @@
 // A descriptor set: its contents, and whether it may be opened.
+#![tactic(auto)]
+
 pub mod capabilities;
 pub mod configuration;
 pub mod contents;
@@ -7,7 +9,7 @@ pub mod opening;
 pub mod string;
 
 // One entry of the contents: what a body is, and where it lies.
-#[derive(Drop)]
+#[derive(Clone, Copy)]
 pub struct Entry {
     pub kind: u8,
     pub index: u8,
@@ -17,7 +19,7 @@ pub struct Entry {
 }
 
 // An entry that is looked up.
-#[derive(Drop)]
+#[derive(Clone, Copy)]
 pub enum EntryFound {
     At(Entry),
     Nothing,

@@ -30,7 +30,7 @@ pub const SERIAL_BROKEN: u8 = 6;
 const DEVICE_LENGTH: usize = 18;
 
 // What groups 1 to 3 give, 0 or the number of the first that is broken; and if it is 0 how many configurations there are, where the device descriptor lies, and whether there is no entry besides.
-#[derive(Drop)]
+#[derive(Clone, Copy)]
 pub struct Begun {
     pub number: u8,
     pub configurations: u8,

@@ -17,7 +17,7 @@ use octets::table::holds;
 
 // What is found of a body: whether it is good, and whether it is and every string reference in it is in a table; if it is good, what is asked
 // of it.
-#[derive(Drop)]
+#[derive(Clone, Copy)]
 pub struct Collected {
     pub verdict: Verdict,
     pub survey: Survey,

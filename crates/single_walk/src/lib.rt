@@ -1,5 +1,7 @@
 // A second way to answer an event, for large sets: while opening's one walk checks a configuration it collects what the event asks of the selected one, so that no body is walked
 // through twice.
+#![tactic(auto)]
+
 pub mod collect;
 pub mod pass;
 pub mod walk;
@@ -29,7 +31,7 @@ use steps::facts;
 use steps::facts::Selected;
 
 // What opening gives, and if that is 0 what it collected.
-#[derive(Drop)]
+#[derive(Clone, Copy)]
 pub struct Opened {
     pub number: u8,
     pub known: Selected,

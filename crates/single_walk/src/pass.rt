@@ -17,7 +17,7 @@ use sets::contents::{body_whole, entry_whole};
 use steps::facts::{Selected, nothing_known};
 
 // Whether the configurations are good and refer to strings that are there, and what is known of them if they are good.
-#[derive(Drop)]
+#[derive(Clone, Copy)]
 pub struct Passed {
     pub verdict: Verdict,
     pub known: Selected,

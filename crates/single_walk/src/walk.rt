@@ -16,7 +16,7 @@ use descriptors::{limits, sequence, types};
 use octets::table::holds;
 
 // What is asked, as the walk compares it: whether at high speed, an address, an interface, and a setting by one number.
-#[derive(Drop)]
+#[derive(Clone, Copy)]
 pub struct Wanted {
     pub high: bool,
     pub address: u32,
@@ -25,7 +25,7 @@ pub struct Wanted {
 }
 
 // What was found so far: a survey's words; the endpoint asked for, in one number, or 0; 1 if the setting asked for is there.
-#[derive(Drop)]
+#[derive(Clone, Copy)]
 pub struct Finds {
     pub current: u32,
     pub halting: u32,
@@ -35,7 +35,7 @@ pub struct Finds {
 }
 
 // How far the walk is; the role of this setting, and 1 if every string reference so far is in the table.
-#[derive(Drop)]
+#[derive(Clone, Copy)]
 struct Course {
     order: Order,
     finds: Finds,
@@ -44,14 +44,14 @@ struct Course {
 }
 
 // One more descriptor: whether it may come, and how far the walk is then.
-#[derive(Drop)]
+#[derive(Clone, Copy)]
 struct Turned {
     good: bool,
     course: Course,
 }
 
 // Whether the body is good; if so, whether the references are in the table, and what was found.
-#[derive(Drop)]
+#[derive(Clone, Copy)]
 pub struct Walked {
     pub good: bool,
     pub refers: bool,

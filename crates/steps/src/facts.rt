@@ -170,7 +170,7 @@ pub fn asked_of(event: Event) -> Asked
 }
 
 // What an event knows of the configurations: whether the selected one is there, whether some one supports remote wakeup, and the selected one's survey.
-#[derive(Drop)]
+#[derive(Clone, Copy)]
 pub struct Selected {
     pub configured: bool,
     pub waking: bool,
@@ -226,7 +226,7 @@ pub fn learn(opening: u8, set: &[u8], serial: &[u8], image: &[u8], event: Event)
 }
 
 // What only one request asks: whether the set has the configuration, and where the descriptor lies.
-#[derive(Drop)]
+#[derive(Clone, Copy)]
 pub struct Sought {
     pub configuration: bool,
     pub located: Located,

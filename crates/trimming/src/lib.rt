@@ -1,4 +1,6 @@
 // Trimming: the strings of a set that nothing names are dropped, in the set's own buffer.
+#![tactic(auto)]
+
 ghost use Rattle.std.specs.Prelude.{◌≡◌, true, map, ◌+◌, ◌-◌, ◌<◌, ◌≤◌, length, replicate};
 ghost use Rattle.octets.specs.Sentences.{only};
 ghost use Rattle.sets.specs.Contents.{entries, bodies_at, end_to_end, good_frame};
