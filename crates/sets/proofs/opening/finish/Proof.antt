@@ -1,6 +1,0 @@
--- `sets::opening::finish` meets its contract. No axiom.
-use Rattle.sets.proofs.opening.finish.Statement.{statement}
-use Rattle.sets.proofs.opening.finish.Tie as tie
-
-pub finish_spec : {M : Type 1} → statement M
-finish_spec = tie.close (tie.spec (λ c κs. c.before.before.requires) (λ c. c.last-groups.ensures))
