@@ -68,8 +68,8 @@ pub fn packet_of(reply: usize, asked: u16, size: u32, nth: u32) -> Packet
 // The packet as a part of the reply, and no copy.
 pub fn cut<'a>(reply: &'a [u8], asked: u16, size: u32, nth: u32) -> &'a [u8]
     ensures bytes { result.now ≡ part reply.now (packet (length reply.now) asked size nth).offset (packet (length reply.now) asked size nth).length }
-    ensures block { result.ref_ptr.0 ≡ reply.entry.ptr.0 }
-    ensures offset { result.ref_ptr.1 ≡ reply.entry.ptr.1 + (packet (length reply.now) asked size nth).offset }
+    ensures block { result.ref_ptr.0 ≡ reply.entry.ref_ptr.0 }
+    ensures offset { result.ref_ptr.1 ≡ reply.entry.ref_ptr.1 + (packet (length reply.now) asked size nth).offset }
 {
     let here = packet_of(reply.len(), asked, size, nth);
     let start = here.offset;
