@@ -270,13 +270,29 @@ module _ {E : Type 0} {who : E → ℕ} where
   same-places a {xs} {ys} w = record {
     to = lift w.to;
     from = lift w.from;
-    there = λ i. elim i [ zero ↦ λ e p. p | suc i ↦ w.there i ];
-    here = λ j. elim j [ zero ↦ λ e p. p | suc j ↦ w.here j ];
-    from-to = λ i. elim i [ zero ↦ λ e p. refl | suc i ↦ λ e p. ap suc (w.from-to i e p) ];
-    to-from = λ j. elim j [ zero ↦ λ e p. refl | suc j ↦ λ e p. ap suc (w.to-from j e p) ];
+    there = there;
+    here = here;
+    from-to = from-to;
+    to-from = to-from;
     in_order = both;
   }
     where
+      there : (i : ℕ) (e : E) → get_elem? (a ∷ xs) i ≡ some e → get_elem? (a ∷ ys) (lift w.to i) ≡ some e
+      there zero e p = p
+      there (suc i) e p = w.there i e p
+
+      here : (j : ℕ) (e : E) → get_elem? (a ∷ ys) j ≡ some e → get_elem? (a ∷ xs) (lift w.from j) ≡ some e
+      here zero e p = p
+      here (suc j) e p = w.here j e p
+
+      from-to : (i : ℕ) (e : E) → get_elem? (a ∷ xs) i ≡ some e → lift w.from (lift w.to i) ≡ i
+      from-to zero e p = refl
+      from-to (suc i) e p = ap suc (w.from-to i e p)
+
+      to-from : (j : ℕ) (e : E) → get_elem? (a ∷ ys) j ≡ some e → lift w.to (lift w.from j) ≡ j
+      to-from zero e p = refl
+      to-from (suc j) e p = ap suc (w.to-from j e p)
+
       both : (i j : ℕ) (e f : E) → get_elem? (a ∷ xs) i ≡ some e → get_elem? (a ∷ xs) j ≡ some f → who e ≡ who f → i < j
           → lift w.to i < lift w.to j
       both i zero e f p q o h = absurd (omega arith)
