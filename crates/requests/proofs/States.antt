@@ -11,7 +11,7 @@ abbrev pub allowed_in_default : ℕ → Bool
 allowed_in_default code = eqb code 0x05 || eqb code 0x06
 
 abbrev pub allowed_in_address : ℕ → Bool
-allowed_in_address code = not (eqb code 0x0_a) && not (eqb code 0x0_b)
+allowed_in_address code = not (eqb code 0x0A) && not (eqb code 0x0B)
 
 abbrev pub allowed_in_configured : ℕ → Bool
 allowed_in_configured code = not (eqb code 0x05)

@@ -80,8 +80,8 @@ code SET-ADDRESS = 0x05
 code GET-DESCRIPTOR = 0x06
 code GET-CONFIGURATION = 0x08
 code SET-CONFIGURATION = 0x09
-code GET-INTERFACE = 0x0_a
-code SET-INTERFACE = 0x0_b
+code GET-INTERFACE = 0x0A
+code SET-INTERFACE = 0x0B
 
 abbrev asks : ℕ → StandardRequest → ℕ → Index → Span → Span → Row
 asks bmRequestType request wValue wIndex wLength states = record {
@@ -123,7 +123,7 @@ row_of s = first (λ r. eqb r.bmRequestType s.bmRequestType && eqb r.bRequest s.
 abbrev pub in_state : Row → ℕ → Bool
 in_state r state = leb r.lowest state && leb state r.highest
 
--- the largest wIndex: "wIndex 0 unless the type asked is 3", and the type asked is w_value's high byte
+-- the largest wIndex: "wIndex 0 unless the type asked is 3", and the type asked is wValue's high byte
 abbrev pub largest_index : Row → ℕ → ℕ
 largest_index r value = pick (eqb (value / 256) 3) r.string r.index
 

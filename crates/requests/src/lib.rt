@@ -73,7 +73,7 @@ pub const DEVICE: u8 = 0;
 
 pub const INTERFACE: u8 = 1;
 
-// The type of a string descriptor, as w_value's high byte asks for it.
+// The type of a string descriptor, as wValue's high byte asks for it.
 const STRING: u16 = 3;
 
 // A device's states, as byte 0 of its record has them.
