@@ -2,24 +2,14 @@
 use native.Mathlib.Omega.{arith}
 use mathlib.Core.List.{[], ◌∷◌}
 use lib.ListN.{drop_of_length-le}
-use Rattle.buffers.proofs.Written.{begun, room_for, next, done, same, one_more}
+use Rattle.buffers.proofs.Written.{next, done, one_more}
 use Rattle.buffers.proofs.put_bytes.Goals as goal
-
-pub loop-i-init : goal.loop-i-init
-loop-i-init c = let a = c.args in (omega arith, begun a.out.now a.at a.text.now c.requires)
-
-pub put-next-requires : goal.put-next-requires
-put-next-requires c =
-    room_for c.loop-i.invariant.1 (_ ∷ []) _ (one_more c.args.text.now c.loop-i.i c.loop-i-test.true)
 
 pub loop-i-preserved : goal.loop-i-preserved
 loop-i-preserved c = (
   omega arith,
   next c.loop-i.invariant.1 (_ ∷ []) _ (one_more c.args.text.now c.loop-i.i c.loop-i-test.true) c.put-next.ensures,
 )
-
-pub shape_of-out : goal.shape_of-out
-shape_of-out c = same c.loop-i.invariant.1
 
 pub returns : goal.returns
 returns c = done c.loop-i.invariant.1 (drop_of_length-le c.args.text.now c.loop-i-test.false)
