@@ -11,8 +11,8 @@ is respelled.
 """
 import os, re, sys
 
-WORD = re.compile(r"[A-Za-zα-ωΑ-Ω_][A-Za-zα-ωΑ-Ω0-9_'\-]*")
-FIELD = re.compile(r"(?:b|bm|bcd|w|i|id)[A-Z][A-Za-z0-9]*$")
+WORD = re.compile(r"(?<![A-Za-z0-9_'])[A-Za-zα-ωΑ-Ω_][A-Za-zα-ωΑ-Ω0-9_'\-]*")
+FIELD = re.compile(r"(?:b|bm|bcd|w|i|id)[A-Z][A-Za-z0-9]*(?:'s)?$")
 CAMEL = re.compile(r"[a-zα-ω][a-z0-9']*(?:_[a-z0-9']+)*[A-Z]")
 # Names of the toolchain's library that have a capital behind a line, as it spells them.
 LIBRARY = {"uint_Tells", "uint_Makes", "uint_Lawful", "mut_Tells", "shr_Tells", "shr_slice_Tells", "mut_slice_Tells", "walk_Meets", "is_Within", "nothing_Seen"}

@@ -72,7 +72,7 @@ abbrev pub set_address_five : List ℕ
 set_address_five = bytes 8 0x0005050000000000
 
 abbrev pub unknown : List ℕ
-unknown = bytes 8 0x_ffff000000000000
+unknown = bytes 8 0xFFFF000000000000
 
 five_octets : Bytes set_address_five
 unfolding computed

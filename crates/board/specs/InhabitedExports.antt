@@ -51,7 +51,7 @@ abbrev pub get_device : List ℕ
 get_device = bytes 8 0x8006000100004000
 
 abbrev pub device_descriptor : List ℕ
-device_descriptor = bytes 18 0x12010002_ff00000834127856000100000001
+device_descriptor = bytes 18 0x12010002FF00000834127856000100000001
 
 pub device_replies : AnswersSetup S lie fresh_image get_device 0 fresh_image (0 ∷ 0 ∷ []) 0 device_descriptor (record { block = 1; offset = 20 })
 unfolding computed
@@ -107,10 +107,10 @@ configures_not_eight = never_eight_record T lie bytes_t {start = start} refl ope
 
 -- interface 0's packet at 81 and interface 1's SET_INTERFACE 1, in either order
 abbrev pub one_order : List Call
-one_order = record_event 4 0x81 [] ∷ record_event 0 0 (bytes 8 0x010_b010001000000) ∷ []
+one_order = record_event 4 0x81 [] ∷ record_event 0 0 (bytes 8 0x010B010001000000) ∷ []
 
 abbrev pub other_order : List Call
-other_order = record_event 0 0 (bytes 8 0x010_b010001000000) ∷ record_event 4 0x81 [] ∷ []
+other_order = record_event 0 0 (bytes 8 0x010B010001000000) ∷ record_event 4 0x81 [] ∷ []
 
 same : (k : ℕ) → only (concerns_this T (image_of configured) k) one_order ≡ only (concerns_this T (image_of configured) k) other_order
 unfolding computed
@@ -138,12 +138,12 @@ other_ends r = (order_record T lie bytes_t accepted_t configured_sized configure
 
 -- ---- a refusal where the record stands: GET_DESCRIPTOR of type 6 on S with address 5 waiting drops it, whatever else it gives
 pub drops_where_it_stands : {left : Device} {handed_back : List ℕ} {count : ℕ} {shown : List ℕ} {spot : Spot}
-    → AnswersRecordEvent S lie waiting (numbered 0 0 (bytes 8 0x8006000600000_a00)) 13 left handed_back count shown spot → left ≡ fresh
+    → AnswersRecordEvent S lie waiting (numbered 0 0 (bytes 8 0x8006000600000A00)) 13 left handed_back count shown spot → left ≡ fresh
 unfolding computed
 drops_where_it_stands a = (refusal a).keeps (λ z. omega arith)
 
 -- ---- hk_endpoint: S configured has one endpoint, and its descriptor is the set's last 7 bytes; the second one is refused, and so is the first in Default
-pub endpoint_of_s : GivesEndpoint S lie (image_of configured) 0 0 (bytes 7 0x0705810308000_a) (record { block = 1; offset = 56 })
+pub endpoint_of_s : GivesEndpoint S lie (image_of configured) 0 0 (bytes 7 0x0705810308000A) (record { block = 1; offset = 56 })
 unfolding computed current_from endpoint_descriptors endpoint endpoint_on
 endpoint_of_s = record { number = refl; shows = refl; lies = refl }
 
@@ -155,7 +155,7 @@ pub none_in_default : GivesEndpoint S lie fresh_image 0 16 [] set_spot
 unfolding computed current_from endpoint_descriptors endpoint endpoint_on
 none_in_default = record { number = refl; shows = refl; lies = refl }
 
-pub is_descriptor : EndpointIn S 0 lie (bytes 7 0x0705810308000_a) (record { block = 1; offset = 56 })
+pub is_descriptor : EndpointIn S 0 lie (bytes 7 0x0705810308000A) (record { block = 1; offset = 56 })
 unfolding computed
 is_descriptor = endpoint_given endpoint_of_s refl
 

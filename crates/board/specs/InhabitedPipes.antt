@@ -30,7 +30,7 @@ reads_device = pipe_event 0 0 (bytes 8 0x8006000100004000) [] no_reply ∷ packe
 -- the parts of the set: 8, 8 and 2 bytes from byte 20 on; then *await*; then the end
 abbrev pub device_read : List PipeGiven
 device_read =
-    ordered 0 (1 ∷ 0 ∷ 0 ∷ 0 ∷ 0 ∷ 0 ∷ []) (bytes 8 0x12010002_ff000008) (record { block = 1; offset = 20 }) ∷
+    ordered 0 (1 ∷ 0 ∷ 0 ∷ 0 ∷ 0 ∷ 0 ∷ []) (bytes 8 0x12010002FF000008) (record { block = 1; offset = 20 }) ∷
     ordered 0 (1 ∷ 0 ∷ 0 ∷ 0 ∷ 0 ∷ 0 ∷ []) (bytes 8 0x3412785600010000) (record { block = 1; offset = 28 }) ∷
     ordered 0 (1 ∷ 0 ∷ 0 ∷ 0 ∷ 0 ∷ 0 ∷ []) (bytes 2 0x0001) (record { block = 1; offset = 36 }) ∷
     ordered 0 (2 ∷ 0 ∷ 0 ∷ 0 ∷ 0 ∷ 0 ∷ []) [] set_spot ∷

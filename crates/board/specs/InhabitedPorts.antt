@@ -36,10 +36,10 @@ abbrev pub row : List Device
 row = fresh ∷ configured ∷ fresh ∷ []
 
 abbrev pub one_order : List PortCall
-one_order = at 1 4 0x81 ∷ at 0 2 0 ∷ ask 1 0x010_b010001000000 ∷ at 9 6 0 ∷ at 1 3 0x85 ∷ []
+one_order = at 1 4 0x81 ∷ at 0 2 0 ∷ ask 1 0x010B010001000000 ∷ at 9 6 0 ∷ at 1 3 0x85 ∷ []
 
 abbrev pub other_order : List PortCall
-other_order = ask 1 0x010_b010001000000 ∷ at 1 3 0x85 ∷ at 2 6 0 ∷ at 1 4 0x81 ∷ []
+other_order = ask 1 0x010B010001000000 ∷ at 1 3 0x85 ∷ at 2 6 0 ∷ at 1 4 0x81 ∷ []
 
 same : (k : ℕ) → only (concerns_this T (image_of configured) k) (calls_at 1 one_order) ≡ only (concerns_this T (image_of configured) k) (calls_at 1 other_order)
 unfolding computed
@@ -68,10 +68,10 @@ unfolding computed
 opens = record { number = refl; leaves = refl }
 
 abbrev pub whole_run : List PortCall
-whole_run = ask 1 0x0005050000000000 ∷ at 1 1 0 ∷ at 0 3 0x85 ∷ ask 1 0x0009010000000000 ∷ at 1 4 0x81 ∷ ask 1 0x010_b010001000000 ∷ at 1 3 0x85 ∷ []
+whole_run = ask 1 0x0005050000000000 ∷ at 1 1 0 ∷ at 0 3 0x85 ∷ ask 1 0x0009010000000000 ∷ at 1 4 0x81 ∷ ask 1 0x010B010001000000 ∷ at 1 3 0x85 ∷ []
 
 abbrev pub left_run : List PortCall
-left_run = ask 1 0x0005050000000000 ∷ at 1 1 0 ∷ ask 1 0x0009010000000000 ∷ ask 1 0x010_b010001000000 ∷ at 0 4 0x81 ∷ at 1 3 0x85 ∷ []
+left_run = ask 1 0x0005050000000000 ∷ at 1 1 0 ∷ ask 1 0x0009010000000000 ∷ ask 1 0x010B010001000000 ∷ at 0 4 0x81 ∷ at 1 3 0x85 ∷ []
 
 pub struck_out : calls_at 1 left_run ≡ kept T lie 1 (image_of fresh) (calls_at 1 whole_run)
 unfolding computed

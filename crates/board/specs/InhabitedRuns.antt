@@ -57,10 +57,10 @@ configures_not_eight = never_eight_after T lie bytes_t refl opens configures
 
 -- ---- interface 0's packet at 81 and interface 1's SET_INTERFACE 1, then its halt at 85
 abbrev pub one_order : List Call
-one_order = tell (packet_passed 0x81) ∷ setup (bytes 8 0x010_b010001000000) ∷ tell (halt 0x85) ∷ []
+one_order = tell (packet_passed 0x81) ∷ setup (bytes 8 0x010B010001000000) ∷ tell (halt 0x85) ∷ []
 
 abbrev pub other_order : List Call
-other_order = setup (bytes 8 0x010_b010001000000) ∷ tell (halt 0x85) ∷ tell (packet_passed 0x81) ∷ []
+other_order = setup (bytes 8 0x010B010001000000) ∷ tell (halt 0x85) ∷ tell (packet_passed 0x81) ∷ []
 
 -- interface 1 in setting 1, 85 halted, 81's toggle up
 abbrev pub last_image : List ℕ
@@ -105,7 +105,7 @@ abbrev pub whole_run : List Call
 whole_run = configuring ++ one_order
 
 abbrev pub left_run : List Call
-left_run = configuring ++ setup (bytes 8 0x010_b010001000000) ∷ tell (halt 0x85) ∷ []
+left_run = configuring ++ setup (bytes 8 0x010B010001000000) ∷ tell (halt 0x85) ∷ []
 
 pub struck_out : kept T lie 1 fresh_image whole_run ≡ left_run
 unfolding computed

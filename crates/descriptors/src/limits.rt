@@ -11,7 +11,7 @@ pub struct Range {
 }
 
 // What a speed allows of endpoints. `polling` and `period` are the bInterval of interrupt and isochronous endpoints; `bursts` is the largest number in
-// w_max_packet_size's bits 15-11.
+// wMaxPacketSize's bits 15-11.
 #[derive(Clone, Copy)]
 pub struct Ranges {
     pub bulk: Range,
@@ -110,7 +110,7 @@ pub fn full_speed() -> Limits
     Limits {
         control: Range { least: 8, most: 64 },
         speed: Speed::Full,
-        entries: 0x0_e,
+        entries: 0x0E,
         companions: false,
     }
 }
@@ -122,7 +122,7 @@ pub fn super_speed() -> Limits
     Limits {
         control: Range { least: 9, most: 9 },
         speed: Speed::Super,
-        entries: 0x800_e,
+        entries: 0x800E,
         companions: true,
     }
 }
@@ -134,7 +134,7 @@ pub fn paired_full() -> Limits
     Limits {
         control: Range { least: 8, most: 64 },
         speed: Speed::Full,
-        entries: 0x_ce,
+        entries: 0xCE,
         companions: false,
     }
 }
@@ -149,7 +149,7 @@ pub fn high_speed() -> Limits
             most: 64,
         },
         speed: Speed::High,
-        entries: 0x_ce,
+        entries: 0xCE,
         companions: false,
     }
 }
@@ -185,7 +185,7 @@ pub fn is_named(types: u16, t: u8) -> bool
 pub fn is_refused(t: u8) -> bool
     ensures { result ≡ named refused_types t }
 {
-    is_named(0x_ce, t)
+    is_named(0xCE, t)
 }
 
 pub fn good_address(address: u8) -> bool

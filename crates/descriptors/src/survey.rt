@@ -14,7 +14,7 @@ use crate::walk::Stand;
 use crate::{Endpoint, types, walk};
 
 // The bits of a word that stand for no interface with an alternate setting.
-const PAST_SIXTEEN: u32 = 0x_ffff0000;
+const PAST_SIXTEEN: u32 = 0xFFFF0000;
 
 // What an event asks of the selected configuration: an endpoint, by its address, and a setting of an interface.
 #[derive(Clone, Copy)]

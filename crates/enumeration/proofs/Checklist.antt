@@ -389,17 +389,17 @@ module _ (b : Board) (octets : BytesOf b) (ok : accepted b ≡ true) (d : Device
 
   -- ---- interfaces
   module _ (c : d.state ≡ in_configured) where
-    sets-setting : (j a : ℕ) → j ≤ 65535 → a ≤ 65535 → step b d (set_interface j a) ≡ requests.set_interface v (settled d) (raw 0x01 0x0_b a j 0)
+    sets-setting : (j a : ℕ) → j ≤ 65535 → a ≤ 65535 → step b d (set_interface j a) ≡ requests.set_interface v (settled d) (raw 0x01 0x0B a j 0)
     unfolding refusal request words.first
-    sets-setting j a s t = lets b ok r (raw 0x01 0x0_b a j 0) (other-code (is_some b.high) (raw 0x01 0x0_b a j 0) refl) (rw (c, le-leb a 65535 t) (index (eqb (a / 256) 3)))
+    sets-setting j a s t = lets b ok r (raw 0x01 0x0B a j 0) (other-code (is_some b.high) (raw 0x01 0x0B a j 0) refl) (rw (c, le-leb a 65535 t) (index (eqb (a / 256) 3)))
       where
         index : (t : Bool) → ◌≡◌ {A = ℕ} (pick (leb j (pick t 65535 65535) && true && true) 0 12) 0
         index true = rw (le-leb j 65535 s) refl
         index false = rw (le-leb j 65535 s) refl
 
-    tells-setting : (j : ℕ) → j ≤ 65535 → step b d (get_interface j) ≡ requests.get_interface v (settled d) (raw 0x81 0x0_a 0 j 1)
+    tells-setting : (j : ℕ) → j ≤ 65535 → step b d (get_interface j) ≡ requests.get_interface v (settled d) (raw 0x81 0x0A 0 j 1)
     unfolding refusal request words.first
-    tells-setting j s = lets b ok r (raw 0x81 0x0_a 0 j 1) (other-code (is_some b.high) (raw 0x81 0x0_a 0 j 1) refl) (rw (c, le-leb j 65535 s) refl)
+    tells-setting j s = lets b ok r (raw 0x81 0x0A 0 j 1) (other-code (is_some b.high) (raw 0x81 0x0A 0 j 1) refl) (rw (c, le-leb j 65535 s) refl)
 
   interfaces : Interfaces b d
   unfolding refusal words.first requests.set_interface requests.get_interface
@@ -408,8 +408,8 @@ module _ (b : Board) (octets : BytesOf b) (ok : accepted b ≡ true) (d : Device
     no_setting = λ c j a s t n. stall (sets-setting c j a s t ∙ rw n refl);
     no_interface = λ c j s n. stall (tells-setting c j s ∙ rw n refl);
     not_in_address = λ c j a. (
-      just (stops b ok r (raw 0x01 0x0_b a j 0) (other-code (is_some b.high) (raw 0x01 0x0_b a j 0) refl) 11 (rw c refl) refl) refl,
-      just (stops b ok r (raw 0x81 0x0_a 0 j 1) (other-code (is_some b.high) (raw 0x81 0x0_a 0 j 1) refl) 11 (rw c refl) refl) refl,
+      just (stops b ok r (raw 0x01 0x0B a j 0) (other-code (is_some b.high) (raw 0x01 0x0B a j 0) refl) 11 (rw c refl) refl) refl,
+      just (stops b ok r (raw 0x81 0x0A 0 j 1) (other-code (is_some b.high) (raw 0x81 0x0A 0 j 1) refl) 11 (rw c refl) refl) refl,
     );
   }
 

@@ -37,13 +37,13 @@ use Rattle.enumeration.proofs.Reading.{Reads}
 -- ---- the bench set S: the script, in the bytes of document 01
 pub script_s : enumeration S 0 5 0 ≡
     line (BusReset 0) done ∷
-    line (setup 0x8006000100000800) (reading (bytes 8 0x12010002_ff000008)) ∷
-    line (setup 0x8006000100004000) (reading (bytes 18 0x12010002_ff00000834127856000100000001)) ∷
-    line (setup 0x8006000100001200) (reading (bytes 18 0x12010002_ff00000834127856000100000001)) ∷
+    line (setup 0x8006000100000800) (reading (bytes 8 0x12010002FF000008)) ∷
+    line (setup 0x8006000100004000) (reading (bytes 18 0x12010002FF00000834127856000100000001)) ∷
+    line (setup 0x8006000100001200) (reading (bytes 18 0x12010002FF00000834127856000100000001)) ∷
     line (setup 0x0005050000000000) done ∷
     line StatusEnd done ∷
     line (setup 0x8006000200000900) (reading (bytes 9 0x090219000101008032)) ∷
-    line (setup 0x8006000200001900) (reading (bytes 25 0x090219000101008032_0904000001_ff000000_0705810308000_a)) ∷
+    line (setup 0x8006000200001900) (reading (bytes 25 0x090219000101008032_0904000001FF000000_0705810308000A)) ∷
     line (setup 0x0009010000000000) done ∷ []
 unfolding computed
 script_s = refl
@@ -227,9 +227,9 @@ tours_high = tours pair bytes_pair accepted_pair (with_speed 1 configured) on_pa
 
 -- at high speed, what it reads of the other speed: the qualifier, and the configuration with its type 7
 pub other_pair : other_lines (set_for pair 0) ≡
-    line (setup 0x8006000600000_a00) (reading (bytes 10 0x0_a060002000000400100)) ∷
+    line (setup 0x8006000600000A00) (reading (bytes 10 0x0A060002000000400100)) ∷
     line (setup 0x8006000700000900) (reading (bytes 9 0x090719000101018032)) ∷
-    line (setup 0x8006000700001900) (reading (bytes 25 0x090719000101018032_0904000001_ff000000_07058102400000)) ∷ []
+    line (setup 0x8006000700001900) (reading (bytes 25 0x090719000101018032_0904000001FF000000_07058102400000)) ∷ []
 unfolding computed
 other_pair = refl
 
@@ -250,7 +250,7 @@ up_s = refl
 
 -- T from a reset, whatever the host had in its book: 81 and 02 pass, interface 0 is set anew, 81 passes again: 81 is up and 02 down
 abbrev passes_t : List Event
-passes_t = passes_s ++ PacketPassed 0x02 ∷ setup 0x010_b010000000000 ∷ PacketPassed 0x81 ∷ []
+passes_t = passes_s ++ PacketPassed 0x02 ∷ setup 0x010B010000000000 ∷ PacketPassed 0x81 ∷ []
 
 calm_t : in_test_mode (after T busy (BusReset 0 ∷ passes_t)) ≡ false
 unfolding computed

@@ -54,7 +54,7 @@ module _ (b : Board) (octets : BytesOf b) (ok : accepted b ≡ true) {d : Device
         let y = le-leb s.alternate 65535 (omega arith) in
         let n = ne_eqb (s.alternate / 256) 3 (λ z. omega arith) in
         let h : has_setting (selected v d) s.interface s.alternate ≡ true = member-any (λ (t : Setting). eqb t.interface s.interface && eqb t.alternate s.alternate) m (joined (eq-eqb s.interface s.interface refl) (eq-eqb s.alternate s.alternate refl)) in
-        lets b ok r (raw 0x01 0x0_b s.alternate s.interface 0) (other-code (is_some b.high) (raw 0x01 0x0_b s.alternate s.interface 0) refl) (rw (configured, n, x, y) refl)
+        lets b ok r (raw 0x01 0x0B s.alternate s.interface 0) (other-code (is_some b.high) (raw 0x01 0x0B s.alternate s.interface 0) refl) (rw (configured, n, x, y) refl)
         ∙ rw h refl
 
     pub selecting_ready : Ready b (after_selecting b d s)
@@ -67,7 +67,7 @@ module _ (b : Board) (octets : BytesOf b) (ok : accepted b ≡ true) {d : Device
         let z = r.sized.sixteen in
         let x = le-leb s.interface 65535 (omega arith) in
         let h : has_interface (selected v d) s.interface ≡ true = member-any (λ (t : Setting). eqb t.interface s.interface) m (eq-eqb s.interface s.interface refl) in
-        lets b ok selecting_ready (raw 0x81 0x0_a 0 s.interface 1) (other-code (is_some b.high) (raw 0x81 0x0_a 0 s.interface 1) refl) (rw (configured, x) refl)
+        lets b ok selecting_ready (raw 0x81 0x0A 0 s.interface 1) (other-code (is_some b.high) (raw 0x81 0x0A 0 s.interface 1) refl) (rw (configured, x) refl)
         ∙ rw (h, get_or-set_same d.alternates s.interface s.alternate 0 (omega arith)) refl
 
     chosen : Chosen b d s

@@ -64,7 +64,7 @@ no-setting j a t = false≢true t
 
 -- the table has no other codes
 abbrev coded : ℕ → Bool
-coded c = eqb c 0x00 || eqb c 0x01 || eqb c 0x03 || eqb c 0x05 || eqb c 0x06 || eqb c 0x08 || eqb c 0x09 || eqb c 0x0_a || eqb c 0x0_b
+coded c = eqb c 0x00 || eqb c 0x01 || eqb c 0x03 || eqb c 0x05 || eqb c 0x06 || eqb c 0x08 || eqb c 0x09 || eqb c 0x0A || eqb c 0x0B
 
 all_coded : every (λ r. coded r.bRequest) request_table ≡ true
 unfolding every
@@ -81,7 +81,7 @@ module _ (b : Board) (h : Book) (d : Device) (sized : Sized d) (good : SoundConf
   Kept o = Agrees b (pick (eqb (number_of o.answer) 0) (notes_setup b h s) h) o.device
 
   -- a request of which the host notes nothing
-  unnoted : (code : ℕ) → eqb s.bRequest code ≡ true → eqb code 0x09 ≡ false → eqb code 0x0_b ≡ false → eqb code 0x01 ≡ false → notes_setup b h s ≡ h
+  unnoted : (code : ℕ) → eqb s.bRequest code ≡ true → eqb code 0x09 ≡ false → eqb code 0x0B ≡ false → eqb code 0x01 ≡ false → notes_setup b h s ≡ h
   unnoted code e nine eleven one = rw (eqb-true s.bRequest code e, nine, eleven, one) refl
 
   module _ (same : notes_setup b h s ≡ h) where
@@ -167,7 +167,7 @@ module _ (b : Board) (h : Book) (d : Device) (sized : Sized d) (good : SoundConf
           })
 
   -- ---- SET_INTERFACE
-  module _ (c : eqb s.bRequest 0x0_b ≡ true) where
+  module _ (c : eqb s.bRequest 0x0B ≡ true) where
     abbrev j : ℕ
     j = s.wIndex
 
@@ -215,8 +215,8 @@ module _ (b : Board) (h : Book) (d : Device) (sized : Sized d) (good : SoundConf
     unfolding set_interface
     selects = chosen Kept (has_setting (selected v d) j chosen_setting) (λ t. noted t) (λ t. a)
       where
-        eleven : s.bRequest ≡ 0x0_b
-        eleven = eqb-true s.bRequest 0x0_b c
+        eleven : s.bRequest ≡ 0x0B
+        eleven = eqb-true s.bRequest 0x0B c
 
         -- the host's configuration is the selected one
         its : has_setting (selected v d) j chosen_setting ≡ true → by_value (record { 0 = h.configuration }) (view_for b h.speed).configurations ≡ selected v d
@@ -258,12 +258,12 @@ module _ (b : Board) (h : Book) (d : Device) (sized : Sized d) (good : SoundConf
       (λ e5. chosen Kept (eqb s.bRequest 0x06) (λ e. descriptor (unnoted 0x06 e refl refl refl))
       (λ e6. chosen Kept (eqb s.bRequest 0x08) (λ e. quiet (unnoted 0x08 e refl refl refl))
       (λ e8. chosen Kept (eqb s.bRequest 0x09) (λ e. configuration e)
-      (λ e9. chosen Kept (eqb s.bRequest 0x0_a)
-      (λ e. chosen Kept (has_interface (selected v d) s.wIndex) (λ t. quiet (unnoted 0x0_a e refl refl refl)) (λ t. a))
+      (λ e9. chosen Kept (eqb s.bRequest 0x0A)
+      (λ e. chosen Kept (has_interface (selected v d) s.wIndex) (λ t. quiet (unnoted 0x0A e refl refl refl)) (λ t. a))
       (λ e_a. selects (last e0 e1 e3 e5 e6 e8 e9 e_a)))))))))
     where
       last : eqb s.bRequest 0x00 ≡ false → eqb s.bRequest 0x01 ≡ false → eqb s.bRequest 0x03 ≡ false → eqb s.bRequest 0x05 ≡ false → eqb s.bRequest 0x06 ≡ false
-          → eqb s.bRequest 0x08 ≡ false → eqb s.bRequest 0x09 ≡ false → eqb s.bRequest 0x0_a ≡ false → eqb s.bRequest 0x0_b ≡ true
+          → eqb s.bRequest 0x08 ≡ false → eqb s.bRequest 0x09 ≡ false → eqb s.bRequest 0x0A ≡ false → eqb s.bRequest 0x0B ≡ true
       last e0 e1 e3 e5 e6 e8 e9 e_a = cases (asks_test_mode v.paired s)
           (λ t. absurd (false≢true (sym e3 ∙ eq-eqb s.bRequest 0x03 (test-code v.paired s t).1)))
           (λ t.

@@ -112,7 +112,7 @@ module _ (v : View) (d : Device) (s : Setup) (calm : in_test_mode d ≡ false) (
       (λ e. chosen Keeps (eqb s.bRequest 0x06) (λ e. descriptor)
       (λ e. chosen Keeps (eqb s.bRequest 0x08) (λ e. same)
       (λ e. chosen Keeps (eqb s.bRequest 0x09) (λ e. configuration)
-      (λ e. chosen Keeps (eqb s.bRequest 0x0_a) (λ e. chosen Keeps (has_interface (selected v d) s.wIndex) (λ e. same) (λ e. same))
+      (λ e. chosen Keeps (eqb s.bRequest 0x0A) (λ e. chosen Keeps (has_interface (selected v d) s.wIndex) (λ e. same) (λ e. same))
       (λ e. chosen Keeps (has_setting (selected v d) s.wIndex s.wValue) (λ e. like refl refl) (λ e. same)))))))))
 
 -- ---- every event

@@ -67,10 +67,10 @@ abbrev pub set_configuration : ℕ → Event
 set_configuration value = ask 0x00 0x09 value 0 0
 
 abbrev pub set_interface : ℕ → ℕ → Event
-set_interface interface alternate = ask 0x01 0x0_b alternate interface 0
+set_interface interface alternate = ask 0x01 0x0B alternate interface 0
 
 abbrev pub get_interface : ℕ → Event
-get_interface interface = ask 0x81 0x0_a 0 interface 1
+get_interface interface = ask 0x81 0x0A 0 interface 1
 
 -- SET_FEATURE and CLEAR_FEATURE of ENDPOINT_HALT, and GET_STATUS, of an endpoint's address
 abbrev pub set_halt : ℕ → Event

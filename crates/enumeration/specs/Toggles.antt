@@ -42,7 +42,7 @@ notes_setup b h s =
     -- SET_CONFIGURATION: all are DATA0
     pick (eqb s.bRequest 0x09) (record { speed = h.speed; configuration = s.wValue; toggles = λ k. false })
     -- SET_INTERFACE: those of the setting that is chosen
-    (pick (eqb s.bRequest 0x0_b)
+    (pick (eqb s.bRequest 0x0B)
     (let c = by_value (record { 0 = h.configuration }) (view_for b h.speed).configurations in
     with_toggles (λ k. pick (in_setting c s.wIndex s.wValue k) false (h.toggles k)) h)
     -- CLEAR_FEATURE of an endpoint: that one

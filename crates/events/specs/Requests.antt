@@ -79,7 +79,7 @@ set_halt d k = with_endpoints d.alternates (set_bit d.halts k) d.toggles d
 unfoldable pub clear_feature : View → Device → Setup → Outcome
 clear_feature v d s = by_recipient s (device_feature 0 v d s) (interface_feature v d s) (endpoint_feature clear_halt v d s)
 
--- SET_FEATURE(TEST_MODE), "On two-set boards" (L7): the feature selector is the whole wValue, the test selector w_index's high byte
+-- SET_FEATURE(TEST_MODE), "On two-set boards" (L7): the feature selector is the whole wValue, the test selector wIndex's high byte
 abbrev pub names_test_mode : Bool → Setup → Bool
 names_test_mode paired s = paired && eqb s.wValue 2
 

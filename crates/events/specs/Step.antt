@@ -32,7 +32,7 @@ request v d s =
     (pick (eqb s.bRequest 0x06) (get_descriptor v d s)
     (pick (eqb s.bRequest 0x08) (get_configuration v d s)
     (pick (eqb s.bRequest 0x09) (set_configuration v d s)
-    (pick (eqb s.bRequest 0x0_a) (get_interface v d s)
+    (pick (eqb s.bRequest 0x0A) (get_interface v d s)
     (set_interface v d s))))))))
 
 -- the table's refusal, or else the request
@@ -40,7 +40,7 @@ abbrev pub unless_refused : ℕ → View → Device → Setup → Outcome
 unless_refused n v d s = pick (eqb n 0) (request v d s) (refused n d)
 
 -- SET_FEATURE(TEST_MODE), which "at high speed passes the state check in all three states" and at full speed where other features do, in Address and
--- Configured; it "needs w_index's low byte 0 (else 12)" (L7), and wLength 0 as they do
+-- Configured; it "needs wIndex's low byte 0 (else 12)" (L7), and wLength 0 as they do
 abbrev pub asks_test_mode : Bool → Setup → Bool
 asks_test_mode paired s = names_test_mode paired s && eqb s.bmRequestType 0x00 && eqb s.bRequest 0x03
 

@@ -44,7 +44,7 @@ fn asks_test_mode(paired: bool, setup: Setup) -> bool
         & (setup.bRequest == requests::SET_FEATURE)
 }
 
-// The test mode passes at high speed in every state, else where other features do; its selector is w_index's high byte, and the low one is 0.
+// The test mode passes at high speed in every state, else where other features do; its selector is wIndex's high byte, and the low one is 0.
 fn test_mode_refusal(device: Device, setup: Setup) -> u8
     ensures { result ≡ test_mode_refusal device setup }
 {

@@ -61,7 +61,7 @@ fn device_feature(on: bool, facts: Facts, setup: Setup) -> Reaction
     refused(NO_SUCH_FEATURE)
 }
 
-// The test mode that w_index's high byte selects: it waits for the status end, at high speed alone.
+// The test mode that wIndex's high byte selects: it waits for the status end, at high speed alone.
 fn set_test_mode(device: Device, setup: Setup) -> Reaction
     ensures { outcome_of result device ≡ set_test_mode device setup }
 {

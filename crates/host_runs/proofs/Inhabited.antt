@@ -140,7 +140,7 @@ unfolding assembled
 wrote_s = record { fills = record { number = refl; bytes = refl }; counts = refl; octets = bytes_given }
 
 abbrev device : Piece
-device = record { kind = 1; index = 0; language = 0; body = bytes 18 0x12010002_ff00000834127856000100000001 }
+device = record { kind = 1; index = 0; language = 0; body = bytes 18 0x12010002FF00000834127856000100000001 }
 
 given : List-as-Memᴰ device (stream.pieces pieces)
 unfolding assembled
@@ -159,7 +159,7 @@ asks = call_of (get_descriptor 1 0 0 64)
 since_s : CalledSince written lie fresh_image
 since_s = record { start = start; image = fresh_image; before = []; gave = []; long = refl; opens = opens_s; run = ends }
 
-pub reads_device : seen_given (gives written lie fresh_image asks) ≡ reading (bytes 18 0x12010002_ff00000834127856000100000001)
+pub reads_device : seen_given (gives written lie fresh_image asks) ≡ reading (bytes 18 0x12010002FF00000834127856000100000001)
 reads_device = reads_given pieces [] (replicate 63 0) S.set 63 wrote_s lie fresh_image since_s device given 64 (omega arith) asks _ _ refl (meets written lie fresh_image asks)
 
 bytes_set : Bytes (take 63 S.set)
@@ -191,7 +191,7 @@ opens_port_s = record { number = refl; leaves = refl }
 
 pub reads_at_port : (n : ℕ) (next : List Device) (handed_back : List ℕ) (count : ℕ) (shown : List ℕ) (spot : Spot)
     → AnswersPortEvent written lie opened 1 (numbered 0 0 (bytes 8 0x8006000100004000)) n next handed_back count shown spot
-    → seen_given (handed n handed_back count shown spot) ≡ reading (bytes 18 0x12010002_ff00000834127856000100000001)
+    → seen_given (handed n handed_back count shown spot) ≡ reading (bytes 18 0x12010002FF00000834127856000100000001)
 reads_at_port = reads_given_at_ports pieces (replicate 63 0) S.set 63 (λ (k : ℕ). []) spots 1 wrote_s opened
     (record { start = start; row = opened; before = []; gave = []; long = refl; opens = opens_port_s; sized = fresh_sized; within = omega arith; run = ended })
     device given 64 (omega arith) 0 0 (bytes 8 0x8006000100004000) refl
@@ -251,7 +251,7 @@ unfolding assembled stream_of
 written_pair = refl
 
 abbrev qualifier : Piece
-qualifier = record { kind = 6; index = 0; language = 0; body = bytes 10 0x0_a060002000000400100 }
+qualifier = record { kind = 6; index = 0; language = 0; body = bytes 10 0x0A060002000000400100 }
 
 qualifier_given : List-as-Memᴰ qualifier (stream.pieces fast)
 unfolding assembled stream_of
@@ -264,13 +264,13 @@ in_use = refl
 of_the_set_in_use : List-as-Memᴰ qualifier (stream.pieces (pick (eqb (device_of high_image).speed 0) slow fast))
 of_the_set_in_use = rw in_use qualifier_given
 
-pub reads_qualifier : ReadFrom (lent_two (set_of slow) (set_of fast) []) lie_two high_image 6 0 0 64 (bytes 10 0x0_a060002000000400100)
+pub reads_qualifier : ReadFrom (lent_two (set_of slow) (set_of fast) []) lie_two high_image 6 0 0 64 (bytes 10 0x0A060002000000400100)
 reads_qualifier = reads_given_two slow fast [] (subst BytesOf written_pair bytes_pair) lie_two high_image (subst (λ (b : Board). CalledSince b lie_two high_image) written_pair since_pair) calm_high
     qualifier of_the_set_in_use 64 (omega arith)
 
 -- ---- replacement: interface 0's driver lets a packet pass at 81, or halts 02 twice instead: interface 1's SET_INTERFACE and halt are given the same
 abbrev instead : List Call
-instead = configuring ++ tell (halt 0x02) ∷ setup (bytes 8 0x010_b010001000000) ∷ tell (halt 0x02) ∷ tell (halt 0x85) ∷ []
+instead = configuring ++ tell (halt 0x02) ∷ setup (bytes 8 0x010B010001000000) ∷ tell (halt 0x02) ∷ tell (halt 0x85) ∷ []
 
 same_left : kept T lie 1 fresh_image whole_run ≡ kept T lie 1 fresh_image instead
 unfolding computed

@@ -25,10 +25,10 @@ use Rattle.board.specs.InhabitedExports.{configuring, fresh_sized, opens_record}
 
 -- ---- hk_record_event on a record that is lent: T opened and configured; without interface 0's packet at 81 interface 1's SET_INTERFACE 1 and halt at 85 are given the same
 abbrev whole_run : List Call
-whole_run = configuring ++ record_event 4 0x81 [] ∷ record_event 0 0 (bytes 8 0x010_b010001000000) ∷ record_event 3 0x85 [] ∷ []
+whole_run = configuring ++ record_event 4 0x81 [] ∷ record_event 0 0 (bytes 8 0x010B010001000000) ∷ record_event 3 0x85 [] ∷ []
 
 abbrev left_run : List Call
-left_run = configuring ++ record_event 0 0 (bytes 8 0x010_b010001000000) ∷ record_event 3 0x85 [] ∷ []
+left_run = configuring ++ record_event 0 0 (bytes 8 0x010B010001000000) ∷ record_event 3 0x85 [] ∷ []
 
 struck_out : kept T lie 1 (image_of fresh) whole_run ≡ left_run
 unfolding computed

@@ -70,10 +70,10 @@ abbrev at_high : List Call
 at_high = record_event 2 1 [] ∷ asks 0x0005050000000000 ∷ record_event 1 0 [] ∷ asks 0x0009010000000000 ∷ []
 
 abbrev setting : List Call
-setting = at_high ++ asks 0x010_b000000000000 ∷ asks 0x010_b010001000000 ∷ asks 0x810_a000001000100 ∷ []
+setting = at_high ++ asks 0x010B000000000000 ∷ asks 0x010B010001000000 ∷ asks 0x810A000001000100 ∷ []
 
 abbrev asking : List Call
-asking = at_high ++ asks 0x810_a000000000100 ∷ asks 0x010_b010001000000 ∷ asks 0x010_b050000000000 ∷ asks 0x810_a000001000100 ∷ []
+asking = at_high ++ asks 0x810A000000000100 ∷ asks 0x010B010001000000 ∷ asks 0x010B050000000000 ∷ asks 0x810A000001000100 ∷ []
 
 same_left_twins : kept twins lie_two 1 fresh_image setting ≡ kept twins lie_two 1 fresh_image asking
 unfolding computed
@@ -109,7 +109,7 @@ abbrev ask : ℕ → ℕ → PortCall
 ask port bits = record { port = port; kind = 0; value = 0; setup = bytes 8 bits }
 
 abbrev pub other_run : List PortCall
-other_run = ask 1 0x0005050000000000 ∷ at 1 1 0 ∷ ask 1 0x0009010000000000 ∷ at 0 2 0 ∷ at 1 3 0x02 ∷ ask 1 0x010_b010001000000 ∷ at 1 3 0x85 ∷ []
+other_run = ask 1 0x0005050000000000 ∷ at 1 1 0 ∷ ask 1 0x0009010000000000 ∷ at 0 2 0 ∷ at 1 3 0x02 ∷ ask 1 0x010B010001000000 ∷ at 1 3 0x85 ∷ []
 
 same_left_at_port : kept T lie 1 (image_of fresh) (calls_at 1 ports.whole_run) ≡ kept T lie 1 (image_of fresh) (calls_at 1 other_run)
 unfolding computed

@@ -310,7 +310,7 @@ module _ (views : ℕ → View) (T : Type 0) (k : ℕ) (d s : Device) (h : Near 
         test (eqb q.bRequest 0x08) (λ p. alike-get-configuration) (λ n8.
         test (eqb q.bRequest 0x09) (λ p. alike-set-configuration) (λ n9.
         let r : recipient q ≡ 1 = F.other (rw (n5, n6, n8, n9)) (rw (n0, n1, n3)) in
-        test (eqb q.bRequest 0x0_a) (λ p. alike-get-interface r) (λ n. alike-set-interface r))))))))
+        test (eqb q.bRequest 0x0A) (λ p. alike-get-interface r) (λ n. alike-set-interface r))))))))
 
   -- ---- the events of the whole device. What an entered test mode leads to is the view that was in use; an address is taken elsewhere than in Configured
   unconfiguring : (t : Bool) → eqb (pick t in_default in_address) in_configured ≡ false

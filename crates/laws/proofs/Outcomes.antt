@@ -207,7 +207,7 @@ module _ (v : View) (d : Device) (s : Setup) where
       (λ e. chosen (Answered v d) (eqb s.bRequest 0x06) (λ e. descriptors)
       (λ e. chosen (Answered v d) (eqb s.bRequest 0x08) (λ e. reads _ refl refl)
       (λ e. chosen (Answered v d) (eqb s.bRequest 0x09) (λ e. let c = eqb-true s.bRequest 9 e in configurations (configuration_allowed d.state s (table-judges v.paired d s c refl p) c) w)
-      (λ e. chosen (Answered v d) (eqb s.bRequest 0x0_a) (λ e. chosen (Answered v d) (has_interface (selected v d) s.wIndex) (λ e. reads _ refl refl) (λ e. missing))
+      (λ e. chosen (Answered v d) (eqb s.bRequest 0x0A) (λ e. chosen (Answered v d) (has_interface (selected v d) s.wIndex) (λ e. reads _ refl refl) (λ e. missing))
       (λ e. chosen (Answered v d) (has_setting (selected v d) s.wIndex s.wValue) (λ e. changes (sets s.wIndex s.wValue e)) (λ e. missing)))))))))
 
 -- ---- the events

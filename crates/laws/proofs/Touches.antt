@@ -154,7 +154,7 @@ module _ (v : View) (j : ℕ) (d : Device) (S : SoundConfiguration (selected v d
       chosen P (eqb q.bRequest 0x06) (λ p. absurd (not-device n 0x06 refl p)) (λ n6.
       chosen P (eqb q.bRequest 0x08) (λ p. absurd (not-device n 0x08 refl p)) (λ n8.
       chosen P (eqb q.bRequest 0x09) (λ p. absurd (not-device n 0x09 refl p)) (λ n9.
-      chosen P (eqb q.bRequest 0x0_a) (λ p. touch-none v j d _ (interface-leaves v d q)) (λ m.
+      chosen P (eqb q.bRequest 0x0A) (λ p. touch-none v j d _ (interface-leaves v d q)) (λ m.
       interface (F.other (rw (n5, n6, n8, n9)) (rw (n0, n1, n3)))))))))))
 
   touch-request : ((recipient q ≡ 1) × (q.wIndex ≡ j)) ⊎ ((recipient q ≡ 2) × AllIn (selected v d) q.wIndex j)

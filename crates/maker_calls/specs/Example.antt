@@ -43,7 +43,7 @@ trims_t = record { trims = record { number = refl; bytes = refl }; counts = refl
 
 -- string 2, the dropped string 5, string 9, which there never was, and a status end
 abbrev pub ask_nine : List ℕ
-ask_nine = bytes 8 0x800609030904_ff00
+ask_nine = bytes 8 0x800609030904FF00
 
 abbrev pub asking : List Call
 asking = setup ask_two ∷ setup ask_five ∷ setup ask_nine ∷ tell status_end ∷ []
@@ -85,7 +85,7 @@ exports_t = record { fills = record { number = refl; bytes = refl }; counts = re
 abbrev plain_t : List ℕ
 plain_t = laid (
     piece 1 0 0 (device 0 0 64 0 0 0 1) ∷
-    piece 2 0 0 (configuration 1 2 0 0x_e0 50 (
+    piece 2 0 0 (configuration 1 2 0 0xE0 50 (
     interface 0 0 2 0 ∷ endpoint 0x81 2 64 0 ∷ endpoint 0x02 2 64 0 ∷
     interface 0 1 3 0 ∷ endpoint 0x81 2 64 0 ∷ endpoint 0x02 2 64 0 ∷ endpoint 0x83 3 8 10 ∷
     interface 1 0 0 0 ∷ (5 ∷ 0x24 ∷ 1 ∷ 0 ∷ 1 ∷ []) ∷

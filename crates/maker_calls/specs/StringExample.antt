@@ -22,7 +22,7 @@ unfolding assembled stream_of
 writes_t = record { fills = record { number = refl; bytes = refl }; counts = refl; octets = octets titrator_stream refl }
 
 abbrev pub ask_two : List ℕ
-ask_two = bytes 8 0x800602030904_ff00
+ask_two = bytes 8 0x800602030904FF00
 
 asks_two : AsksString ask_two 2 0x0409
 asks_two = record { whole = refl; request = refl; kind = refl; index_is = refl; language-is = refl }
@@ -34,7 +34,7 @@ answers_t lie = record { leaves = refl; answers = record { number = refl; hands 
 
 -- in a language that it does not list it is given too, the German 54 00 at 195, and no piece has that language: so the round trip has to ask
 abbrev pub ask_unlisted : List ℕ
-ask_unlisted = bytes 8 0x800602031004_ff00
+ask_unlisted = bytes 8 0x800602031004FF00
 
 pub unlisted_given : (lie : Spots) → AnswersSetup (lent T.set T.serial) lie (image_of configured) ask_unlisted 0 (image_of configured) (0 ∷ 0 ∷ []) 0 (string (84 ∷ 0 ∷ [])) (record { block = lie.set.block; offset = lie.set.offset + 195 })
 unfolding assembled stream_of

@@ -43,7 +43,7 @@ abbrev store : List ℕ
 store = 5 ∷ 15 ∷ 5 ∷ 0 ∷ 0 ∷ []
 
 abbrev made : List (List ℕ) → List Piece → List ℕ
-made ds more = told (explained super_speed (board (piece 1 0 0 (device 0x_ff 0 9 0 0 0 1) ∷ piece 2 0 0 (configuration 1 1 0 0x80 50 ds) ∷ more) []))
+made ds more = told (explained super_speed (board (piece 1 0 0 (device 0xFF 0 9 0 0 0 1) ∷ piece 2 0 0 (configuration 1 1 0 0x80 50 ds) ∷ more) []))
 
 abbrev with : List Piece → List ℕ
 with = made (interface 0 0 0 0 ∷ [])

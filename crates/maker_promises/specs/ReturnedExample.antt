@@ -11,10 +11,10 @@ parted = 0
 
 -- the bench set's device and configuration, with references 1 to 5
 abbrev pub dump : List ℕ
-dump = bytes 18 0x12010002_ff00000834127856000101020301 ++ bytes 25 0x090219000101048032_0904000001_ff000005_0705810308000_a
+dump = bytes 18 0x12010002FF00000834127856000101020301 ++ bytes 25 0x090219000101048032_0904000001FF000005_0705810308000A
 
 -- iManufacturer, iProduct, iSerialNumber, iConfiguration, iInterface
-pub plain : zeroed dump ≡ bytes 18 0x12010002_ff00000834127856000100000001 ++ bytes 25 0x090219000101008032_0904000001_ff000000_0705810308000_a
+pub plain : zeroed dump ≡ bytes 18 0x12010002FF00000834127856000100000001 ++ bytes 25 0x090219000101008032_0904000001FF000000_0705810308000A
 unfolding parted
 plain = refl
 
@@ -40,7 +40,7 @@ unfolding parted
 broken = refl
 
 -- bMaxPower 251
-pub refused : importing (take 26 dump ++ 251 ∷ bytes 16 0x0904000001_ff000005_0705810308000_a) 62 ≡ 21
+pub refused : importing (take 26 dump ++ 251 ∷ bytes 16 0x0904000001FF000005_0705810308000A) 62 ≡ 21
 unfolding parted
 refused = refl
 

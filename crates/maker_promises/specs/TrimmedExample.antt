@@ -33,7 +33,7 @@ opens_still = refl
 
 -- GET_DESCRIPTOR of string 2 in English is no request for a dropped string, so it is answered alike
 abbrev pub ask_two : List ℕ
-ask_two = bytes 8 0x800602030904_ff00
+ask_two = bytes 8 0x800602030904FF00
 
 pub not_dropped : asks_dropped T.set (setup_event ask_two) ≡ false
 unfolding trimming
@@ -45,7 +45,7 @@ answered_alike = (same_step T.set T.serial bytes_t.0 accepted_t configured (setu
 
 -- string 5 is dropped: it was given, and is refused after
 abbrev pub ask_five : List ℕ
-ask_five = bytes 8 0x800605030904_ff00
+ask_five = bytes 8 0x800605030904FF00
 
 pub dropped : asks_dropped T.set (setup_event ask_five) ≡ true
 unfolding trimming

@@ -11,7 +11,7 @@ assembled = 0
 
 -- configuration, then device: type, index, language, length, body
 abbrev pub pieces : List ℕ
-pieces = bytes 6 0x020000001900 ++ bytes 25 0x090219000101008032_0904000001_ff000000_0705810308000_a ++ bytes 6 0x010000001200 ++ bytes 18 0x12010002_ff00000834127856000100000001
+pieces = bytes 6 0x020000001900 ++ bytes 25 0x090219000101008032_0904000001FF000000_0705810308000A ++ bytes 6 0x010000001200 ++ bytes 18 0x12010002FF00000834127856000100000001
 
 pub written : set_of pieces ≡ S.set
 unfolding assembled
@@ -32,7 +32,7 @@ unfolding assembled
 refused = refl
 
 -- the device twice
-pub twice : writing full_speed (pieces ++ bytes 6 0x010000001200 ++ bytes 18 0x12010002_ff00000834127856000100000001) [] 100 ≡ 21
+pub twice : writing full_speed (pieces ++ bytes 6 0x010000001200 ++ bytes 18 0x12010002FF00000834127856000100000001) [] 100 ≡ 21
 unfolding assembled
 twice = refl
 

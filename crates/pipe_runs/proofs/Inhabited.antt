@@ -46,12 +46,12 @@ last = (wire Taken, awaits) ∷ (wire (Received 0), is_over) ∷ []
 
 pub script_s : enumeration_on_wire S 0 5 0 ≡
     (wire (Reset 0), is_over) ∷
-    (asks 0x8006000100000800, sends (bytes 8 0x12010002_ff000008)) ∷ last ++
-    (asks 0x8006000100004000, sends (bytes 8 0x12010002_ff000008)) ∷ takes (bytes 8 0x3412785600010000) ∷ takes (bytes 2 0x0001) ∷ last ++
-    (asks 0x8006000100001200, sends (bytes 8 0x12010002_ff000008)) ∷ takes (bytes 8 0x3412785600010000) ∷ takes (bytes 2 0x0001) ∷ last ++
+    (asks 0x8006000100000800, sends (bytes 8 0x12010002FF000008)) ∷ last ++
+    (asks 0x8006000100004000, sends (bytes 8 0x12010002FF000008)) ∷ takes (bytes 8 0x3412785600010000) ∷ takes (bytes 2 0x0001) ∷ last ++
+    (asks 0x8006000100001200, sends (bytes 8 0x12010002FF000008)) ∷ takes (bytes 8 0x3412785600010000) ∷ takes (bytes 2 0x0001) ∷ last ++
     (asks 0x0005050000000000, sends []) ∷ (wire Taken, is_over) ∷
     (asks 0x8006000200000900, sends (bytes 8 0x0902190001010080)) ∷ takes (bytes 1 0x32) ∷ last ++
-    (asks 0x8006000200001900, sends (bytes 8 0x0902190001010080)) ∷ takes (bytes 8 0x320904000001_ff00) ∷ takes (bytes 8 0x0000070581030800) ∷ takes (bytes 1 0x0_a) ∷ last ++
+    (asks 0x8006000200001900, sends (bytes 8 0x0902190001010080)) ∷ takes (bytes 8 0x320904000001FF00) ∷ takes (bytes 8 0x0000070581030800) ∷ takes (bytes 1 0x0A) ∷ last ++
     (asks 0x0009010000000000, sends []) ∷ (wire Taken, is_over) ∷ []
 unfolding computed
 script_s = refl
@@ -127,7 +127,7 @@ device_done = refl
 pub reads_s : (es : List Happening) → All (Within []) es → Begins S power_on (on_wire device ∷ es) (reply_to S power_on.image (bytes 8 0x8006000100004000)) 64 (packet_size S power_on.image)
 reads_s es q = reads_the_reply S power_on (bytes 8 0x8006000100004000) [] (image-length idle) refl device_bytes device_done (λ z. omega arith) es q
 
-pub sent_s : sent_in S power_on (runs (device ∷ wire Taken ∷ wire Taken ∷ wire Taken ∷ [])) ≡ bytes 8 0x12010002_ff000008 ∷ bytes 8 0x3412785600010000 ∷ bytes 2 0x0001 ∷ []
+pub sent_s : sent_in S power_on (runs (device ∷ wire Taken ∷ wire Taken ∷ wire Taken ∷ [])) ≡ bytes 8 0x12010002FF000008 ∷ bytes 8 0x3412785600010000 ∷ bytes 2 0x0001 ∷ []
 unfolding computed heard transfer_of image_of fits turned taken sent
 sent_s = refl
 
@@ -159,8 +159,8 @@ pub drop_s : All no_end (events_at S (after S power_on (runs (device ∷ wire Ta
 drop_s = never_for_a_dropped S (after S power_on (runs (device ∷ wire Taken ∷ []))) set_address goes_on_s
 
 -- 6: sixteen bytes of A5
-pub locked_s : heard S (record { image = power_on.image; pipe = replicate 16 0x_a5 }) device ≡ heard S power_on device
-locked_s = no_lock_out S power_on.image (replicate 16 0x_a5) (bytes 8 0x8006000100004000) [] refl refl
+pub locked_s : heard S (record { image = power_on.image; pipe = replicate 16 0xA5 }) device ≡ heard S power_on device
+locked_s = no_lock_out S power_on.image (replicate 16 0xA5) (bytes 8 0x8006000100004000) [] refl refl
 
 -- 7: a descriptor of type 9 is refused with 13
 refused_s : answered_with S power_on.image (bytes 8 0x8006000900004000) ≡ 13
@@ -173,10 +173,10 @@ stalls_s = refused_sends_nothing S power_on (bytes 8 0x8006000900004000) [] (ima
 
 -- ---- the application's reply: a vendor's request for 20 bytes, of which it has 12; then the host's empty packet ends the transfer, and no event got 8
 abbrev vendor : Told
-vendor = asks 0x_c001000000001400
+vendor = asks 0xC001000000001400
 
 abbrev reply : List ℕ
-reply = bytes 12 0x0102030405060708090_a0_b0_c
+reply = bytes 12 0x0102030405060708090A0B0C
 
 abbrev lends : Wire → Told
 lends w = record { wire = w; setup = []; reply = reply }
@@ -185,7 +185,7 @@ lends w = record { wire = w; setup = []; reply = reply }
 abbrev answered : List Happening
 answered = on_wire vendor ∷ on_wire (lends Reply) ∷ beside (power 1) ∷ on_wire (lends Taken) ∷ beside suspend ∷ on_wire (lends Taken) ∷ []
 
-pub sent_by_application : (sent_in S power_on answered ≡ bytes 8 0x0102030405060708 ∷ bytes 4 0x090_a0_b0_c ∷ []) × (awaits_in S power_on answered ≡ true)
+pub sent_by_application : (sent_in S power_on answered ≡ bytes 8 0x0102030405060708 ∷ bytes 4 0x090A0B0C ∷ []) × (awaits_in S power_on answered ≡ true)
 unfolding computed heard transfer_of image_of fits turned taken replied sent
 sent_by_application = (refl, refl)
 
@@ -205,9 +205,9 @@ pub application_s : (es : List Happening) → All (Within reply) es → Begins S
 unfolding computed heard transfer_of image_of fits
 application_s es q = reads_the_applications S (after S power_on (runs (vendor ∷ []))) reply asked_bytes refl refl es q
 
-vendor_bytes : Bytes (bytes 8 0x_c001000000001400)
+vendor_bytes : Bytes (bytes 8 0xC001000000001400)
 unfolding computed
-vendor_bytes = octets (bytes 8 0x_c001000000001400) refl
+vendor_bytes = octets (bytes 8 0xC001000000001400) refl
 
 pub never_eight_s : (heard S (after S power_on answered) (lends (Received 0))).number ≡ 8 → ⊥
 unfolding computed heard transfer_of image_of fits turned taken replied
@@ -217,7 +217,7 @@ never_eight_s = never_eight S bytes_s answered
 
 -- ---- demand 3 on T: SET_INTERFACE of interface 1 and SET_FEATURE(HALT) of endpoint 81, which is interface 0's, each with its status stage, in both orders
 abbrev setting_one : ℕ
-setting_one = 0x010_b010001000000
+setting_one = 0x010B010001000000
 
 abbrev halt_in : ℕ
 halt_in = 0x0203000081000000
@@ -260,14 +260,14 @@ order_t = (order_does_not_count T bytes_t accepted_t at_t fit_t (ap (λ (d : Dev
 
 -- ---- a vendor's request that writes 10 bytes: the application has room for them, 8 and 2 come, it accepts, and the host takes the empty packet
 abbrev writes : List Told
-writes = asks 0x4001000000000_a00 ∷ wire (Room 16) ∷ wire (Received 8) ∷ wire (Received 2) ∷ wire Accept ∷ wire Taken ∷ []
+writes = asks 0x4001000000000A00 ∷ wire (Room 16) ∷ wire (Received 8) ∷ wire (Received 2) ∷ wire Accept ∷ wire Taken ∷ []
 
 pub orders_s : map (λ (h : Heard). h.order) (heard_in S power_on (runs writes)) ≡ ask ∷ receive ∷ receive ∷ ask ∷ send ∷ nothing ∷ []
 unfolding computed heard transfer_of image_of fits turned taken received roomed accepted
 orders_s = refl
 
 -- ---- T: the serial number, string 3, from the serial block; and its reset in the middle of it
-pub sent_t : sent_in T power_on (runs (asks 0x800603030904_ff00 ∷ wire Taken ∷ wire (Received 0) ∷ [])) ≡ bytes 4 0x04033700 ∷ []
+pub sent_t : sent_in T power_on (runs (asks 0x800603030904FF00 ∷ wire Taken ∷ wire (Received 0) ∷ [])) ≡ bytes 4 0x04033700 ∷ []
 unfolding computed heard transfer_of image_of fits turned taken received sent
 sent_t = refl
 
@@ -278,7 +278,7 @@ pub own_t : (es : List Happening) (h : Happening) → Readdresses T (after T pow
 own_t es h = own_address T power_on is_idle es h
 
 -- ---- the pair, reset to high speed: its qualifier is one packet of 10 bytes, of the set in use
-pub sent_pair : sent_in pair power_on (runs (wire (Reset 1) ∷ asks 0x8006000600004000 ∷ wire Taken ∷ [])) ≡ bytes 10 0x0_a060002000000400100 ∷ []
+pub sent_pair : sent_in pair power_on (runs (wire (Reset 1) ∷ asks 0x8006000600004000 ∷ wire Taken ∷ [])) ≡ bytes 10 0x0A060002000000400100 ∷ []
 unfolding computed heard transfer_of image_of fits turned taken sent
 sent_pair = refl
 

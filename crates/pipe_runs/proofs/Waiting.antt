@@ -109,7 +109,7 @@ module _ (v : View) (d : Device) (s : Setup) (free : 128 ≤ d.waiting) where
       (λ e. chosen (Keeps d s) (eqb s.bRequest 0x06) (λ e. descriptors)
       (λ e. chosen (Keeps d s) (eqb s.bRequest 0x08) (λ e. same _)
       (λ e. chosen (Keeps d s) (eqb s.bRequest 0x09) (λ e. configurations)
-      (λ e. chosen (Keeps d s) (eqb s.bRequest 0x0_a) (λ e. chosen (Keeps d s) (has_interface (selected v d) s.wIndex) (λ e. same _) (λ e. same _))
+      (λ e. chosen (Keeps d s) (eqb s.bRequest 0x0A) (λ e. chosen (Keeps d s) (has_interface (selected v d) s.wIndex) (λ e. same _) (λ e. same _))
       (λ e. chosen (Keeps d s) (has_setting (selected v d) s.wIndex s.wValue) (λ e. record { address = refl; speed = refl; waits = late free }) (λ e. same _)))))))))
 
 -- ---- a setup, on a record that fits

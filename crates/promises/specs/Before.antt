@@ -63,7 +63,7 @@ request v d s =
     (pick (eqb s.bRequest 0x06) (describe d s.wLength (locate v s))
     (pick (eqb s.bRequest 0x08) (get_configuration v d s)
     (pick (eqb s.bRequest 0x09) (set_configuration v d s)
-    (pick (eqb s.bRequest 0x0_a) (get_interface v d s)
+    (pick (eqb s.bRequest 0x0A) (get_interface v d s)
     (set_interface v d s))))))))
 
 abbrev pub answer_setup : View → Device → Setup → Outcome

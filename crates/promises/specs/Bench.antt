@@ -102,14 +102,14 @@ row a f = record { asked = a; answer = f }
 abbrev pub P : List PRow
 P =
     row (runs fresh (setup 0x8006000100004000 ∷ [])) (ran (given 20 18 ∷ []) ((8 ∷ 8 ∷ 2 ∷ []) ∷ []) fresh) ∷
-    row (runs fresh (setup 0x800600020000_ff00 ∷ [])) (ran (given 38 25 ∷ []) ((8 ∷ 8 ∷ 8 ∷ 1 ∷ []) ∷ []) fresh) ∷
+    row (runs fresh (setup 0x800600020000FF00 ∷ [])) (ran (given 38 25 ∷ []) ((8 ∷ 8 ∷ 8 ∷ 1 ∷ []) ∷ []) fresh) ∷
     row (runs fresh (setup 0x8008000000000100 ∷ [])) (ran (refused 11 ∷ []) ([] ∷ []) fresh) ∷
     row (runs fresh (setup 0x0005050000000000 ∷ StatusEnd ∷ [])) (ran (done [] ∷ done [] ∷ []) ([] ∷ [] ∷ []) addressed) ∷
     row (runs fresh (setup 0x0005800000000000 ∷ [])) (ran (refused 12 ∷ []) ([] ∷ []) fresh) ∷
     row (runs addressed (setup 0x0009020000000000 ∷ [])) (ran (refused 13 ∷ []) ([] ∷ []) addressed) ∷
     row (runs configured (setup 0x0203000081000000 ∷ setup 0x8200000081000200 ∷ [])) (ran (done [] ∷ done (1 ∷ 0 ∷ []) ∷ []) ([] ∷ (2 ∷ []) ∷ []) (with_endpoints zeros 0x20000 0 configured)) ∷
     row (runs configured (setup 0x0203000001000000 ∷ [])) (ran (refused 13 ∷ []) ([] ∷ []) configured) ∷
-    row (runs (with_waiting 5 fresh) (setup 0x8006000600000_a00 ∷ StatusEnd ∷ [])) (ran (refused 13 ∷ done [] ∷ []) ([] ∷ [] ∷ []) fresh) ∷
+    row (runs (with_waiting 5 fresh) (setup 0x8006000600000A00 ∷ StatusEnd ∷ [])) (ran (refused 13 ∷ done [] ∷ []) ([] ∷ [] ∷ []) fresh) ∷
     row (opens_on stands (replicate 32 170)) (numbered 4 fresh_image) ∷
     row (cuts 16 64 8) (lengths (8 ∷ 8 ∷ 0 ∷ [])) ∷
     []

@@ -71,7 +71,7 @@ computed = 0
 
 -- ---- the bench set S, byte for byte as document 01 prints it
 abbrev pub S : Board
-S = lent (bytes 63 0x3_f000200_0100000014001200_0200000026001900_12010002_ff00000834127856000100000001_090219000101008032_0904000001_ff000000_0705810308000_a) []
+S = lent (bytes 63 0x3F000200_0100000014001200_0200000026001900_12010002FF00000834127856000100000001_090219000101008032_0904000001FF000000_0705810308000A) []
 
 -- ---- the titrator T: one configuration that can wake the host, interface 0 with two settings (bulk; bulk and interrupt), interface 1 with a
 -- class descriptor and two settings (nothing; isochronous and interrupt), strings 1 and 2 in German and English, string 5 in English alone, serial index 3
@@ -86,7 +86,7 @@ abbrev pub titrator_device : Piece
 titrator_device = piece 1 0 0 (device 0 0 64 1 2 3 1)
 
 abbrev pub titrator_configuration : Piece
-titrator_configuration = piece 2 0 0 (configuration 1 2 1 0x_e0 50 titrator_descriptors)
+titrator_configuration = piece 2 0 0 (configuration 1 2 1 0xE0 50 titrator_descriptors)
 
 abbrev pub titrator_strings : List Piece
 titrator_strings =

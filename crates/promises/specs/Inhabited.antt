@@ -89,7 +89,7 @@ unfit = (refl, refl)
 -- ---- step_keeps: 13 drops the waiting address, 16 keeps it, 7 and 8 keep the record
 -- GET_DESCRIPTOR of type 6, which no set has
 abbrev pub qualifier : Event
-qualifier = setup_event (bytes 8 0x8006000600000_a00)
+qualifier = setup_event (bytes 8 0x8006000600000A00)
 
 pub drops13 : ((step S waiting qualifier).answer ≡ Refused 13) × ((step S waiting qualifier).device ≡ fresh)
 unfolding computed
@@ -152,7 +152,7 @@ reached_address = refl
 
 -- ---- opening: a refused set leaves the fresh record too (S with its interface's bLength 0), and an image that is not 32 bytes stays
 abbrev pub broken : Board
-broken = lent (bytes 63 0x3_f00020001000000140012000200000026001900120100_02_ff0000083412785600010000000109021900010100803200040000_01_ff0000000705810308000_a) []
+broken = lent (bytes 63 0x3F00020001000000140012000200000026001900120100_02FF0000083412785600010000000109021900010100803200040000_01FF0000000705810308000A) []
 
 pub opens_broken : ((opened broken (replicate 32 170)).number ≡ 4) × ((opened broken (replicate 32 170)).image ≡ 0 ∷ 0 ∷ 255 ∷ replicate 29 0)
 unfolding computed
@@ -174,15 +174,15 @@ pub busy_fits : fits_on T busy ≡ true
 unfolding computed
 busy_fits = refl
 
-pub sets_interface : (step T busy (setup_event (bytes 8 0x010_b010000000000))).device ≡ calmed
+pub sets_interface : (step T busy (setup_event (bytes 8 0x010B010000000000))).device ≡ calmed
 unfolding computed
 sets_interface = refl
 
 pub calmed_fits : fits_on T calmed ≡ true
-calmed_fits = rw sets_interface at (step_fits T bytes_t accepted_t busy (setup_event (bytes 8 0x010_b010000000000)) (record { sixteen = refl; halts-fit = omega arith; toggles-fit = omega arith }) busy_fits).0
+calmed_fits = rw sets_interface at (step_fits T bytes_t accepted_t busy (setup_event (bytes 8 0x010B010000000000)) (record { sixteen = refl; halts-fit = omega arith; toggles-fit = omega arith }) busy_fits).0
 
 -- the serial number, string 3, is a part of the serial block
-pub serial_part : (step T fresh (setup_event (bytes 8 0x800603030904_ff00))).answer ≡ SerialPart 4
+pub serial_part : (step T fresh (setup_event (bytes 8 0x800603030904FF00))).answer ≡ SerialPart 4
 unfolding computed
 serial_part = refl
 

@@ -35,7 +35,7 @@ configured_fits_t = refl
 -- ---- the events
 -- of interface 0: a class request, a packet at 81, SET_FEATURE(ENDPOINT_HALT) there, and a packet that the halt refuses
 abbrev idle_rate : Event
-idle_rate = setup_event (bytes 8 0x210_a000000000000)
+idle_rate = setup_event (bytes 8 0x210A000000000000)
 
 abbrev halt_in : Event
 halt_in = setup_event (bytes 8 0x0203000081000000)
@@ -43,10 +43,10 @@ halt_in = setup_event (bytes 8 0x0203000081000000)
 -- of interface 1: a halt at 85, which its setting 0 does not have; SET_INTERFACE to its setting 1; the halt again; a vendor request to 85;
 -- and GET_STATUS there
 abbrev setting_one : Event
-setting_one = setup_event (bytes 8 0x010_b010001000000)
+setting_one = setup_event (bytes 8 0x010B010001000000)
 
 abbrev vendor : Event
-vendor = setup_event (bytes 8 0x_c201000085000100)
+vendor = setup_event (bytes 8 0xC201000085000100)
 
 abbrev status : Event
 status = setup_event (bytes 8 0x8200000085000200)

@@ -15,7 +15,7 @@ use Rattle.promises.specs.Order.{order}
 
 -- ---- two interfaces without endpoints, the second with two settings: at either speed the same set
 abbrev pub twin : List ℕ
-twin = bytes 136 0x88000400_0100000024001200_0200000036002400_060000005_a000_a00_0700000064002400_120100020000004034127856000100000001_090224000201008032_0904000000_ff000000_0904010000_ff000000_0904010100_ff000000_0_a060002000000400100_090724000201008032_0904000000_ff000000_0904010000_ff000000_0904010100_ff000000
+twin = bytes 136 0x88000400_0100000024001200_0200000036002400_060000005A000A00_0700000064002400_120100020000004034127856000100000001_090224000201008032_0904000000FF000000_0904010000FF000000_0904010100FF000000_0A060002000000400100_090724000201008032_0904000000FF000000_0904010000FF000000_0904010100FF000000
 
 abbrev pub twins : Board
 twins = lent_two twin twin []
@@ -41,10 +41,10 @@ test_sized = record { sixteen = refl; halts-fit = omega arith; toggles-fit = ome
 
 -- SET_INTERFACE of each
 abbrev pub one_order : List Event
-one_order = setup 0x010_b000000000000 ∷ setup 0x010_b010001000000 ∷ []
+one_order = setup 0x010B000000000000 ∷ setup 0x010B010001000000 ∷ []
 
 abbrev pub other_order : List Event
-other_order = setup 0x010_b010001000000 ∷ setup 0x010_b000000000000 ∷ []
+other_order = setup 0x010B010001000000 ∷ setup 0x010B000000000000 ∷ []
 
 same : (k : ℕ) → events_of twins test_waiting k one_order ≡ events_of twins test_waiting k other_order
 unfolding computed

@@ -22,11 +22,11 @@ use Rattle.promises.specs.Struck.{PageRun, struck_by_page}
 -- ---- T: interface 0's packet and halt at 81 and its GET_STATUS are struck; what is left is interface 1's, and the device's
 abbrev pub whole : List Event
 whole =
-    BusReset 0 ∷ Power 1 ∷ setup 0x0005050000000000 ∷ StatusEnd ∷ setup 0x0009010000000000 ∷ StatusEnd ∷ PacketPassed 0x81 ∷ setup 0x010_b010001000000 ∷
+    BusReset 0 ∷ Power 1 ∷ setup 0x0005050000000000 ∷ StatusEnd ∷ setup 0x0009010000000000 ∷ StatusEnd ∷ PacketPassed 0x81 ∷ setup 0x010B010001000000 ∷
     Halt 0x81 ∷ Halt 0x85 ∷ setup 0x8200000081000200 ∷ setup 0x8200000085000200 ∷ setup_event [] ∷ Suspend ∷ Wake ∷ Resume ∷ StatusEnd ∷ []
 
 pub kept : strike (next_of T) (struck_for T 1) fresh whole
-    ≡ BusReset 0 ∷ Power 1 ∷ setup 0x0005050000000000 ∷ StatusEnd ∷ setup 0x0009010000000000 ∷ StatusEnd ∷ setup 0x010_b010001000000 ∷
+    ≡ BusReset 0 ∷ Power 1 ∷ setup 0x0005050000000000 ∷ StatusEnd ∷ setup 0x0009010000000000 ∷ StatusEnd ∷ setup 0x010B010001000000 ∷
     Halt 0x85 ∷ setup 0x8200000085000200 ∷ setup_event [] ∷ Suspend ∷ Wake ∷ Resume ∷ StatusEnd ∷ []
 unfolding computed
 kept = refl

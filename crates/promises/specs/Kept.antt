@@ -79,7 +79,7 @@ module _ {A : Type 0} (read : Device → A) (wakeups : (on : ℕ) (d : Device) �
         (λ e. chosen Kept (eqb s.bRequest 0x06) (λ e. descriptor)
         (λ e. chosen Kept (eqb s.bRequest 0x08) (λ e. refl)
         (λ e. chosen Kept (eqb s.bRequest 0x09) (λ e. configuration)
-        (λ e. chosen Kept (eqb s.bRequest 0x0_a) (λ e. chosen Kept (has_interface (selected v d) s.wIndex) (λ e. refl) (λ e. refl))
+        (λ e. chosen Kept (eqb s.bRequest 0x0A) (λ e. chosen Kept (has_interface (selected v d) s.wIndex) (λ e. refl) (λ e. refl))
         (λ e. chosen Kept (has_setting (selected v d) s.wIndex s.wValue) (λ e. stands _ _ _ d) (λ e. refl)))))))))
 
   pub setup_keeps : (v : View) (d : Device) (s : Setup) → read (answer_setup v d s).device ≡ read (settled d)

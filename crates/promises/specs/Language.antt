@@ -126,17 +126,17 @@ module _ (b : Board) (ok : accepted b ≡ true) (d : Device) (fit : fits_on b d 
 
 -- ---- instances: T lists German and English. In French its string 1 is the German one, string 5, which is English alone, is missing, and the serial number is there
 abbrev french : ℕ → Event
-french index = Request (get_string index 0x040_c 255)
+french index = Request (get_string index 0x040C 255)
 
 pub in_german : step T configured (french 1) ≡ step T configured (Request (get_string 1 0x0407 255))
 unfolding computed
-in_german = located T accepted_t configured refl refl 1 0x040_c 255 (omega arith) (omega arith) (omega arith) (omega arith)
+in_german = located T accepted_t configured refl refl 1 0x040C 255 (omega arith) (omega arith) (omega arith) (omega arith)
     ∙ sym (located T accepted_t configured refl refl 1 0x0407 255 (omega arith) (omega arith) (omega arith) (omega arith))
 
 pub in_none : step T configured (french 5) ≡ refused 13 configured
 unfolding computed
-in_none = string_missing T accepted_t configured refl refl 5 0x040_c 255 (omega arith) (omega arith) (omega arith) (omega arith) refl refl refl
+in_none = string_missing T accepted_t configured refl refl 5 0x040C 255 (omega arith) (omega arith) (omega arith) (omega arith) refl refl refl
 
 pub serial_there : step T configured (french 3) ≡ gives (SerialPart 4) configured
 unfolding computed
-serial_there = serial_anyway T accepted_t configured refl refl 3 0x040_c 255 (omega arith) (omega arith) (omega arith) (omega arith) refl
+serial_there = serial_anyway T accepted_t configured refl refl 3 0x040C 255 (omega arith) (omega arith) (omega arith) (omega arith) refl

@@ -61,15 +61,15 @@ of_block size = record { number = 0; bytes = []; part = record { block = of_seri
 language : List Later
 language =
     -- string 2 in German, in English; in Italian and in language 0, which are not listed: in German
-    on T fresh (setup 0x800602030704_ff00 ∷ setup 0x800602030904_ff00 ∷ setup 0x800602031004_ff00 ∷ setup 0x800602030000_ff00 ∷ [])
+    on T fresh (setup 0x800602030704FF00 ∷ setup 0x800602030904FF00 ∷ setup 0x800602031004FF00 ∷ setup 0x800602030000FF00 ∷ [])
     (given 195 4 ∷ given 203 4 ∷ given 195 4 ∷ given 195 4 ∷ []) fresh ∷
     -- string 5 has no entry in German: "stays 13" there, and in Italian
-    on T fresh (setup 0x800605030704_ff00 ∷ setup 0x800605030904_ff00 ∷ setup 0x800605031004_ff00 ∷ []) (refused 13 ∷ given 207 2 ∷ refused 13 ∷ []) fresh ∷
+    on T fresh (setup 0x800605030704FF00 ∷ setup 0x800605030904FF00 ∷ setup 0x800605031004FF00 ∷ []) (refused 13 ∷ given 207 2 ∷ refused 13 ∷ []) fresh ∷
     -- "or the serial index"
-    on T fresh (setup 0x800603030904_ff00 ∷ setup 0x800603031004_ff00 ∷ []) (of_block 4 ∷ of_block 4 ∷ []) fresh ∷
+    on T fresh (setup 0x800603030904FF00 ∷ setup 0x800603031004FF00 ∷ []) (of_block 4 ∷ of_block 4 ∷ []) fresh ∷
     -- string 0 for any wIndex, and an index that does not exist
-    on T fresh (setup 0x800600031004_ff00 ∷ setup 0x800609031004_ff00 ∷ []) (given 185 6 ∷ refused 13 ∷ []) fresh ∷
-    on S fresh (setup 0x800601030904_ff00 ∷ setup 0x800600030904_ff00 ∷ []) (refused 13 ∷ refused 13 ∷ []) fresh ∷ []
+    on T fresh (setup 0x800600031004FF00 ∷ setup 0x800609031004FF00 ∷ []) (given 185 6 ∷ refused 13 ∷ []) fresh ∷
+    on S fresh (setup 0x800601030904FF00 ∷ setup 0x800600030904FF00 ∷ []) (refused 13 ∷ refused 13 ∷ []) fresh ∷ []
 
 -- ---- L12: a device that sleeps
 abbrev asleep : Device → Device
@@ -83,7 +83,7 @@ sleep =
     on T (asleep (with_power 1 configured)) (BusReset 0 ∷ []) (done [] ∷ []) (with_power 1 fresh) ∷
     -- "any setup past 7 to 9", refused or not; a setup of 7 bytes does not
     on T (asleep configured) (status ∷ []) (done (0 ∷ 0 ∷ []) ∷ []) configured ∷
-    on T (asleep (with_waiting 9 addressed)) (setup 0x8006000600000_a00 ∷ []) (refused 13 ∷ []) addressed ∷
+    on T (asleep (with_waiting 9 addressed)) (setup 0x8006000600000A00 ∷ []) (refused 13 ∷ []) addressed ∷
     on T (asleep (with_waiting 9 addressed)) (setup_event (0x80 ∷ 0x06 ∷ []) ∷ []) (refused 9 ∷ []) (asleep (with_waiting 9 addressed)) ∷
     -- "any accepted packet passed event"; "a function halt does not", nor a refused packet, nor a status end, nor a power event
     on T (asleep configured) (PacketPassed 0x81 ∷ []) (done [] ∷ []) (with_endpoints zeros 0 0x20000 configured) ∷

@@ -62,7 +62,7 @@ mistake r w = record { right = r; wrong = w }
 pub mistakes : List Mistake
 mistakes =
     mistake (step S fresh (Request (setup 0x0005050000000000))) (address_at_once (view_of S) fresh (setup 0x0005050000000000)) ∷
-    mistake (step T halted (Request (setup 0x010_b000000000000))) (setting_if_other (view_of T) halted (setup 0x010_b000000000000)) ∷
+    mistake (step T halted (Request (setup 0x010B000000000000))) (setting_if_other (view_of T) halted (setup 0x010B000000000000)) ∷
     mistake (step S configured (Request (setup 0x0009010000000000))) (configuration_by_index (view_of S) configured (setup 0x0009010000000000)) ∷
     mistake (step S configured (Request (setup 0x0203000001000000))) (halt_without_direction (view_of S) configured (setup 0x0203000001000000)) ∷
     mistake (step S toggled (Request (setup 0x0201000081000000))) (toggle_if_halted (view_of S) toggled (setup 0x0201000081000000)) ∷ []

@@ -17,11 +17,11 @@ use Rattle.promises.specs.Later.{Later, on, ending}
 -- ---- two sets of one instrument, and the board that lends them
 -- device, configuration (string 1, a bulk endpoint of 64), strings 0 and 1, types 6 and 7
 abbrev pub full : List ℕ
-full = bytes 138 0x8_a000600_0100000034001200_0200000046001900_030000005_f000400_0301090463000400_0600000067000_a00_0700000071001900_120100020000004034127856000100000001_0902190001010180320904000001_ff00000007058102400000_04030904_04034100_0_a060002000000400100_0907190001010080320904000001_ff00000007058102000200
+full = bytes 138 0x8A000600_0100000034001200_0200000046001900_030000005F000400_0301090463000400_0600000067000A00_0700000071001900_120100020000004034127856000100000001_0902190001010180320904000001FF00000007058102400000_04030904_04034100_0A060002000000400100_0907190001010080320904000001FF00000007058102000200
 
 -- device, configuration (no string, a bulk endpoint of 512), types 6 and 7
 abbrev pub high : List ℕ
-high = bytes 114 0x72000400_0100000024001200_0200000036001900_060000004_f000_a00_0700000059001900_120100020000004034127856000100000001_0902190001010080320904000001_ff00000007058102000200_0_a060002000000400100_0907190001010180320904000001_ff00000007058102400000
+high = bytes 114 0x72000400_0100000024001200_0200000036001900_060000004F000A00_0700000059001900_120100020000004034127856000100000001_0902190001010080320904000001FF00000007058102000200_0A060002000000400100_0907190001010180320904000001FF00000007058102400000
 
 abbrev pub pair : Board
 pair = lent_two full high []
@@ -64,7 +64,7 @@ abbrev test_mode : ℕ → Event
 test_mode selector = setup (0x0003020000000000 + selector * 65536)
 
 abbrev vendor : Event
-vendor = setup 0x_c001000000000000
+vendor = setup 0xC001000000000000
 
 speeds : List Later
 speeds =
@@ -90,7 +90,7 @@ tests =
     on pair (at_high addressed) (test_mode 4 ∷ setup 0x0005070000000000 ∷ StatusEnd ∷ []) (done [] ∷ done [] ∷ done [] ∷ []) (with_address in_address 7 (at_high fresh)) ∷
     on pair (at_high addressed) (test_mode 4 ∷ BusReset 1 ∷ StatusEnd ∷ []) (done [] ∷ done [] ∷ done [] ∷ []) (at_high fresh) ∷
     on pair (at_high addressed) (test_mode 4 ∷ setup_event [] ∷ Suspend ∷ StatusEnd ∷ []) (done [] ∷ refused 9 ∷ done [] ∷ done [] ∷ []) (with_suspended 1 (with_speed 65 addressed)) ∷
-    -- 11 in Default at full speed; 12 for w_index's low byte; "an invalid selector, or a test mode at full speed outside Default, gets 14"
+    -- 11 in Default at full speed; 12 for wIndex's low byte; "an invalid selector, or a test mode at full speed outside Default, gets 14"
     on pair fresh (test_mode 1 ∷ []) (refused 11 ∷ []) fresh ∷
     on pair addressed (test_mode 1 ∷ test_mode 9 ∷ setup 0x0003020001010000 ∷ []) (refused 14 ∷ refused 14 ∷ refused 12 ∷ []) addressed ∷
     on pair (at_high fresh) (test_mode 0 ∷ test_mode 6 ∷ setup 0x0003020001010000 ∷ setup 0x0003020000010100 ∷ []) (refused 14 ∷ refused 14 ∷ refused 12 ∷ refused 12 ∷ []) (at_high fresh) ∷

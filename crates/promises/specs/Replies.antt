@@ -112,7 +112,7 @@ module _ (v : View) (d : Device) (s : Setup) where
       (λ e. chosen Fine (eqb s.bRequest 0x06) (λ e. descriptor)
       (λ e. chosen Fine (eqb s.bRequest 0x08) (λ e. let c = eqb-true s.bRequest 8 e in let l = asked 8 1 refl r.state s (table-judges paired r s c refl p) c in omega arith)
       (λ e. chosen Fine (eqb s.bRequest 0x09) (λ e. configuration)
-      (λ e. chosen Fine (eqb s.bRequest 0x0_a)
+      (λ e. chosen Fine (eqb s.bRequest 0x0A)
       (λ e. chosen Fine (has_interface (selected v d) s.wIndex) (λ f. let c = eqb-true s.bRequest 10 e in let l = asked 10 1 refl r.state s (table-judges paired r s c refl p) c in omega arith) (λ f. no 13))
       (λ e. chosen Fine (has_setting (selected v d) s.wIndex s.wValue) (λ e. omega arith) (λ e. no 13)))))))))
 

@@ -25,7 +25,7 @@ abbrev S-device : List ℕ → Board
 S-device d = board (piece 1 0 0 d ∷ piece 2 0 0 (configuration 1 1 0 0x80 50 (interface 0 0 0 0 ∷ [])) ∷ []) []
 
 abbrev S-body : List ℕ → Board
-S-body body = board (piece 1 0 0 (device 0x_ff 0 8 0 0 0 1) ∷ piece 2 0 0 body ∷ []) []
+S-body body = board (piece 1 0 0 (device 0xFF 0 8 0 0 0 1) ∷ piece 2 0 0 body ∷ []) []
 
 abbrev S-with : ℕ → List (List ℕ) → Board
 S-with interfaces ds = S-body (configuration 1 interfaces 0 0x80 50 ds)
@@ -38,7 +38,7 @@ abbrev plain : ℕ → List ℕ
 plain value = configuration value 1 0 0x80 50 (interface 0 0 0 0 ∷ [])
 
 abbrev S-two : Piece → Piece → Board
-S-two c d = board (piece 1 0 0 (device 0x_ff 0 8 0 0 0 2) ∷ c ∷ d ∷ []) []
+S-two c d = board (piece 1 0 0 (device 0xFF 0 8 0 0 0 2) ∷ c ∷ d ∷ []) []
 
 -- T with another serial block
 abbrev T-serial : List ℕ → Board
@@ -46,7 +46,7 @@ T-serial block = board (titrator_device ∷ titrator_configuration ∷ titrator_
 
 -- strings alone, with no reference to them
 abbrev S-strings : List Piece → Board
-S-strings ps = board (piece 1 0 0 (device 0x_ff 0 8 0 0 0 1) ∷ piece 2 0 0 (plain 1) ∷ ps) []
+S-strings ps = board (piece 1 0 0 (device 0xFF 0 8 0 0 0 1) ∷ piece 2 0 0 (plain 1) ∷ ps) []
 
 abbrev english : Piece
 english = piece 3 0 0 (string (0x09 ∷ 0x04 ∷ []))
@@ -86,7 +86,7 @@ contents =
     S-at 4 0 opens 2 ∷ S-at 12 4 opens 2 ∷ S-at 12 255 opens 2 ∷
     -- "entries strictly ascending by type, then language, then index"
     T opens 0 ∷
-    board (piece 2 0 0 (plain 1) ∷ piece 1 0 0 (device 0x_ff 0 8 0 0 0 1) ∷ []) [] opens 2 ∷
+    board (piece 2 0 0 (plain 1) ∷ piece 1 0 0 (device 0xFF 0 8 0 0 0 1) ∷ []) [] opens 2 ∷
     S-two (piece 2 0 0 (plain 1)) (piece 2 0 0 (plain 2)) opens 2 ∷
     S-two (piece 2 1 0 (plain 1)) (piece 2 0 0 (plain 2)) opens 2 ∷
     S-strings (english ∷ piece 3 2 0x0409 (string []) ∷ piece 3 1 0x0409 (string []) ∷ []) opens 2 ∷
@@ -99,22 +99,22 @@ contents =
 
 devices : List Example
 devices =
-    S-device (device 0x_ff 0 8 0 0 0 1) opens 0 ∷
+    S-device (device 0xFF 0 8 0 0 0 1) opens 0 ∷
     -- "one type 1 entry, index 0, language 0"
     board (piece 2 0 0 (plain 1) ∷ []) [] opens 3 ∷
-    board (piece 1 0 0 (device 0x_ff 0 8 0 0 0 1) ∷ piece 1 1 0 (device 0x_ff 0 8 0 0 0 1) ∷ piece 2 0 0 (plain 1) ∷ []) [] opens 3 ∷
+    board (piece 1 0 0 (device 0xFF 0 8 0 0 0 1) ∷ piece 1 1 0 (device 0xFF 0 8 0 0 0 1) ∷ piece 2 0 0 (plain 1) ∷ []) [] opens 3 ∷
     S-at 5 1 opens 3 ∷ S-at 6 1 opens 3 ∷ S-at 7 1 opens 3 ∷
     -- "18 bytes; bLength 18, type 1"
-    S-device (device 0x_ff 0 8 0 0 0 1 ++ 0 ∷ []) opens 3 ∷ S-at 20 17 opens 3 ∷ S-at 21 2 opens 3 ∷
+    S-device (device 0xFF 0 8 0 0 0 1 ++ 0 ∷ []) opens 3 ∷ S-at 20 17 opens 3 ∷ S-at 21 2 opens 3 ∷
     -- "bMaxPacketSize0 is 8, 16, 32 or 64"
-    S-device (device 0x_ff 0 16 0 0 0 1) opens 0 ∷ S-device (device 0x_ff 0 32 0 0 0 1) opens 0 ∷ S-device (device 0x_ff 0 64 0 0 0 1) opens 0 ∷
-    S-device (device 0x_ff 0 4 0 0 0 1) opens 3 ∷ S-device (device 0x_ff 0 24 0 0 0 1) opens 3 ∷ S-device (device 0x_ff 0 128 0 0 0 1) opens 3 ∷
+    S-device (device 0xFF 0 16 0 0 0 1) opens 0 ∷ S-device (device 0xFF 0 32 0 0 0 1) opens 0 ∷ S-device (device 0xFF 0 64 0 0 0 1) opens 0 ∷
+    S-device (device 0xFF 0 4 0 0 0 1) opens 3 ∷ S-device (device 0xFF 0 24 0 0 0 1) opens 3 ∷ S-device (device 0xFF 0 128 0 0 0 1) opens 3 ∷
     -- "class 0 only with subclass 0"
     S-device (device 0 0 8 0 0 0 1) opens 0 ∷ S-device (device 0 1 8 0 0 0 1) opens 3 ∷ S-device (device 1 1 8 0 0 0 1) opens 0 ∷
     -- "bNumConfigurations 1–8 and equal to the number of type 2 entries"
-    S-device (device 0x_ff 0 8 0 0 0 0) opens 3 ∷ S-device (device 0x_ff 0 8 0 0 0 2) opens 3 ∷ board (piece 1 0 0 (device 0x_ff 0 8 0 0 0 0) ∷ []) [] opens 3 ∷
-    board (piece 1 0 0 (device 0x_ff 0 8 0 0 0 8) ∷ map (λ i. piece 2 i 0 (plain (i + 1))) (up_to 8)) [] opens 0 ∷
-    board (piece 1 0 0 (device 0x_ff 0 8 0 0 0 9) ∷ map (λ i. piece 2 i 0 (plain (i + 1))) (up_to 9)) [] opens 3 ∷ []
+    S-device (device 0xFF 0 8 0 0 0 0) opens 3 ∷ S-device (device 0xFF 0 8 0 0 0 2) opens 3 ∷ board (piece 1 0 0 (device 0xFF 0 8 0 0 0 0) ∷ []) [] opens 3 ∷
+    board (piece 1 0 0 (device 0xFF 0 8 0 0 0 8) ∷ map (λ i. piece 2 i 0 (plain (i + 1))) (up_to 8)) [] opens 0 ∷
+    board (piece 1 0 0 (device 0xFF 0 8 0 0 0 9) ∷ map (λ i. piece 2 i 0 (plain (i + 1))) (up_to 9)) [] opens 3 ∷ []
 
 configurations : List Example
 configurations =
@@ -131,7 +131,7 @@ configurations =
     S-at 39 4 opens 4 ∷ S-body (8 ∷ 2 ∷ 17 ∷ 0 ∷ 1 ∷ 1 ∷ 0 ∷ 0x80 ∷ interface 0 0 0 0) opens 4 ∷
     S-body (10 ∷ 2 ∷ 19 ∷ 0 ∷ 1 ∷ 1 ∷ 0 ∷ 0x80 ∷ 50 ∷ 77 ∷ interface 0 0 0 0) opens 0 ∷ S-at 40 24 opens 4 ∷ S-at 41 1 opens 4 ∷
     -- "bmAttributes has bit 7 one and bits 4–0 zero; bMaxPower at most 250"
-    S-at 45 0x00 opens 4 ∷ S-at 45 0x40 opens 4 ∷ S-at 45 0x81 opens 4 ∷ S-at 45 0x90 opens 4 ∷ S-at 45 0x_e0 opens 0 ∷ S-at 46 250 opens 0 ∷ S-at 46 251 opens 4 ∷
+    S-at 45 0x00 opens 4 ∷ S-at 45 0x40 opens 4 ∷ S-at 45 0x81 opens 4 ∷ S-at 45 0x90 opens 4 ∷ S-at 45 0xE0 opens 0 ∷ S-at 46 250 opens 0 ∷ S-at 46 251 opens 4 ∷
     -- "After it, types 1, 2, 3, 6 and 7 are refused"
     S-with 1 (interface 0 0 0 0 ∷ (2 ∷ 1 ∷ []) ∷ []) opens 4 ∷ S-with 1 (interface 0 0 0 0 ∷ (2 ∷ 2 ∷ []) ∷ []) opens 4 ∷ S-with 1 (interface 0 0 0 0 ∷ (2 ∷ 3 ∷ []) ∷ []) opens 4 ∷
     S-with 1 (interface 0 0 0 0 ∷ (2 ∷ 6 ∷ []) ∷ []) opens 4 ∷ S-with 1 (interface 0 0 0 0 ∷ (2 ∷ 7 ∷ []) ∷ []) opens 4 ∷
@@ -160,11 +160,11 @@ interface_rules =
 endpoint_rules : List Example
 endpoint_rules =
     -- "address bits 6–4 zero, number 1–15"
-    S-endpoint (endpoint 0x0_f 3 8 10) opens 0 ∷ S-endpoint (endpoint 0x8_f 3 8 10) opens 0 ∷ S-endpoint (endpoint 0x80 3 8 10) opens 4 ∷ S-endpoint (endpoint 0x00 3 8 10) opens 4 ∷
-    S-endpoint (endpoint 0x91 3 8 10) opens 4 ∷ S-endpoint (endpoint 0x_c1 3 8 10) opens 4 ∷
+    S-endpoint (endpoint 0x0F 3 8 10) opens 0 ∷ S-endpoint (endpoint 0x8F 3 8 10) opens 0 ∷ S-endpoint (endpoint 0x80 3 8 10) opens 4 ∷ S-endpoint (endpoint 0x00 3 8 10) opens 4 ∷
+    S-endpoint (endpoint 0x91 3 8 10) opens 4 ∷ S-endpoint (endpoint 0xC1 3 8 10) opens 4 ∷
     -- "Attributes bits 7–6 zero; transfer type 1 .., 2 .. or 3 ..; bits 5–2 zero unless isochronous."
     S-endpoint (endpoint 0x81 0x43 8 10) opens 4 ∷ S-endpoint (endpoint 0x81 0x81 8 10) opens 4 ∷ S-endpoint (endpoint 0x81 0 8 10) opens 4 ∷
-    S-endpoint (endpoint 0x81 0x07 8 10) opens 4 ∷ S-endpoint (endpoint 0x81 0x22 8 10) opens 4 ∷ S-endpoint (endpoint 0x81 0x3_d 8 10) opens 0 ∷
+    S-endpoint (endpoint 0x81 0x07 8 10) opens 4 ∷ S-endpoint (endpoint 0x81 0x22 8 10) opens 4 ∷ S-endpoint (endpoint 0x81 0x3D 8 10) opens 0 ∷
     -- "wMaxPacketSize: bulk 8, 16, 32 or 64; interrupt 0–64; isochronous 0–1,023"
     S-endpoint (endpoint 0x81 2 8 0) opens 0 ∷ S-endpoint (endpoint 0x81 2 16 0) opens 0 ∷ S-endpoint (endpoint 0x81 2 32 0) opens 0 ∷ S-endpoint (endpoint 0x81 2 64 0) opens 0 ∷
     S-endpoint (endpoint 0x81 2 0 0) opens 4 ∷ S-endpoint (endpoint 0x81 2 48 0) opens 4 ∷ S-endpoint (endpoint 0x81 2 512 0) opens 4 ∷ S-endpoint (endpoint 0x81 2 0x0840 0) opens 4 ∷
@@ -195,16 +195,16 @@ strings =
     -- "Other entries use listed languages."
     S-strings (english ∷ piece 3 1 0x0407 (string []) ∷ []) opens 5 ∷
     -- "If there is any string entry or nonzero reference, index 0 is there."
-    S-strings (piece 3 1 0x0409 (string []) ∷ []) opens 5 ∷ S-device (device 0x_ff 0 8 1 0 0 1) opens 5 ∷ S-device (device 0x_ff 0 8 0 0 1 1) opens 5 ∷
+    S-strings (piece 3 1 0x0409 (string []) ∷ []) opens 5 ∷ S-device (device 0xFF 0 8 1 0 0 1) opens 5 ∷ S-device (device 0xFF 0 8 0 0 1 1) opens 5 ∷
     -- "No entry has the index iSerialNumber when that is nonzero."
-    board (piece 1 0 0 (device 0x_ff 0 8 0 0 1 1) ∷ piece 2 0 0 (plain 1) ∷ english ∷ []) titrator_serial opens 0 ∷
-    board (piece 1 0 0 (device 0x_ff 0 8 0 0 1 1) ∷ piece 2 0 0 (plain 1) ∷ english ∷ piece 3 1 0x0409 (string []) ∷ []) titrator_serial opens 5 ∷
-    -- "Each nonzero reference .. is i_serial_number's value or has an entry in every listed language."
-    board (piece 1 0 0 (device 0x_ff 0 8 7 7 7 1) ∷ piece 2 0 0 (configuration 1 1 7 0x80 50 (interface 0 0 0 7 ∷ [])) ∷ english ∷ []) titrator_serial opens 0 ∷
-    board (piece 1 0 0 (device 0x_ff 0 8 0 0 0 1) ∷ piece 2 0 0 (configuration 1 1 0 0x80 50 (interface 0 0 0 0 ∷ interface 0 1 0 7 ∷ [])) ∷ english ∷ []) [] opens 5 ∷
-    board (piece 1 0 0 (device 0x_ff 0 8 0 0 0 1) ∷ piece 2 0 0 (configuration 1 1 7 0x80 50 (interface 0 0 0 0 ∷ [])) ∷ english ∷ []) [] opens 5 ∷
-    board (piece 1 0 0 (device 0x_ff 0 8 1 1 0 1) ∷ piece 2 0 0 (plain 1) ∷ listing-of (7 ∷ 4 ∷ 9 ∷ 4 ∷ []) ∷ piece 3 1 0x0407 (string []) ∷ piece 3 1 0x0409 (string []) ∷ []) [] opens 0 ∷
-    board (piece 1 0 0 (device 0x_ff 0 8 1 1 0 1) ∷ piece 2 0 0 (plain 1) ∷ listing-of (7 ∷ 4 ∷ 9 ∷ 4 ∷ []) ∷ piece 3 1 0x0407 (string []) ∷ []) [] opens 5 ∷ []
+    board (piece 1 0 0 (device 0xFF 0 8 0 0 1 1) ∷ piece 2 0 0 (plain 1) ∷ english ∷ []) titrator_serial opens 0 ∷
+    board (piece 1 0 0 (device 0xFF 0 8 0 0 1 1) ∷ piece 2 0 0 (plain 1) ∷ english ∷ piece 3 1 0x0409 (string []) ∷ []) titrator_serial opens 5 ∷
+    -- "Each nonzero reference .. is iSerialNumber's value or has an entry in every listed language."
+    board (piece 1 0 0 (device 0xFF 0 8 7 7 7 1) ∷ piece 2 0 0 (configuration 1 1 7 0x80 50 (interface 0 0 0 7 ∷ [])) ∷ english ∷ []) titrator_serial opens 0 ∷
+    board (piece 1 0 0 (device 0xFF 0 8 0 0 0 1) ∷ piece 2 0 0 (configuration 1 1 0 0x80 50 (interface 0 0 0 0 ∷ interface 0 1 0 7 ∷ [])) ∷ english ∷ []) [] opens 5 ∷
+    board (piece 1 0 0 (device 0xFF 0 8 0 0 0 1) ∷ piece 2 0 0 (configuration 1 1 7 0x80 50 (interface 0 0 0 0 ∷ [])) ∷ english ∷ []) [] opens 5 ∷
+    board (piece 1 0 0 (device 0xFF 0 8 1 1 0 1) ∷ piece 2 0 0 (plain 1) ∷ listing-of (7 ∷ 4 ∷ 9 ∷ 4 ∷ []) ∷ piece 3 1 0x0407 (string []) ∷ piece 3 1 0x0409 (string []) ∷ []) [] opens 0 ∷
+    board (piece 1 0 0 (device 0xFF 0 8 1 1 0 1) ∷ piece 2 0 0 (plain 1) ∷ listing-of (7 ∷ 4 ∷ 9 ∷ 4 ∷ []) ∷ piece 3 1 0x0407 (string []) ∷ []) [] opens 5 ∷ []
 
 serials : List Example
 serials =

@@ -148,7 +148,7 @@ module _ (v : View) (d : Device) (s : Setup) (w : test_waits d ≡ false) where
       (λ e. chosen Asked (eqb s.bRequest 0x06) (λ e. no (get_descriptor v d s) by-descriptor)
       (λ e. chosen Asked (eqb s.bRequest 0x08) (λ e. no (get_configuration v d s) w)
       (λ e. chosen Asked (eqb s.bRequest 0x09) (λ e. no (set_configuration v d s) by-configuration)
-      (λ e. chosen Asked (eqb s.bRequest 0x0_a) (λ e. no (get_interface v d s) (chosen Unasked (has_interface (selected v d) s.wIndex) (λ e. w) (λ e. w)))
+      (λ e. chosen Asked (eqb s.bRequest 0x0A) (λ e. no (get_interface v d s) (chosen Unasked (has_interface (selected v d) s.wIndex) (λ e. w) (λ e. w)))
       (λ e. no (set_interface v d s) (chosen Unasked (has_setting (selected v d) s.wIndex s.wValue) (λ e. w) (λ e. w))))))))))
 
 -- past the table: SET_FEATURE to the device has type 00, SET_ADDRESS a value up to 127

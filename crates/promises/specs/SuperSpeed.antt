@@ -21,7 +21,7 @@ store = piece 15 0 0 (5 ∷ 15 ∷ 5 ∷ 0 ∷ 0 ∷ [])
 
 -- a set by bMaxPacketSize0, the descriptors behind the configuration's first, and what stands after the configuration
 abbrev made : ℕ → List (List ℕ) → List Piece → Board
-made size ds more = board (piece 1 0 0 (device 0x_ff 0 size 0 0 0 1) ∷ piece 2 0 0 (configuration 1 1 0 0x80 50 ds) ∷ more) []
+made size ds more = board (piece 1 0 0 (device 0xFF 0 size 0 0 0 1) ∷ piece 2 0 0 (configuration 1 1 0 0x80 50 ds) ∷ more) []
 
 -- the bench set S as a SuperSpeed device, and with another size, other descriptors, other entries, another endpoint
 abbrev pub S3 : Board
@@ -54,7 +54,7 @@ stores =
     S3-entries (store ∷ piece 15 1 0 (5 ∷ 15 ∷ 5 ∷ 0 ∷ 0 ∷ []) ∷ []) opens 3 ∷ S3-entries (piece 15 1 0 (5 ∷ 15 ∷ 5 ∷ 0 ∷ 0 ∷ []) ∷ []) opens 3 ∷
     S3-entries (piece 15 0 0x0409 (5 ∷ 15 ∷ 5 ∷ 0 ∷ 0 ∷ []) ∷ []) opens 3 ∷ S3-entries (piece 15 0 0 (5 ∷ 15 ∷ 4 ∷ 0 ∷ []) ∷ []) opens 3 ∷
     S3-entries (piece 15 0 0 (5 ∷ 15 ∷ 6 ∷ 0 ∷ 0 ∷ []) ∷ []) opens 3 ∷ S3-entries (piece 15 0 0 (5 ∷ []) ∷ []) opens 2 ∷
-    S3-entries (piece 6 0 0 (0x0_a ∷ 6 ∷ []) ∷ store ∷ []) opens 2 ∷ S3-entries (piece 7 0 0 (9 ∷ 7 ∷ []) ∷ store ∷ []) opens 2 ∷ []
+    S3-entries (piece 6 0 0 (0x0A ∷ 6 ∷ []) ∷ store ∷ []) opens 2 ∷ S3-entries (piece 7 0 0 (9 ∷ 7 ∷ []) ∷ store ∷ []) opens 2 ∷ []
 
 -- "a companion (type 48, at least 6 bytes) stands directly after every endpoint and nowhere else"
 unfoldable companions : List Example

@@ -55,7 +55,7 @@ listed_from set ls at (e ∷ es) =
 
 -- ---- the references
 -- a reference whose byte is byte k of what begins at `at` of what begins at `start`: "If there is any .. nonzero reference, index 0 is there"; "Each nonzero reference ..
--- is i_serial_number's value or has an entry in every listed language"
+-- is iSerialNumber's value or has an entry in every listed language"
 abbrev pub reference_findings : List ℕ → ℕ → ℕ → ℕ → ℕ → List Finding
 reference_findings set start at k r =
     asked 510 (byte_at start at k) (zero_if (is_nonzero r) (is_some (string_zero set))) ∷

@@ -45,7 +45,7 @@ returns-7 c = λ v t. let x = tests c.before.match.keys7 in rw (x 0x00, x 0x01, 
 
 returns-8 : tie.Need-returns-8
 unfolding request
-returns-8 c = λ v t. let x = tests c.before.match.keys8 in rw (x 0x00, x 0x01, x 0x03, x 0x05, x 0x06, x 0x08, x 0x09, x 0x0_a) (c.get-interface.ensures v t)
+returns-8 c = λ v t. let x = tests c.before.match.keys8 in rw (x 0x00, x 0x01, x 0x03, x 0x05, x 0x06, x 0x08, x 0x09, x 0x0A) (c.get-interface.ensures v t)
 
 returns-9 : tie.Need-returns-9
 unfolding request
