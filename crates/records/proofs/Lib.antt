@@ -2,4 +2,3 @@ pub mod Image
 pub mod InUse
 pub mod Fitting
 pub mod Putting
-pub mod LocalImage

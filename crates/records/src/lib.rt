@@ -155,7 +155,7 @@ pub fn load(image: &[u8]) -> Device
     ensures { result ≡ device_of image.now }
 {
     let mut alternates = [0; 16];
-    bytes::copy(&image[8..24], &mut alternates);
+    alternates.copy_from_slice(&image[8..24]);
     Device {
         state: image[0],
         address: image[1],
@@ -224,8 +224,8 @@ pub fn store(device: Device, image: &mut [u8])
         device.speed,
     ];
     let alternates = device.alternates;
-    bytes::copy(&front, &mut image[0..8]);
-    bytes::copy(&alternates, &mut image[8..24]);
+    image[0..8].copy_from_slice(&front);
+    image[8..24].copy_from_slice(&alternates);
     store_four(device.halts, &mut image[24..28]);
     store_four(device.toggles, &mut image[28..32]);
 }

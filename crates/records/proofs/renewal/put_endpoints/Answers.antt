@@ -1,0 +1,9 @@
+-- `records::renewal::put_endpoints` meets its contract: the last two parts. No axiom.
+use Rattle.records.specs.Device.{with_endpoints}
+use Rattle.records.proofs.Putting.{halts-put, toggles-put}
+use Rattle.records.proofs.renewal.put_endpoints.Goals as goal
+
+pub returns : goal.returns
+returns c = λ d n e.
+    let a = c.args in
+    toggles-put (with_endpoints d.alternates a.halts d.toggles d) n a.toggles (halts-put d n a.halts e c.put_four.ensures) c.put_four-2.ensures

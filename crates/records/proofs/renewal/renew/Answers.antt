@@ -1,0 +1,25 @@
+-- `records::renewal::renew` meets its contract: by the length; settled first, then changed. No axiom.
+use Rattle.octets.proofs.Vocabulary.{rules, sym, ap, ◌∙◌, ℕ, ◌<◌, eq-eqb, ne_eqb}
+use Rattle.octets.specs.Octets.{byte}
+use Rattle.records.specs.Image.{device_of, image_of}
+use Rattle.records.specs.Change.{waits_after, settled_with, renewed}
+use Rattle.records.proofs.Image.{device-sized, image-device}
+use Rattle.records.proofs.Putting.{settled-sixteen, settles-once}
+use Rattle.records.proofs.renewal.renew.Goals as goal
+
+pub returns-then-image-eq-IMAGE_LENGTH : goal.returns-then-image-eq-IMAGE_LENGTH
+unfolding renewed
+returns-then-image-eq-IMAGE_LENGTH c =
+    let a = c.args in
+    let image = a.image.now in
+    let long = c.if-image-eq-IMAGE_LENGTH.true in
+    let bytes : (i : ℕ) → byte image i < 256 = λ i. search rules in
+    let d = device_of image in
+    let w = waits_after a.change in
+    let settled = rw c.waits_after.ensures at (c.settle.ensures d (sym (image-device image long bytes))) in
+    rw (eq-eqb _ _ long)
+    (c.apply.ensures (settled_with a.settles w d) (settled-sixteen a.settles w d (device-sized image long bytes).sixteen) settled ∙ ap image_of (settles-once a.settles a.change d))
+
+pub returns-else-image-eq-IMAGE_LENGTH : goal.returns-else-image-eq-IMAGE_LENGTH
+unfolding renewed
+returns-else-image-eq-IMAGE_LENGTH c = rw (ne_eqb _ _ c.if-image-eq-IMAGE_LENGTH.false)
