@@ -43,8 +43,8 @@ pub extern "C" fn hk_table_event<'a>(
     count: &mut u8,
     part: &mut &'a [u8],
 ) -> u8
-    ensures { AnswersImage (lent set.now serial.now) (spots (spot_of set.entry.ptr) (spot_of serial.entry.ptr)) image.old (numbered kind value setup.now)
-        result image.new bytes.new count.new part.new.now (spot_of part.new.ptr) }
+    ensures { AnswersImage (lent set.now serial.now) (spots (spot_of set.entry.ref_ptr) (spot_of serial.entry.ref_ptr)) image.old (numbered kind value setup.now)
+        result image.new bytes.new count.new part.new.now (spot_of part.new.ref_ptr) }
 {
     let what = numbers::event_of(kind, value, setup);
     let answer = happen(set, serial, image, what);
@@ -66,8 +66,8 @@ pub extern "C" fn hk_two_table_event<'a>(
     part: &mut &'a [u8],
 ) -> u8
     ensures { AnswersImage (lent_two full.now high.now serial.now)
-        (spots_two (spot_of full.entry.ptr) (spot_of high.entry.ptr) (spot_of serial.entry.ptr)) image.old (numbered kind value setup.now)
-        result image.new bytes.new count.new part.new.now (spot_of part.new.ptr) }
+        (spots_two (spot_of full.entry.ref_ptr) (spot_of high.entry.ref_ptr) (spot_of serial.entry.ref_ptr)) image.old (numbered kind value setup.now)
+        result image.new bytes.new count.new part.new.now (spot_of part.new.ref_ptr) }
 {
     let set = steps::in_use(full, high, octets::peek(image, 7));
     let what = numbers::event_of(kind, value, setup);

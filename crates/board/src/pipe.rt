@@ -22,8 +22,8 @@ fn hear(
     wire: Wire,
     setup: &[u8],
 ) -> Response
-    ensures { Gets (heard (lent set.now serial.now) (record { image = image.entry.now; pipe = pipe.old }) (record { wire = wire; setup = setup.now; reply = reply.now }))
-        result image.exit.now pipe.new }
+    ensures { Gets (heard (lent set.now serial.now) (record { image = image.old; pipe = pipe.old }) (record { wire = wire; setup = setup.now; reply = reply.now }))
+        result image.new pipe.new }
 {
     let moved = hearing::look(set, serial, reply, wire, pipe);
     if moved.ended {
@@ -47,8 +47,8 @@ fn finish<'a>(
 ) -> u8
     ensures number { result ≡ response.number }
     ensures out { out.new ≡ out_bytes response (room_for response.order (transfer_of pipe.now)) }
-    ensures part { HandsPiece set.now set.now serial.now reply.now set.entry.ptr set.entry.ptr serial.entry.ptr reply.entry.ptr
-        (sent (lengths_in set.now serial.now reply.now) response.order (transfer_of pipe.now)) part.new.now part.new.ptr }
+    ensures part { HandsPiece set.now set.now serial.now reply.now set.entry.ref_ptr set.entry.ref_ptr serial.entry.ref_ptr reply.entry.ref_ptr
+        (sent (lengths_in set.now serial.now reply.now) response.order (transfer_of pipe.now)) part.new.now part.new.ref_ptr }
 {
     let next = pipes::image::read(pipe);
     response::write_out(response, next, out);
@@ -70,9 +70,9 @@ pub extern "C" fn hk_pipe_event<'a>(
     out: &mut [u8; 6],
     part: &mut &'a [u8],
 ) -> u8
-    ensures { AnswersPipe (lent set.now serial.now) (spots (spot_of set.entry.ptr) (spot_of serial.entry.ptr)) (spot_of reply.entry.ptr)
-        (record { image = image.entry.now; pipe = pipe.old }) (record { wire = wire_of kind value; setup = setup.now; reply = reply.now })
-        result (record { image = image.exit.now; pipe = pipe.new }) out.new part.new.now (spot_of part.new.ptr) }
+    ensures { AnswersPipe (lent set.now serial.now) (spots (spot_of set.entry.ref_ptr) (spot_of serial.entry.ref_ptr)) (spot_of reply.entry.ref_ptr)
+        (record { image = image.old; pipe = pipe.old }) (record { wire = wire_of kind value; setup = setup.now; reply = reply.now })
+        result (record { image = image.new; pipe = pipe.new }) out.new part.new.now (spot_of part.new.ref_ptr) }
 {
     let wire = hearing::wire_of(kind, value);
     let response = hear(set, serial, image, pipe, reply, wire, setup);
@@ -90,8 +90,8 @@ fn hear_two<'a>(
     wire: Wire,
     setup: &[u8],
 ) -> Response
-    ensures { Gets (heard (lent_two full.now high.now serial.now) (record { image = image.entry.now; pipe = pipe.old }) (record { wire = wire; setup = setup.now; reply = reply.now }))
-        result image.exit.now pipe.new }
+    ensures { Gets (heard (lent_two full.now high.now serial.now) (record { image = image.old; pipe = pipe.old }) (record { wire = wire; setup = setup.now; reply = reply.now }))
+        result image.new pipe.new }
 {
     let used = steps::in_use(full, high, octets::peek(image, 7));
     let moved = hearing::look(used, serial, reply, wire, pipe);
@@ -119,9 +119,9 @@ fn finish_two<'a>(
     ensures number { result ≡ response.number }
     ensures out { out.new ≡ out_bytes response (room_for response.order (transfer_of pipe.now)) }
     ensures part { HandsPiece full.now (pick (eqb speed 0) full.now high.now) serial.now reply.now
-        full.entry.ptr (pick (eqb speed 0) full.entry.ptr high.entry.ptr) serial.entry.ptr reply.entry.ptr
+        full.entry.ref_ptr (pick (eqb speed 0) full.entry.ref_ptr high.entry.ref_ptr) serial.entry.ref_ptr reply.entry.ref_ptr
         (sent (lengths_in (pick (eqb speed 0) full.now high.now) serial.now reply.now) response.order (transfer_of pipe.now))
-        part.new.now part.new.ptr }
+        part.new.now part.new.ref_ptr }
 {
     let used = steps::in_use(full, high, speed);
     let next = pipes::image::read(pipe);
@@ -145,9 +145,9 @@ pub extern "C" fn hk_two_pipe_event<'a>(
     out: &mut [u8; 6],
     part: &mut &'a [u8],
 ) -> u8
-    ensures { AnswersPipe (lent_two full.now high.now serial.now) (spots_two (spot_of full.entry.ptr) (spot_of high.entry.ptr) (spot_of serial.entry.ptr)) (spot_of reply.entry.ptr)
-        (record { image = image.entry.now; pipe = pipe.old }) (record { wire = wire_of kind value; setup = setup.now; reply = reply.now })
-        result (record { image = image.exit.now; pipe = pipe.new }) out.new part.new.now (spot_of part.new.ptr) }
+    ensures { AnswersPipe (lent_two full.now high.now serial.now) (spots_two (spot_of full.entry.ref_ptr) (spot_of high.entry.ref_ptr) (spot_of serial.entry.ref_ptr)) (spot_of reply.entry.ref_ptr)
+        (record { image = image.old; pipe = pipe.old }) (record { wire = wire_of kind value; setup = setup.now; reply = reply.now })
+        result (record { image = image.new; pipe = pipe.new }) out.new part.new.now (spot_of part.new.ref_ptr) }
 {
     let speed = octets::peek(image, 7);
     let wire = hearing::wire_of(kind, value);

@@ -21,8 +21,8 @@ fn image_event<'a>(
 ) -> u8
     requires { length image.old ≡ 32 }
     ensures { AnswersRecordEvent (lent set.now serial.now)
-        (spots (spot_of set.entry.ptr) (spot_of serial.entry.ptr)) (device_of image.old) (numbered kind value setup.now)
-        result (device_of image.new) bytes.new count.new part.new.now (spot_of part.new.ptr) }
+        (spots (spot_of set.entry.ref_ptr) (spot_of serial.entry.ref_ptr)) (device_of image.old) (numbered kind value setup.now)
+        result (device_of image.new) bytes.new count.new part.new.now (spot_of part.new.ref_ptr) }
 {
     let number = steps::opening(set, serial);
     let event = numbers::event_of(kind, value, setup);
@@ -43,8 +43,8 @@ fn record_event<'a>(
     part: &mut &'a [u8],
 ) -> u8
     ensures { AnswersRecordEvent (lent set.now serial.now)
-        (spots (spot_of set.entry.ptr) (spot_of serial.entry.ptr)) device.old (numbered kind value setup.now)
-        result device.new bytes.new count.new part.new.now (spot_of part.new.ptr) }
+        (spots (spot_of set.entry.ref_ptr) (spot_of serial.entry.ref_ptr)) device.old (numbered kind value setup.now)
+        result device.new bytes.new count.new part.new.now (spot_of part.new.ref_ptr) }
 {
     let mut image = [0u8; 32];
     records::store(*device, &mut image[..]);
@@ -77,8 +77,8 @@ pub extern "C" fn hk_port_event<'a>(
     count: &mut u8,
     part: &mut &'a [u8],
 ) -> u8
-    ensures { AnswersPortEvent (lent set.now serial.now) (spots (spot_of set.entry.ptr) (spot_of serial.entry.ptr)) row.old port (numbered kind value setup.now)
-        result row.new bytes.new count.new part.new.now (spot_of part.new.ptr) }
+    ensures { AnswersPortEvent (lent set.now serial.now) (spots (spot_of set.entry.ref_ptr) (spot_of serial.entry.ref_ptr)) row.old port (numbered kind value setup.now)
+        result row.new bytes.new count.new part.new.now (spot_of part.new.ref_ptr) }
 {
     if row.len() <= port {
         return numbers::no_port(set, serial, bytes, count, part);

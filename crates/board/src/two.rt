@@ -45,8 +45,8 @@ pub extern "C" fn hk_two_event<'a>(
     part: &mut &'a [u8],
 ) -> u8
     ensures { AnswersImage (lent_two full.now high.now serial.now)
-        (spots_two (spot_of full.entry.ptr) (spot_of high.entry.ptr) (spot_of serial.entry.ptr)) image.old (numbered kind value setup.now)
-        result image.new bytes.new count.new part.new.now (spot_of part.new.ptr) }
+        (spots_two (spot_of full.entry.ref_ptr) (spot_of high.entry.ref_ptr) (spot_of serial.entry.ref_ptr)) image.old (numbered kind value setup.now)
+        result image.new bytes.new count.new part.new.now (spot_of part.new.ref_ptr) }
 {
     let number = opened(full, high, serial);
     let set = steps::in_use(full, high, octets::peek(image, 7));
@@ -70,8 +70,8 @@ fn image_event<'a>(
 ) -> u8
     requires { length image.old ≡ 32 }
     ensures { AnswersRecordEvent (lent_two full.now high.now serial.now)
-        (spots_two (spot_of full.entry.ptr) (spot_of high.entry.ptr) (spot_of serial.entry.ptr)) (device_of image.old) (numbered kind value setup.now)
-        result (device_of image.new) bytes.new count.new part.new.now (spot_of part.new.ptr) }
+        (spots_two (spot_of full.entry.ref_ptr) (spot_of high.entry.ref_ptr) (spot_of serial.entry.ref_ptr)) (device_of image.old) (numbered kind value setup.now)
+        result (device_of image.new) bytes.new count.new part.new.now (spot_of part.new.ref_ptr) }
 {
     let number = opened(full, high, serial);
     let set = steps::in_use(full, high, octets::peek(image, 7));
@@ -94,8 +94,8 @@ fn record_event<'a>(
     part: &mut &'a [u8],
 ) -> u8
     ensures { AnswersRecordEvent (lent_two full.now high.now serial.now)
-        (spots_two (spot_of full.entry.ptr) (spot_of high.entry.ptr) (spot_of serial.entry.ptr)) device.old (numbered kind value setup.now)
-        result device.new bytes.new count.new part.new.now (spot_of part.new.ptr) }
+        (spots_two (spot_of full.entry.ref_ptr) (spot_of high.entry.ref_ptr) (spot_of serial.entry.ref_ptr)) device.old (numbered kind value setup.now)
+        result device.new bytes.new count.new part.new.now (spot_of part.new.ref_ptr) }
 {
     let mut image = [0u8; 32];
     records::store(*device, &mut image[..]);
@@ -131,8 +131,8 @@ pub extern "C" fn hk_two_port_event<'a>(
     part: &mut &'a [u8],
 ) -> u8
     ensures { AnswersPortEvent (lent_two full.now high.now serial.now)
-        (spots_two (spot_of full.entry.ptr) (spot_of high.entry.ptr) (spot_of serial.entry.ptr)) row.old port (numbered kind value setup.now)
-        result row.new bytes.new count.new part.new.now (spot_of part.new.ptr) }
+        (spots_two (spot_of full.entry.ref_ptr) (spot_of high.entry.ref_ptr) (spot_of serial.entry.ref_ptr)) row.old port (numbered kind value setup.now)
+        result row.new bytes.new count.new part.new.now (spot_of part.new.ref_ptr) }
 {
     if row.len() <= port {
         return numbers::no_port(full, serial, bytes, count, part);
@@ -162,8 +162,8 @@ pub extern "C" fn hk_two_endpoint<'a>(
     descriptor: &mut &'a [u8],
 ) -> u8
     ensures { GivesEndpoint (lent_two full.now high.now serial.now)
-        (spots_two (spot_of full.entry.ptr) (spot_of high.entry.ptr) (spot_of serial.entry.ptr)) image.now number
-        result descriptor.new.now (spot_of descriptor.new.ptr) }
+        (spots_two (spot_of full.entry.ref_ptr) (spot_of high.entry.ref_ptr) (spot_of serial.entry.ref_ptr)) image.now number
+        result descriptor.new.now (spot_of descriptor.new.ref_ptr) }
 {
     let opening = pairs::opening_two(full, high, serial);
     let set = steps::in_use(full, high, octets::peek(image, 7));

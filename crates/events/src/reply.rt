@@ -60,8 +60,8 @@ pub fn bytes_of(answer: Answer) -> Handed
 pub fn part<'a>(first: &'a [u8], used: &'a [u8], serial: &'a [u8], answer: Answer) -> &'a [u8]
     requires { Inside first.now used.now serial.now (part_of answer) }
     ensures bytes { result.now ≡ bytes_in first.now used.now serial.now (part_of answer) }
-    ensures block { result.ref_ptr.0 ≡ in_block first.entry.ptr.0 used.entry.ptr.0 serial.entry.ptr.0 (part_of answer).block }
-    ensures offset { result.ref_ptr.1 ≡ in_block first.entry.ptr.1 used.entry.ptr.1 serial.entry.ptr.1 (part_of answer).block + (part_of answer).offset }
+    ensures block { result.ref_ptr.0 ≡ in_block first.entry.ref_ptr.0 used.entry.ref_ptr.0 serial.entry.ref_ptr.0 (part_of answer).block }
+    ensures offset { result.ref_ptr.1 ≡ in_block first.entry.ref_ptr.1 used.entry.ref_ptr.1 serial.entry.ref_ptr.1 (part_of answer).block + (part_of answer).offset }
 {
     match answer {
         Answer::SetPart { offset, length } => {

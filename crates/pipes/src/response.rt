@@ -89,7 +89,7 @@ pub fn part_sent<'a>(
     order: u8,
     next: Transfer,
 ) -> &'a [u8]
-    ensures { HandsPiece first.now used.now serial.now reply.now first.entry.ptr used.entry.ptr serial.entry.ptr reply.entry.ptr
+    ensures { HandsPiece first.now used.now serial.now reply.now first.entry.ref_ptr used.entry.ref_ptr serial.entry.ref_ptr reply.entry.ref_ptr
         (sent (lengths_in used.now serial.now reply.now) order next) result.now result.ref_ptr }
 {
     let lengths = Lengths {

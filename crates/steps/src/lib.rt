@@ -31,8 +31,8 @@ pub fn opening(set: &[u8], serial: &[u8]) -> u8
 // The set in use, of two: byte 7 of the record says which. It is no copy.
 pub fn in_use<'a>(full: &'a [u8], high: &'a [u8], speed: u8) -> &'a [u8]
     ensures bytes { result.now ≡ pick (eqb speed 0) full.now high.now }
-    ensures block { result.ref_ptr.0 ≡ pick (eqb speed 0) full.entry.ptr.0 high.entry.ptr.0 }
-    ensures offset { result.ref_ptr.1 ≡ pick (eqb speed 0) full.entry.ptr.1 high.entry.ptr.1 }
+    ensures block { result.ref_ptr.0 ≡ pick (eqb speed 0) full.entry.ref_ptr.0 high.entry.ref_ptr.0 }
+    ensures offset { result.ref_ptr.1 ≡ pick (eqb speed 0) full.entry.ref_ptr.1 high.entry.ref_ptr.1 }
 {
     if speed == records::SPEED_FULL {
         return full;
