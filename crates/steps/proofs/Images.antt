@@ -1,6 +1,7 @@
 -- The record of an image: its size after a change, and the reaction at it, of 32 bytes and of any length. No axiom.
 use Rattle.octets.proofs.Vocabulary.{◌≡◌, refl, ap, ◌∙◌, ℕ, List, Bool, true, false, length, set, length-set, eqb, ltb, arith, length_unmapped, eq-eqb}
-use Rattle.octets.proofs.Walking.{Val, Is}
+use mir.Val.{Val}
+use denote.Laws.{Is}
 use denote.Struct.Laws as LL
 use denote.Enum.Laws as EL
 use Rattle.octets.specs.Sentences.{pick}

@@ -3,4 +3,3 @@ pub mod Telling
 pub mod Steps
 pub mod Images
 pub mod EndpointParts
-pub mod LentSettings

@@ -4,7 +4,7 @@ use types.Logic.{Logic, sem}
 use denote.Slice.{shr_slice_vals}
 use denote.Ref.{Bor, shr_vals}
 use Rattle.octets.proofs.Vocabulary.{◌≡◌, refl, sym, ap, subst, ◌∙◌, ℕ, zero, ◌<◌, ◌^◌, [], ◌∷◌, List, map, length, get_or, T, lit<}
-use Rattle.octets.proofs.Walking.{Ura, full_share, named, w8, Ty, ty_bool, ty_unit, Local, local, Val, vint, vptr, vunit, has_ty, WT, SProp, ent, sep, ex, id⊢, GName, Lft, Share, Fml, ftrue, flft, fres, flent, fobs, fbor, fat, froom, fdies, Memory, Routine, Env, Calls, Loops, WpFn, Tables, sem, Fun, fact, Lfts, Shares, tables, tables_of, Item, Sq, runs, at_ret, ‵, raw, ◌⊛◌, ⋆, some, later, ◌$◌, ◌∵◌, !, qed, by, move, keep, drop, use1, use2, use3, split, split3, join, pick, show, rewrite, fsplit, fsplit3, fjoin, fjoin3, feq_l, feq_i, suffices, frame, await, done, lft_new, lft_end, lent_back, look, look_raw, store, init, forget, stop, hop, from, load, lit, of_opd, addr, and_then, no_more, assigns, land, returns, enter, alloc1, alloc0, params1, pass1, pass0, free1, free0, agg, rep, Arr, Body, cells, FmC, fm_of, WpFn-mono, owns, Is, shows, mem, part_at, Array, Array-Lawful, Array-repeat, u8, unit, uint_vals, uint_Tells, uint_Makes, uint_copy, uint_Lawful, RefT, MutRef, ShrRef, ptr-vals, mut_Tells, Slot, plain, shr_slice_of, slice_val, slice-vals, MutSlice, ShrSlice, Room, finally, shr_slice_Tells, Held, lends_slice, slice_back, lends_shr, opens, closes, owned, peeks, facts, heard, nothing, only, spelt, on_entry, Meets, triple_of, Contract, Triple, calls_at, Lasts, ensured, lasts, entered, cited, says, needs, Stays, stay_dropped, gave_ref, walk_of, AllGo, Goes, Silent, Goes-dropped, Goes-gave_ref, Walks, ends_at, walked, walk_Meets, yes}
+use Rattle.octets.proofs.Walking.{Ura, full_share, named, w8, Ty, ty_bool, ty_unit, Local, local, Val, vint, vptr, vunit, has_ty, WT, SProp, ent, sep, ex, id⊢, GName, Lft, Share, Fml, ftrue, flft, fres, flent, fobs, fbor, fat, froom, fdies, Memory, Routine, Env, Calls, Loops, WpFn, Tables, sem, Fun, fact, Lfts, Shares, tables, tables_of, Item, Sq, runs, at_ret, ‵, raw, ◌⊛◌, ⋆, some, later, ◌$◌, ◌∵◌, !, qed, by, move, keep, drop, use1, use2, use3, split, split3, join, pick, show, rewrite, fsplit, fsplit3, fjoin, fjoin3, feq_l, feq_i, suffices, frame, await, done, lft_new, lft_end, lent_back, look, look_raw, store, init, forget, stop, hop, from, load, lit, of_opd, addr, and_then, no_more, assigns, land, returns, enter, alloc1, alloc0, params1, pass1, pass0, free1, free0, agg, rep, Arr, Body, cells, FmC, fm_of, WpFn-mono, owns, Is, shows, mem, part_at, Array, Array-Lawful, Array-repeat, u8, unit, uint_vals, uint_Tells, uint_Makes, uint_copy, uint_Lawful, MutRef, ShrRef, mut_Tells, Slot, plain, shr_slice_of, slice_val, MutSlice, ShrSlice, Room, finally, shr_slice_Tells, Held, lends_slice, slice_back, lends_shr, opens, closes, owned, peeks, facts, heard, nothing, only, spelt, on_entry, Meets, triple_of, Contract, Triple, calls_at, Lasts, ensured, lasts, entered, cited, says, Stays, stay_dropped, gave_ref, walk_of, AllGo, Goes, Silent, Goes-dropped, Goes-gave_ref, Walks, ends_at, walked, walk_Meets, yes}
 use denote.Struct.Laws as LL
 use denote.Enum.Laws as EL
 use Rattle.sets.specs.Opening.{Board, lent as lending}
@@ -41,6 +41,7 @@ use Rattle.steps.specs.contracts.step_lent as lent
 use Rattle.steps.proofs.step_lent.Statement as stated
 use Rattle.steps.proofs.step_lent.Code as code
 use Rattle.steps.proofs.step_lent.Code.Mir as bodies
+use Rattle.steps.proofs.step_lent.Goals as goal
 
 -- the locals' types
 abbrev ty_of : Local → Ty

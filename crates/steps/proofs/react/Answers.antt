@@ -1,0 +1,24 @@
+-- `steps::react` meets its contract: the reaction at the record of the image, and the image renewed. No axiom.
+use Rattle.octets.proofs.Vocabulary.{◌∙◌, arith}
+use Rattle.records.specs.Image.{device_of}
+use Rattle.records.proofs.Image.{device-sized}
+use Rattle.steps.proofs.Images.{after-sized, answered, left_behind, replied}
+use Rattle.steps.proofs.react.Goals as goal
+
+pub reaction_to-reaction-requires : goal.reaction_to-reaction-requires
+reaction_to-reaction-requires c = c.requires
+
+pub returns : goal.returns
+returns c =
+    let a = c.args in
+    let image = a.image.now in
+    let known = c.slice_known-1.given in
+    let r = c.reaction_to-reaction in
+    let left = c.renew.ensures in (
+      (λ v h. answered a.opening v image a.event r.result (r.ensures v h)),
+      (
+        (λ v h. left ∙ left_behind a.opening v image a.event r.result (r.ensures v h)),
+        (λ v h long. let sized = after-sized r.result.settles r.result.next _ r.type_inv.1.1.1.1.0 (device_of image) (device-sized image long (λ i. omega (arith, known i))) in
+            rw left (replied a.opening v image a.event r.result long sized (r.ensures v h))),
+      ),
+    )
