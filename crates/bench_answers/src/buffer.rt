@@ -14,6 +14,6 @@ fn is_untouched(bytes: &[u8]) -> bool {
 
 // Whether a buffer has what was wanted at its start, and behind it what was there before.
 pub fn is_good(out: &[u8], wanted: &[u8]) -> bool {
-    let start = check::same(buffers::head(out, wanted.len()), wanted);
+    let start = buffers::head(out, wanted.len()) == wanted;
     start & is_untouched(buffers::tail(out, wanted.len()))
 }

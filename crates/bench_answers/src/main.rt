@@ -6,8 +6,6 @@
 
 ghost use Rattle.std.specs.Prelude.{◌≤◌, ◌≡◌, length};
 
-use libc::STDIN_FILENO;
-
 mod buffer;
 mod explain;
 mod makers;
@@ -16,40 +14,51 @@ mod report;
 mod runs;
 mod words;
 
+use std::io;
+use std::io::Read;
+
 // The operations, each by its letter; a heading alone has none.
-fn work<'a>(operation: u8, serial: &'a [u8], given: &'a [u8], wanted: &[u8], out: &mut [u8]) {
+fn work<'a>(
+    rt: &impl Print,
+    operation: u8,
+    serial: &'a [u8],
+    given: &'a [u8],
+    wanted: &[u8],
+    out: &mut [u8],
+) -> io::Result<()> {
     match operation {
-        b'l' => makers::list(given, serial, descriptors::limits::full_speed()),
-        b's' => makers::list(given, serial, descriptors::limits::super_speed()),
-        b'w' => makers::write(serial, given, wanted, out),
-        b'i' => makers::import(given, wanted, out),
-        b'e' => makers::export(serial, given, wanted, out),
-        b't' => makers::trim(serial, given, wanted, out),
-        b'r' => runs::run(given, serial, wanted),
-        b'p' => replay::replay(given, serial, wanted),
-        _ => (),
+        b'l' => makers::list(rt, given, serial, descriptors::limits::full_speed()),
+        b's' => makers::list(rt, given, serial, descriptors::limits::super_speed()),
+        b'w' => makers::write(rt, serial, given, wanted, out),
+        b'i' => makers::import(rt, given, wanted, out),
+        b'e' => makers::export(rt, serial, given, wanted, out),
+        b't' => makers::trim(rt, serial, given, wanted, out),
+        b'r' => runs::run(rt, given, serial, wanted),
+        b'p' => replay::replay(rt, given, serial, wanted),
+        _ => Ok(()),
     }
 }
 
 // Does what the record at the start of a buffer asks.
-fn run(question: &[u8]) {
+fn run(rt: &impl Print, question: &[u8]) -> io::Result<()> {
     let serial_at = 10 + octets::peek(question, 1) as usize;
     let given_at = serial_at + octets::word(question, 2) as usize;
     let wanted_at = given_at + octets::word(question, 4) as usize;
     let end = wanted_at + octets::word(question, 6) as usize;
     let room = octets::word(question, 8) as usize;
     if question.len() < end {
-        return;
+        return Ok(());
     }
-    files::say(&question[10..serial_at]);
+    files::say(rt, &question[10..serial_at])?;
     let mut out = [buffer::FILLER; 65536];
     work(
+        rt,
         octets::peek(question, 0),
         &question[serial_at..given_at],
         &question[given_at..wanted_at],
         &question[wanted_at..end],
         &mut out[0..room],
-    );
+    )
 }
 
 // A record's size, by its first ten bytes.
@@ -63,20 +72,20 @@ fn size_of(head: &[u8]) -> usize
 }
 
 // Reads the next record, and gives its size: 0 at the stream's end, and where a record is cut short or longer than what is lent.
-fn read_question(question: &mut [u8]) -> usize
+fn read_question(input: &mut impl Read, question: &mut [u8]) -> usize
     ensures { (result ≤ length question.new) × (length question.new ≡ length question.old) }
 {
     if question.len() < 10 {
         return 0;
     }
-    if io::read_full(STDIN_FILENO, &mut question[0..10]) < 10 {
+    if files::fill(input, &mut question[0..10]) < 10 {
         return 0;
     }
     let end = size_of(question);
     if question.len() < end {
         return 0;
     }
-    if io::read_full(STDIN_FILENO, &mut question[10..end]) < end - 10 {
+    if files::fill(input, &mut question[10..end]) < end - 10 {
         return 0;
     }
     end
@@ -85,18 +94,20 @@ fn read_question(question: &mut [u8]) -> usize
 // No more records are read than that, so that the program ends whatever it is given.
 const MOST_RECORDS: u32 = 1000000;
 
-fn run_all(question: &mut [u8]) {
+fn run_all(rt: &(impl Input + Print), question: &mut [u8]) -> io::Result<()> {
+    let mut input = rt.reader();
     let mut left = MOST_RECORDS;
     while left > 0 {
-        if read_question(question) == 0 {
-            return;
+        if read_question(&mut input, question) == 0 {
+            return Ok(());
         }
-        run(question);
+        run(rt, question)?;
         left -= 1;
     }
+    Ok(())
 }
 
-fn main() {
+fn main(rt: HostRuntime) -> io::Result<()> {
     let mut question = [0u8; 65536];
-    run_all(&mut question);
+    run_all(&rt, &mut question)
 }

@@ -2,6 +2,7 @@
 use crate::report;
 use events::{Answer, Event};
 use records::Device;
+use std::io;
 
 // The bytes of an answer's part.
 fn part_of<'a>(set: &'a [u8], serial: &'a [u8], answer: Answer) -> &'a [u8] {
@@ -19,51 +20,65 @@ fn part_of<'a>(set: &'a [u8], serial: &'a [u8], answer: Answer) -> &'a [u8] {
 
 // Replays one transfer, its status stage included, and gives the record that it leaves.
 fn replay_one<'a>(
+    rt: &impl Print,
     set: &'a [u8],
     serial: &'a [u8],
     device: Device,
     setup: &[u8],
     how: u8,
     recorded: &[u8],
-) -> Device {
+) -> io::Result<Device> {
     let outcome = steps::step(set, serial, device, events::setup_event(setup));
     let answer = outcome.answer;
     let part = part_of(set, serial, answer);
-    report::transfer(setup, answer, part, how, recorded);
+    report::transfer(rt, setup, answer, part, how, recorded)?;
     if events::reply::number(answer) != 0 {
-        return outcome.device;
+        return Ok(outcome.device);
     }
     let ended = steps::step(set, serial, outcome.device, Event::StatusEnd);
-    ended.device
+    Ok(ended.device)
 }
 
 // Replays the transfers on a fresh record. A transfer is eight setup bytes, a byte that says how it went, the size of the recorded
 // answer (two bytes) and the answer.
-fn replay_all<'a>(set: &'a [u8], serial: &'a [u8], transfers: &[u8]) {
+fn replay_all<'a>(
+    rt: &impl Print,
+    set: &'a [u8],
+    serial: &'a [u8],
+    transfers: &[u8],
+) -> io::Result<()> {
     let mut device = records::fresh();
     let mut at = 0;
     while at < transfers.len() {
         let rest = &transfers[at..];
         let size = 11 + octets::word(rest, 9) as usize;
         if rest.len() < size {
-            return;
+            return Ok(());
         }
         device = replay_one(
+            rt,
             set,
             serial,
             device,
             &rest[0..8],
             octets::peek(rest, 8),
             &rest[11..size],
-        );
+        )?;
         at += size;
     }
+    Ok(())
 }
 
-pub fn replay<'a>(set: &'a [u8], serial: &'a [u8], transfers: &[u8]) {
+pub fn replay<'a>(
+    rt: &impl Print,
+    set: &'a [u8],
+    serial: &'a [u8],
+    transfers: &[u8],
+) -> io::Result<()> {
     let number = steps::opening(set, serial);
-    report::opened(number);
+    report::opened(rt, number)?;
     if number == 0 {
-        replay_all(set, serial, transfers);
+        replay_all(rt, set, serial, transfers)?;
     }
+    Ok(())
 }

@@ -1,19 +1,20 @@
 // Bytes, as the answers have them.
 use files::say;
-use libc::STDOUT_FILENO;
+use std::io;
 
-fn say_byte(byte: u8) {
-    io::print_hex(STDOUT_FILENO, byte as u64, 2);
+fn say_byte(rt: &impl Print, byte: u8) -> io::Result<()> {
+    print!(rt; "{byte:02x}")
 }
 
 // The first bytes, in hexadecimal; two points stand for what is left out.
-pub fn say_bytes(bytes: &[u8], most: usize) {
+pub fn say_bytes(rt: &impl Print, bytes: &[u8], most: usize) -> io::Result<()> {
     let mut k = 0;
     while k < bytes.len() {
         if k == most {
-            return say(b"..");
+            return say(rt, b"..");
         }
-        say_byte(bytes[k]);
+        say_byte(rt, bytes[k])?;
         k += 1;
     }
+    Ok(())
 }

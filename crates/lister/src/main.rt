@@ -2,23 +2,29 @@
 #![tactic(auto)]
 
 use descriptors::limits::Limits;
-use libc::STDOUT_FILENO;
+use std::env::Env;
+use std::io;
 
 // The limits of the set that was asked for.
-fn limits() -> Limits {
-    if files::is_argument(1, b"super") {
+fn limits(rt: &impl Env) -> Limits {
+    if files::is_argument(rt, 1, b"super") {
         return descriptors::limits::super_speed();
     }
     descriptors::limits::full_speed()
 }
 
-fn main() {
+fn main(rt: HostRuntime) -> io::Result<()> {
     // One byte more than any set or serial block may have: a longer file is refused too.
     let mut set = [0u8; 16385];
     let mut serial = [0u8; 255];
     let mut out = [0u8; listing::ROOM];
-    let set_size = files::read(b"set.bin", &mut set);
-    let serial_size = files::read(b"unit.bin", &mut serial);
-    let size = listing::list(&set[..set_size], &serial[..serial_size], limits(), &mut out);
-    io::write_all(STDOUT_FILENO, &out[..size]);
+    let set_size = files::read(&rt, "set.bin", &mut set);
+    let serial_size = files::read(&rt, "unit.bin", &mut serial);
+    let size = listing::list(
+        &set[..set_size],
+        &serial[..serial_size],
+        limits(&rt),
+        &mut out,
+    );
+    files::say(&rt, &out[..size])
 }

@@ -4,6 +4,8 @@ ghost use Rattle.std.specs.Prelude.{◌<◌, ◌≤◌, length};
 use crate::told::DEVICE_BROKEN;
 use files::{say, tell};
 use set_writer::LONGEST_SET;
+use std::fs::Files;
+use std::io;
 
 // How many bytes the body at a place says it has.
 fn size_at(dump: &[u8], at: usize) -> usize
@@ -27,22 +29,22 @@ fn next(dump: &[u8], at: usize) -> usize
     at + size
 }
 
-fn say_body(n: usize, at: usize, what: &[u8]) {
-    tell(b"    configuration ", n, b" at byte ");
-    tell(b"", at, what);
+fn say_body(rt: &impl Print, n: usize, at: usize, what: &[u8]) -> io::Result<()> {
+    tell(rt, b"    configuration ", n, b" at byte ")?;
+    tell(rt, b"", at, what)
 }
 
 // 23: the body that does not end where its wTotalLength says. 21: the body that breaks a rule by itself.
-fn tell_body(dump: &[u8], n: usize, at: usize, number: u8) {
+fn tell_body(rt: &impl Print, dump: &[u8], n: usize, at: usize, number: u8) -> io::Result<()> {
     let size = size_at(dump, at);
     let left = buffers::tail(dump, at).len();
     if number == dumps::import::DUMP_BROKEN {
         if (size < 9) | (left < size) {
-            say_body(n, at, b" says wTotalLength ");
-            tell(b"", size, b", and ");
-            tell(b"", left, b" bytes are left\n");
+            say_body(rt, n, at, b" says wTotalLength ")?;
+            tell(rt, b"", size, b", and ")?;
+            tell(rt, b"", left, b" bytes are left\n")?;
         }
-        return;
+        return Ok(());
     }
     let body = buffers::head(buffers::tail(dump, at), size);
     let verdict = descriptors::check::good_configuration(
@@ -51,44 +53,52 @@ fn tell_body(dump: &[u8], n: usize, at: usize, number: u8) {
         &[0; 8],
     );
     if !verdict.good {
-        say_body(n, at, b" breaks a rule by itself at full speed\n");
+        say_body(rt, n, at, b" breaks a rule by itself at full speed\n")?;
     }
+    Ok(())
 }
 
-fn tell_bodies(dump: &[u8], number: u8) {
+fn tell_bodies(rt: &impl Print, dump: &[u8], number: u8) -> io::Result<()> {
     let mut n = 1;
     let mut at = 18;
     while at < dump.len() {
-        tell_body(dump, n, at, number);
+        tell_body(rt, dump, n, at, number)?;
         at = next(dump, at);
         n += 1;
     }
+    Ok(())
 }
 
-fn refused(dump: &[u8], number: u8, opening: u8) {
-    files::tell_refused(number, opening);
+fn refused(rt: &impl Print, dump: &[u8], number: u8, opening: u8) -> io::Result<()> {
+    files::tell_refused(rt, number, opening)?;
     if dump.len() <= 18 {
-        return say(b"    a device descriptor of 18 bytes and a configuration are not there\n");
+        return say(
+            rt,
+            b"    a device descriptor of 18 bytes and a configuration are not there\n",
+        );
     }
     if (opening == DEVICE_BROKEN) | (dump.len() > LONGEST_SET) {
-        return say(b"    the device descriptor, or the whole, is none of a full-speed device\n");
+        return say(
+            rt,
+            b"    the device descriptor, or the whole, is none of a full-speed device\n",
+        );
     }
-    tell_bodies(dump, number);
+    tell_bodies(rt, dump, number)
 }
 
-fn import(dump: &[u8]) {
+fn import(rt: &(impl Files + Print + Eprint), dump: &[u8]) -> io::Result<()> {
     let mut set = [0u8; LONGEST_SET];
     let report = dumps::import::import(dump, &mut set);
     if report.number == 0 {
         let size = set_writer::length_written(report.number, &set) as usize;
-        return files::write(b"set.bin", buffers::head(&set, size));
+        return files::write(rt, "set.bin", buffers::head(&set, size));
     }
-    refused(dump, report.number, report.opening);
+    refused(rt, dump, report.number, report.opening)
 }
 
-pub fn run() {
+pub fn run(rt: &(impl Files + Print + Eprint)) -> io::Result<()> {
     // Linux shows at most 65,553 bytes: the device and one configuration of the greatest length are less.
     let mut dump = [0u8; 131072];
-    let size = files::read(b"descriptors", &mut dump);
-    import(&dump[..size]);
+    let size = files::read(rt, "descriptors", &mut dump);
+    import(rt, &dump[..size])
 }

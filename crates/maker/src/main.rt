@@ -14,34 +14,45 @@ mod told;
 mod trim;
 mod write;
 
+use std::env::Env;
+use std::fs::Files;
+use std::io;
+
 // The words that take a set and its serial block.
-fn work_on_set(set: &mut [u8], serial: &[u8]) {
-    if files::is_argument(1, b"export") {
-        return export::export(set, serial);
+fn work_on_set(
+    rt: &(impl Env + Files + Print + Eprint),
+    set: &mut [u8],
+    serial: &[u8],
+) -> io::Result<()> {
+    if files::is_argument(rt, 1, b"export") {
+        return export::export(rt, set, serial);
     }
-    if files::is_argument(1, b"trim") {
-        return trim::trim(set, serial);
+    if files::is_argument(rt, 1, b"trim") {
+        return trim::trim(rt, set, serial);
     }
-    if files::is_argument(1, b"explain") {
-        return explain::explain(set, serial);
+    if files::is_argument(rt, 1, b"explain") {
+        return explain::explain(rt, set, serial);
     }
-    files::say(b"maker write [super] | import | export | trim | explain [super | pair]\n");
+    files::say(
+        rt,
+        b"maker write [super] | import | export | trim | explain [super | pair]\n",
+    )
 }
 
-fn main() {
-    if files::is_argument(1, b"write") {
-        return write::run();
+fn main(rt: HostRuntime) -> io::Result<()> {
+    if files::is_argument(&rt, 1, b"write") {
+        return write::run(&rt);
     }
-    if files::is_argument(1, b"import") {
-        return import::run();
+    if files::is_argument(&rt, 1, b"import") {
+        return import::run(&rt);
     }
-    if files::is_argument(1, b"explain") && files::is_argument(2, b"pair") {
-        return explain::run_pair();
+    if files::is_argument(&rt, 1, b"explain") && files::is_argument(&rt, 2, b"pair") {
+        return explain::run_pair(&rt);
     }
     // One byte more than any set, and more than any serial block may have: a longer file breaks a rule too.
     let mut set = [0u8; 16385];
     let mut serial = [0u8; 256];
-    let size = files::read(b"set.bin", &mut set);
-    let serial_size = files::read(b"unit.bin", &mut serial);
-    work_on_set(&mut set[..size], &serial[..serial_size]);
+    let size = files::read(&rt, "set.bin", &mut set);
+    let serial_size = files::read(&rt, "unit.bin", &mut serial);
+    work_on_set(&rt, &mut set[..size], &serial[..serial_size])
 }
