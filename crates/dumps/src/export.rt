@@ -57,7 +57,7 @@ pub fn export(set: &[u8], serial: &[u8], out: &mut [u8]) -> Dumped
             written: 0,
         };
     }
-    bytes::copy(&set[start..start + size], out);
+    out[0..size].copy_from_slice(&set[start..start + size]);
     let written = size as u16;
     Dumped { number: 0, written }
 }

@@ -1,10 +1,10 @@
 -- What the writer answers, case by case, in the terms of its contract. No axiom.
-use Rattle.octets.proofs.Vocabulary.{◌≡◌, refl, sym, ◌∙◌, ℕ, ◌+◌, ◌-◌, ◌*◌, ◌≤◌, ◌<◌, List, ◌++◌, Bool, true, false, length, take, drop, length-take, eqb, ltb, sets-eq, take_at, take-length, arith, sub-zero, ne_eqb, eq-eqb, lt-ltb, le-ltb}
+use Rattle.octets.proofs.Vocabulary.{◌≡◌, refl, sym, ◌∙◌, ℕ, ◌+◌, ◌-◌, ◌*◌, ◌≤◌, ◌<◌, List, ◌++◌, Bool, true, false, length, take, drop, length-take, eqb, ltb, sets-eq, take_at, arith, sub-zero, lt-ltb, le-ltb}
 use Rattle.octets.specs.Octets.{word}
 use Rattle.octets.specs.Sentences.{pick}
 use Rattle.octets.proofs.Sentences.{or_left, or_right}
 use Rattle.descriptors.specs.declared.limits.Limits.{Limits}
-use Rattle.sets.specs.Opening.{lent, opening}
+use Rattle.sets.specs.Opening.{opening}
 use Rattle.set_writer.specs.declared.pieces.Counted.TheVariants.{Broken, Pieces}
 use Rattle.set_writer.specs.Writer.{ends, pieces, sorted, laid_length, laid, set_of, too_large, Filled}
 use Rattle.sets.specs.Pieces.{Piece}
@@ -18,17 +18,6 @@ use Rattle.set_writer.specs.Reported.{length_written, Handed, Reported}
 
 abbrev pub answer : ℕ → ℕ → Report
 answer number opening = record { number = number; opening = opening }
-
--- ---- handing over
-module _ (limits : Limits) (set serial out : List ℕ) (n : ℕ) (e : n ≡ opening limits (lent set serial)) where
-  pub refused : (n ≡ 0 → ⊥) → Handed limits set serial out out (answer 21 n)
-  refused h = record { fills = record { number = sym (rw (← e, ne_eqb n 0 h)); bytes = refl }; why = e }
-
-  pub short : (n ≡ 0) → length out < length set → Handed limits set serial out out (answer 22 n)
-  short h l = record { fills = record { number = sym (rw (← e, eq-eqb n 0 h, lt-ltb (length out) (length set) l)); bytes = refl }; why = e }
-
-  pub given : (n ≡ 0) → length set ≤ length out → {after : List ℕ} → after ≡ take (length set) set ++ drop (length set) out → Handed limits set serial out after (answer 0 n)
-  given h l p = record { fills = record { number = sym (rw (← e, eq-eqb n 0 h, le-ltb (length out) (length set) l)); bytes = p ∙ rw take-length }; why = e }
 
 -- ---- building
 module _ (stream : List ℕ) (n : ℕ) (e : n ≡ length (pieces stream)) (order : List ℕ) (p : pieces_at stream (take (length (pieces stream)) order) ≡ sorted (pieces stream)) where
@@ -48,13 +37,6 @@ module _ (stream : List ℕ) (n : ℕ) (e : n ≡ length (pieces stream)) (order
 
 -- ---- the whole
 module _ (stream : List ℕ) where
-  pub broken : count_of stream ≡ Broken → ends stream ≡ false
-  broken p = go (ends stream) p
-    where
-      go : (b : Bool) → pick b (Pieces (length (pieces stream))) Broken ≡ Broken → b ≡ false
-      go true q = let z : ◌≡◌ {A = ℕ} 0 1 = cc in absurd (omega arith)
-      go false q = refl
-
   pub whole : (n : ℕ) → count_of stream ≡ Pieces n → (ends stream ≡ true) × (n ≡ length (pieces stream))
   whole n p = go (ends stream) p
     where
@@ -66,9 +48,6 @@ module _ (stream : List ℕ) where
   set-length p = laid-length (sorted (pieces stream)) ∙ set-size stream p
 
   module _ (limits : Limits) (serial out : List ℕ) where
-    pub not-whole : ends stream ≡ false → Reported limits stream serial out out (answer 20 0)
-    not-whole p = record { fills = record { number = sym (rw p); bytes = refl }; why = sym (rw p) }
-
     module _ (p : ends stream ≡ true) where
       over : too_large stream ≡ true → Reported limits stream serial out out (answer 21 0)
       over q = record { fills = record { number = sym (rw (p, q)); bytes = refl }; why = sym (rw (p, q)) }

@@ -48,7 +48,7 @@ fn hand_over(set: &[u8], serial: &[u8], limits: Limits, out: &mut [u8]) -> Repor
     if out.len() < set.len() {
         return answer(BUFFER_TOO_SHORT, opening);
     }
-    bytes::copy(set, out);
+    out[0..set.len()].copy_from_slice(set);
     answer(0, opening)
 }
 

@@ -135,7 +135,7 @@ fn rebuild(set: &mut [u8], names: &[u32; 8], zero: bool)
 {
     let front = 4 + 8 * (octets::peek(set, 2) as usize);
     let mut contents = [0u8; LONGEST_FRONT];
-    bytes::copy(&set[0..front], &mut contents);
+    contents[0..front].copy_from_slice(&set[0..front]);
     let count = count_kept(&contents, names, zero);
     let start = 4 + 8 * count;
     let next = put_contents(set, 4, start, &contents, names, zero);
