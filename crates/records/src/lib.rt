@@ -5,7 +5,7 @@ ghost use Rattle.std.specs.Prelude.{◌≡◌, false, ◌<◌, length};
 ghost use Rattle.descriptors.specs.declared.survey.Asked.{Asked};
 ghost use Rattle.descriptors.specs.Survey.{Surveys};
 ghost use Rattle.sets.specs.View.{View, has_value, wakes};
-ghost use Rattle.records.specs.Device.{fresh, settled, test_waits};
+ghost use Rattle.records.specs.Device.{Sized, fresh, settled, test_waits};
 ghost use Rattle.records.specs.Image.{four_bytes, bytes_of_four, device_of, image_of};
 ghost use Rattle.records.specs.Change.{valued, misfit, record_in};
 ghost use Rattle.records.specs.Fits.{in_range, good_waiting, good_state, fits};
@@ -211,7 +211,8 @@ fn store_four(n: u32, bytes: &mut [u8])
 // The record's image.
 pub fn store(device: Device, image: &mut [u8])
     requires { length image.old ≡ 32 }
-    ensures { image.new ≡ image_of device }
+    ensures written { image.new ≡ image_of device }
+    ensures sized { Sized device }
 {
     let front = [
         device.state,

@@ -1,8 +1,7 @@
 -- The record of an image: its size after a change, and the reaction at it, of 32 bytes and of any length. No axiom.
-use Rattle.octets.proofs.Vocabulary.{◌≡◌, refl, ap, ◌∙◌, ℕ, List, Bool, true, false, length, set, length-set, eqb, ltb, arith, length_unmapped, eq-eqb}
+use Rattle.octets.proofs.Vocabulary.{◌≡◌, refl, ap, ◌∙◌, ℕ, List, Bool, true, false, length, set, length-set, eqb, ltb, arith, eq-eqb}
 use mir.Val.{Val}
 use denote.Laws.{Is}
-use denote.Struct.Laws as LL
 use denote.Enum.Laws as EL
 use Rattle.octets.specs.Sentences.{pick}
 use Rattle.sets.specs.View.{View}
@@ -14,8 +13,6 @@ use Rattle.records.specs.Image.{device_of, image_of}
 use Rattle.records.specs.Fits.{fits}
 use Rattle.records.specs.Change.{with_setting, changed, settled_if, after, misfit, record_in, renewed}
 use Rattle.records.proofs.Image.{device-image}
-use Rattle.records.specs.contracts.Device as D
-use Rattle.records.proofs.Device.TheLaws as D'
 use Rattle.records.specs.contracts.Change as C
 use Rattle.records.proofs.Change.TheLaws as C'
 use Rattle.events.specs.declared.Event.{Event}
@@ -25,11 +22,6 @@ use Rattle.events.specs.declared.Outcome.{Outcome}
 use Rattle.events.specs.declared.Answer.TheVariants.{Refused}
 use Rattle.events.specs.Answer.{gives, refused}
 use Rattle.steps.specs.Gathering.{step_in, event_in}
-
--- ---- a record of the types that the code has is of the size that the code has
-pub is-sized : (d : Device) (vs : List Val) → Is D.the_row d vs → Sized d
-is-sized d vs is = let fields = (LL.owed D.the_type D'.the_laws d vs is).1.1.1.1.1.1.1.1 in
-    record { sixteen = length_unmapped ℕ d.alternates 16 fields.0.1.0.1; halts-fit = fields.1.0.1; toggles-fit = fields.1.1.0.1 }
 
 -- ---- a change of the types that the code has leaves a record of the size that the code has
 resized : (j a : ℕ) (alternates : List ℕ) → length alternates ≡ 16 → length (with_setting j a alternates) ≡ 16

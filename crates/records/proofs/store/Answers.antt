@@ -21,8 +21,8 @@ stored : (d : Device) {f a h t : List ℕ} (image : List ℕ) → length d.alter
 unfolding image_of bytes_of_four
 stored d image sixteen long p q r s = rw (p, q, r, s) (all-put (front d) d.alternates (bytes_of_four d.halts) (bytes_of_four d.toggles) image refl sixteen refl long)
 
-pub returns : goal.returns
-returns c =
+pub returns-clause-written : goal.returns-clause-written
+returns-clause-written c =
     let d = c.args.device in
     let image = c.args.image.now in
     let n : length d.alternates ≡ 16 = search rules in

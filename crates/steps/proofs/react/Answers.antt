@@ -1,5 +1,5 @@
 -- `steps::react` meets its contract: the reaction at the record of the image, and the image renewed. No axiom.
-use Rattle.octets.proofs.Vocabulary.{◌∙◌, arith}
+use Rattle.octets.proofs.Vocabulary.{◌∙◌, rules}
 use Rattle.records.specs.Image.{device_of}
 use Rattle.records.proofs.Image.{device-sized}
 use Rattle.steps.proofs.Images.{after-sized, answered, left_behind, replied}
@@ -12,13 +12,11 @@ pub returns : goal.returns
 returns c =
     let a = c.args in
     let image = a.image.now in
-    let known = c.slice_known-1.given in
     let r = c.reaction_to-reaction in
-    let left = c.renew.ensures in (
-      (λ v h. answered a.opening v image a.event r.result (r.ensures v h)),
-      (
-        (λ v h. left ∙ left_behind a.opening v image a.event r.result (r.ensures v h)),
-        (λ v h long. let sized = after-sized r.result.settles r.result.next _ r.type_inv.1.1.1.1.0 (device_of image) (device-sized image long (λ i. omega (arith, known i))) in
-            rw left (replied a.opening v image a.event r.result long sized (r.ensures v h))),
-      ),
-    )
+    let left = c.renew.ensures in
+    record {
+      answer = λ v h. answered a.opening v image a.event r.result (r.ensures v h);
+      image = λ v h. left ∙ left_behind a.opening v image a.event r.result (r.ensures v h);
+      device = λ v h long. let sized = after-sized r.result.settles r.result.next _ r.type_inv.1.1.1.1.0 (device_of image) (device-sized image long (λ i. search rules)) in
+          rw left (replied a.opening v image a.event r.result long sized (r.ensures v h));
+    }

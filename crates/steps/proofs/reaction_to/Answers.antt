@@ -16,7 +16,7 @@ returns-then-not-fits c = λ v h. let a = c.args in
     let d = read.result in
     let zero = c.if-opening-ne0.false in
     let t : Told v a.paired d a.event a.known a.sought = rw read.ensures (h zero) in
-    let fit = c.fits2.ensures v (asked_by (question_of a.event)) t.tells.surveyed t.nonzero t.tells.configured t.tells.waking t.tells.paired in
+    let fit = c.fits.ensures v (asked_by (question_of a.event)) t.tells.surveyed t.nonzero t.tells.configured t.tells.waking t.tells.paired in
     rw (c.refused-then-not-fits.ensures, ← read.ensures) (sym (record-refused a.opening v d a.event zero (sym fit ∙ c.if-not-fits.true)))
 
 pub respond-requires : goal.respond-requires
@@ -26,8 +26,8 @@ respond-requires c = let a = c.args in
     let zero = c.if-opening-ne0.false in
     let v = (c.requires zero).0 in
     let t : Told v a.paired d a.event a.known a.sought = rw read.ensures (c.requires zero).1 in
-    let fit = c.fits2.ensures v (asked_by (question_of a.event)) t.tells.surveyed t.nonzero t.tells.configured t.tells.waking t.tells.paired in
-    at-work v d (sym fit ∙ c.if-not-fits.false)
+    let fit = c.fits.ensures v (asked_by (question_of a.event)) t.tells.surveyed t.nonzero t.tells.configured t.tells.waking t.tells.paired in
+    let (w, p) = at-work v d (sym fit ∙ c.if-not-fits.false) in record { wakeup_bound = w; power_bound = p }
 
 pub returns : goal.returns
 returns c = λ v h. let a = c.args in
@@ -35,7 +35,7 @@ returns c = λ v h. let a = c.args in
     let d = read.result in
     let zero = c.if-opening-ne0.false in
     let t : Told v a.paired d a.event a.known a.sought = rw read.ensures (h zero) in
-    let fit = c.fits2.ensures v (asked_by (question_of a.event)) t.tells.surveyed t.nonzero t.tells.configured t.tells.waking t.tells.paired in
+    let fit = c.fits.ensures v (asked_by (question_of a.event)) t.tells.surveyed t.nonzero t.tells.configured t.tells.waking t.tells.paired in
     let right = sym fit ∙ c.if-not-fits.false in
     let f : TellsOf v (valued v d) d (question_of a.event) c.gather-facts.result = rw c.gather-facts.ensures t.tells in
     rw read.ensures at (c.respond.ensures v (told v d (question_of a.event) t.nonzero right f) ∙ sym (responds a.opening v d a.event zero right))

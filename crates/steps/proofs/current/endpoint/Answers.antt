@@ -24,7 +24,7 @@ returns-then-not-fits c =
     let entry = c.by_value-selected.ensures in
     let body = c.body_found-body.ensures in
     let opens = c.if-opening-ne0.false in
-    let fit = fitting a.paired a.set.now a.serial.now a.device entry body (no_zero (c.requires opens).0 (lent a.set.now a.serial.now) (c.requires opens).1) c.walk-survey.ensures c.is_found.ensures c.wakes.ensures c.fits2.ensures in
+    let fit = fitting a.paired a.set.now a.serial.now a.device entry body (no_zero (c.requires opens).0 (lent a.set.now a.serial.now) (c.requires opens).1) c.walk-survey.ensures c.is_found.ensures c.wakes.ensures c.fits.ensures in
     sym (record-refused a.opening v a.set.now a.device a.nth opens (sym fit ∙ c.if-not-fits.true))
 
 pub returns-then-device-ne-CONFIGURED : goal.returns-then-device-ne-CONFIGURED
@@ -34,7 +34,7 @@ returns-then-device-ne-CONFIGURED c =
     let entry = c.by_value-selected.ensures in
     let body = c.body_found-body.ensures in
     let opens = c.if-opening-ne0.false in
-    let fit = fitting a.paired a.set.now a.serial.now a.device entry body (no_zero (c.requires opens).0 (lent a.set.now a.serial.now) (c.requires opens).1) c.walk-survey.ensures c.is_found.ensures c.wakes.ensures c.fits2.ensures in
+    let fit = fitting a.paired a.set.now a.serial.now a.device entry body (no_zero (c.requires opens).0 (lent a.set.now a.serial.now) (c.requires opens).1) c.walk-survey.ensures c.is_found.ensures c.wakes.ensures c.fits.ensures in
     sym (none_elsewhere a.opening v a.set.now a.device a.nth opens (sym fit ∙ c.if-not-fits.false) c.if-device-ne-CONFIGURED.true)
 
 pub find-requires : goal.find-requires
@@ -58,6 +58,6 @@ returns c =
     let entry = c.by_value-selected.ensures in
     let body = c.body_found-body.ensures in
     let opens = c.if-opening-ne0.false in
-    let fit = fitting a.paired a.set.now a.serial.now a.device entry body (no_zero (c.requires opens).0 (lent a.set.now a.serial.now) (c.requires opens).1) c.walk-survey.ensures c.is_found.ensures c.wakes.ensures c.fits2.ensures in
+    let fit = fitting a.paired a.set.now a.serial.now a.device entry body (no_zero (c.requires opens).0 (lent a.set.now a.serial.now) (c.requires opens).1) c.walk-survey.ensures c.is_found.ensures c.wakes.ensures c.fits.ensures in
     let same = selected-body a.paired a.set.now a.serial.now a.device entry body in
     c.part_of.ensures ∙ rw (c.find.ensures, same, entry) (sym (answers a.opening v a.set.now a.device a.nth opens (sym fit ∙ c.if-not-fits.false) c.if-device-ne-CONFIGURED.false))
