@@ -11,8 +11,8 @@ pub extern "C" fn hk_endpoint<'a>(
     number: u8,
     descriptor: &mut &'a [u8],
 ) -> u8
-    ensures { GivesEndpoint (lent set.now serial.now) (spots (spot_of set.entry.ptr) (spot_of serial.entry.ptr)) image.now number
-        result descriptor.new.now (spot_of descriptor.new.ptr) }
+    ensures { GivesEndpoint (lent set.now serial.now) (spots (spot_of set.entry.ref_ptr) (spot_of serial.entry.ref_ptr)) image.now number
+        result descriptor.new.now (spot_of descriptor.new.ref_ptr) }
 {
     board::endpoint::hk_endpoint(set, serial, image, number, descriptor)
 }

@@ -15,8 +15,8 @@ pub extern "C" fn hk_table_event<'a>(
     count: &mut u8,
     part: &mut &'a [u8],
 ) -> u8
-    ensures { AnswersImage (lent set.now serial.now) (spots (spot_of set.entry.ptr) (spot_of serial.entry.ptr)) image.old (numbered kind value setup.now)
-        result image.new bytes.new count.new part.new.now (spot_of part.new.ptr) }
+    ensures { AnswersImage (lent set.now serial.now) (spots (spot_of set.entry.ref_ptr) (spot_of serial.entry.ref_ptr)) image.old (numbered kind value setup.now)
+        result image.new bytes.new count.new part.new.now (spot_of part.new.ref_ptr) }
 {
     board::large::hk_table_event(set, serial, image, kind, value, setup, bytes, count, part)
 }
@@ -36,8 +36,10 @@ pub extern "C" fn hk_two_table_event<'a>(
     part: &mut &'a [u8],
 ) -> u8
     ensures { AnswersImage (lent_two full.now high.now serial.now)
-        (spots_two (spot_of full.entry.ptr) (spot_of high.entry.ptr) (spot_of serial.entry.ptr)) image.old (numbered kind value setup.now)
-        result image.new bytes.new count.new part.new.now (spot_of part.new.ptr) }
+        (spots_two (spot_of full.entry.ref_ptr) (spot_of high.entry.ref_ptr) (spot_of serial.entry.ref_ptr)) image.old (numbered kind value setup.now)
+        result image.new bytes.new count.new part.new.now (spot_of part.new.ref_ptr) }
 {
-    board::large::hk_two_table_event(full, high, serial, image, kind, value, setup, bytes, count, part)
+    board::large::hk_two_table_event(
+        full, high, serial, image, kind, value, setup, bytes, count, part,
+    )
 }

@@ -35,8 +35,8 @@ pub extern "C" fn hk_setup<'a>(
     count: &mut u8,
     part: &mut &'a [u8],
 ) -> u8
-    ensures { AnswersSetup (lent set.now serial.now) (spots (spot_of set.entry.ptr) (spot_of serial.entry.ptr)) image.old setup.now
-        result image.new bytes.new count.new part.new.now (spot_of part.new.ptr) }
+    ensures { AnswersSetup (lent set.now serial.now) (spots (spot_of set.entry.ref_ptr) (spot_of serial.entry.ref_ptr)) image.old setup.now
+        result image.new bytes.new count.new part.new.now (spot_of part.new.ref_ptr) }
 {
     board::hk_setup(set, serial, image, setup, bytes, count, part)
 }
@@ -122,7 +122,7 @@ pub extern "C" fn hk_packet<'a>(
     number: u32,
     cut: &mut &'a [u8],
 ) -> u8
-    ensures { CutsPacket reply.now (spot_of reply.entry.ptr) asked size number result cut.new.now (spot_of cut.new.ptr) }
+    ensures { CutsPacket reply.now (spot_of reply.entry.ref_ptr) asked size number result cut.new.now (spot_of cut.new.ref_ptr) }
 {
     board::hk_packet(reply, asked, size, number, cut)
 }
@@ -140,8 +140,8 @@ pub extern "C" fn hk_record_event<'a>(
     count: &mut u8,
     part: &mut &'a [u8],
 ) -> u8
-    ensures { AnswersRecordEvent (lent set.now serial.now) (spots (spot_of set.entry.ptr) (spot_of serial.entry.ptr)) device.old (numbered kind value setup.now)
-        result device.new bytes.new count.new part.new.now (spot_of part.new.ptr) }
+    ensures { AnswersRecordEvent (lent set.now serial.now) (spots (spot_of set.entry.ref_ptr) (spot_of serial.entry.ref_ptr)) device.old (numbered kind value setup.now)
+        result device.new bytes.new count.new part.new.now (spot_of part.new.ref_ptr) }
 {
     board::hk_record_event(set, serial, device, kind, value, setup, bytes, count, part)
 }

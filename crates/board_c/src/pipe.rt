@@ -18,11 +18,13 @@ pub extern "C" fn hk_pipe_event<'a>(
     out: &mut [u8; 6],
     part: &mut &'a [u8],
 ) -> u8
-    ensures { AnswersPipe (lent set.now serial.now) (spots (spot_of set.entry.ptr) (spot_of serial.entry.ptr)) (spot_of reply.entry.ptr)
-        (record { image = image.entry.now; pipe = pipe.old }) (record { wire = wire_of kind value; setup = setup.now; reply = reply.now })
-        result (record { image = image.exit.now; pipe = pipe.new }) out.new part.new.now (spot_of part.new.ptr) }
+    ensures { AnswersPipe (lent set.now serial.now) (spots (spot_of set.entry.ref_ptr) (spot_of serial.entry.ref_ptr)) (spot_of reply.entry.ref_ptr)
+        (record { image = image.old; pipe = pipe.old }) (record { wire = wire_of kind value; setup = setup.now; reply = reply.now })
+        result (record { image = image.new; pipe = pipe.new }) out.new part.new.now (spot_of part.new.ref_ptr) }
 {
-    board::pipe::hk_pipe_event(set, serial, image, pipe, reply, kind, value, setup, out, part)
+    board::pipe::hk_pipe_event(
+        set, serial, image, pipe, reply, kind, value, setup, out, part,
+    )
 }
 
 // Any event of the pipe, by its number, on a board that lends two sets: the part is one of the set in use, the serial block or the reply.
@@ -40,9 +42,11 @@ pub extern "C" fn hk_two_pipe_event<'a>(
     out: &mut [u8; 6],
     part: &mut &'a [u8],
 ) -> u8
-    ensures { AnswersPipe (lent_two full.now high.now serial.now) (spots_two (spot_of full.entry.ptr) (spot_of high.entry.ptr) (spot_of serial.entry.ptr)) (spot_of reply.entry.ptr)
-        (record { image = image.entry.now; pipe = pipe.old }) (record { wire = wire_of kind value; setup = setup.now; reply = reply.now })
-        result (record { image = image.exit.now; pipe = pipe.new }) out.new part.new.now (spot_of part.new.ptr) }
+    ensures { AnswersPipe (lent_two full.now high.now serial.now) (spots_two (spot_of full.entry.ref_ptr) (spot_of high.entry.ref_ptr) (spot_of serial.entry.ref_ptr)) (spot_of reply.entry.ref_ptr)
+        (record { image = image.old; pipe = pipe.old }) (record { wire = wire_of kind value; setup = setup.now; reply = reply.now })
+        result (record { image = image.new; pipe = pipe.new }) out.new part.new.now (spot_of part.new.ref_ptr) }
 {
-    board::pipe::hk_two_pipe_event(full, high, serial, image, pipe, reply, kind, value, setup, out, part)
+    board::pipe::hk_two_pipe_event(
+        full, high, serial, image, pipe, reply, kind, value, setup, out, part,
+    )
 }

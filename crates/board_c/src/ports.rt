@@ -18,8 +18,10 @@ pub extern "C" fn hk_port_event<'a>(
     count: &mut u8,
     part: &mut &'a [u8],
 ) -> u8
-    ensures { AnswersPortEvent (lent set.now serial.now) (spots (spot_of set.entry.ptr) (spot_of serial.entry.ptr)) row.old port (numbered kind value setup.now)
-        result row.new bytes.new count.new part.new.now (spot_of part.new.ptr) }
+    ensures { AnswersPortEvent (lent set.now serial.now) (spots (spot_of set.entry.ref_ptr) (spot_of serial.entry.ref_ptr)) row.old port (numbered kind value setup.now)
+        result row.new bytes.new count.new part.new.now (spot_of part.new.ref_ptr) }
 {
-    board::ports::hk_port_event(set, serial, row, port, kind, value, setup, bytes, count, part)
+    board::ports::hk_port_event(
+        set, serial, row, port, kind, value, setup, bytes, count, part,
+    )
 }

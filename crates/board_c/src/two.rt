@@ -28,10 +28,12 @@ pub extern "C" fn hk_two_event<'a>(
     part: &mut &'a [u8],
 ) -> u8
     ensures { AnswersImage (lent_two full.now high.now serial.now)
-        (spots_two (spot_of full.entry.ptr) (spot_of high.entry.ptr) (spot_of serial.entry.ptr)) image.old (numbered kind value setup.now)
-        result image.new bytes.new count.new part.new.now (spot_of part.new.ptr) }
+        (spots_two (spot_of full.entry.ref_ptr) (spot_of high.entry.ref_ptr) (spot_of serial.entry.ref_ptr)) image.old (numbered kind value setup.now)
+        result image.new bytes.new count.new part.new.now (spot_of part.new.ref_ptr) }
 {
-    board::two::hk_two_event(full, high, serial, image, kind, value, setup, bytes, count, part)
+    board::two::hk_two_event(
+        full, high, serial, image, kind, value, setup, bytes, count, part,
+    )
 }
 
 // Any event, by its number, at a port of a row of records; 18 for a port that is not there, before everything else.
@@ -50,10 +52,12 @@ pub extern "C" fn hk_two_port_event<'a>(
     part: &mut &'a [u8],
 ) -> u8
     ensures { AnswersPortEvent (lent_two full.now high.now serial.now)
-        (spots_two (spot_of full.entry.ptr) (spot_of high.entry.ptr) (spot_of serial.entry.ptr)) row.old port (numbered kind value setup.now)
-        result row.new bytes.new count.new part.new.now (spot_of part.new.ptr) }
+        (spots_two (spot_of full.entry.ref_ptr) (spot_of high.entry.ref_ptr) (spot_of serial.entry.ref_ptr)) row.old port (numbered kind value setup.now)
+        result row.new bytes.new count.new part.new.now (spot_of part.new.ref_ptr) }
 {
-    board::two::hk_two_port_event(full, high, serial, row, port, kind, value, setup, bytes, count, part)
+    board::two::hk_two_port_event(
+        full, high, serial, row, port, kind, value, setup, bytes, count, part,
+    )
 }
 
 // Endpoint descriptor `number` of the current settings, from 0 on: a part of the set in use, and no copy.
@@ -67,8 +71,8 @@ pub extern "C" fn hk_two_endpoint<'a>(
     descriptor: &mut &'a [u8],
 ) -> u8
     ensures { GivesEndpoint (lent_two full.now high.now serial.now)
-        (spots_two (spot_of full.entry.ptr) (spot_of high.entry.ptr) (spot_of serial.entry.ptr)) image.now number
-        result descriptor.new.now (spot_of descriptor.new.ptr) }
+        (spots_two (spot_of full.entry.ref_ptr) (spot_of high.entry.ref_ptr) (spot_of serial.entry.ref_ptr)) image.now number
+        result descriptor.new.now (spot_of descriptor.new.ref_ptr) }
 {
     board::two::hk_two_endpoint(full, high, serial, image, number, descriptor)
 }
