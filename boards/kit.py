@@ -1,7 +1,8 @@
 """The toolchain: its clang, what it makes of what is proved, and the modules that it hands to its clang on the way, caught there.
 
 The library is the crate board_c, a static library, and a program is a crate of its own. Each is made by `rattle build` over the libraries that rt has proved:
-rt is asked to prove them first, unless HK_PROVED says that the gate has just done so in a checkout where nothing was made before.
+rt is asked to prove them first, unless HK_PROVED is set: `yes` where that was done right before, `gate` where rt ci has done it in a checkout in which nothing was made before, so
+that the programs in out/ are of that run too.
 """
 import os, re, shlex, shutil, subprocess, tempfile
 
@@ -10,13 +11,22 @@ from plain import plain
 
 TOP = os.path.dirname(os.path.dirname(os.path.abspath(__file__)))
 FOLDER = os.path.join(TOP, "target", "archive")
-# The static library's crate, and its archive as the toolchain makes it.
+# The static library's crate, and its archive as the toolchain makes it; the library for C on this machine, and the programs.
 LIBRARY = "board_c"
 TOOLCHAIN_ARCHIVE = os.path.join(FOLDER, "libboard_c.a")
+ARCHIVE = os.path.join(TOP, "target", "staticlib", "libboard.a")
+PROGRAMS = os.path.join(TOP, "target", "bin")
+MODULE = os.path.join(FOLDER, "module.ll")
 SOURCES = [os.path.join(TOP, "crates"), os.path.join(TOP, "crates.txt")]
 # As it is: nothing optimised.
 KEEP = shlex.split("-O0 -Xclang -disable-llvm-passes --no-default-config -Wno-override-module")
 TRIPLE = "x86_64-unknown-linux-gnu"
+# How the toolchain has its clang optimise: -O3, without what it has known to be wrong.
+OPTIMISED = shlex.split(
+    "-O3 -ffunction-sections -fdata-sections -mllvm -trap-unreachable -mllvm -no-trap-after-noreturn -mllvm -disable-machine-licm -mllvm -disable-postra-machine-licm "
+    "-mllvm -sink-common-insts=false --no-default-config -Wno-override-module"
+)
+OF_X86 = shlex.split("-march=x86-64 -fPIC -mllvm -no-x86-call-frame-opt")
 
 
 def run(command, **options):
@@ -78,7 +88,7 @@ class Kit:
     # ---- proving
     def prove(self, name):
         """All that a crate needs, and it itself; a library of the repository's that was proved is not proved again."""
-        if os.environ.get("HK_PROVED") == "yes":
+        if os.environ.get("HK_PROVED"):
             return
         verb = "lib" if self.is_library(name) else "check"
         print(f"rt {verb}, in crates/{name} (the first time it proves every function, one line each):", flush=True)
@@ -135,6 +145,31 @@ class Kit:
             raise Unexpected(f"rattle build, in crates/{name}, hands {len(modules)} modules to clang, not one")
         return os.path.join(caught, modules[0])
 
+    def archive(self):
+        """The library for C on this machine: of its module, so that a part of NULL stays one."""
+        text = self.module()
+        if is_newer(ARCHIVE, MODULE):
+            return
+        with tempfile.TemporaryDirectory() as room:
+            source, part, made = (os.path.join(room, name) for name in ("module.ll", "board.o", "libboard.a"))
+            write(source, text)
+            self.clang(f"--target={TRIPLE}", *OF_X86, *OPTIMISED, "-c", "-x", "ir", source, "-o", part)
+            run([self.tool("llvm-ar"), "rcsD", made, part])
+            os.makedirs(os.path.dirname(ARCHIVE), exist_ok=True)
+            shutil.copy(made, ARCHIVE)
+
+    def linked(self, name):
+        """A program in target/bin: the gate's, or of the object that its module came with."""
+        made, gates = os.path.join(PROGRAMS, name), os.path.join(self.folder(name), "out", name)
+        if os.environ.get("HK_PROVED") == "gate" and os.path.exists(gates):
+            os.makedirs(PROGRAMS, exist_ok=True)
+            shutil.copy(gates, made)
+            return
+        self.program(name)
+        part = os.path.join(FOLDER, f"{name}.o")
+        if not is_newer(made, part):
+            self.link(part, made)
+
     def link(self, part, out):
         """A program of its object file, as rt links it."""
         os.makedirs(os.path.dirname(out), exist_ok=True)
@@ -144,25 +179,29 @@ class Kit:
     # ---- modules
     def module(self):
         """The library's module as text, caught unless the one caught before is current. The toolchain's archive comes of the same proof."""
-        return self.kept("module", LIBRARY, TOOLCHAIN_ARCHIVE)
+        return self.kept(MODULE, LIBRARY, TOOLCHAIN_ARCHIVE)
 
     def program(self, name):
         """The module of a proved program as text, caught in the same way."""
-        return self.kept(name, name, os.path.join(FOLDER, f"{name}.o"))
+        return self.kept(os.path.join(FOLDER, f"{name}.ll"), name, os.path.join(FOLDER, f"{name}.o"))
 
-    def kept(self, word, name, out):
-        kept = os.path.join(FOLDER, f"{word}.ll")
+    def kept(self, kept, name, out):
         if not (is_current(out) and is_current(kept) and read(kept).startswith(self.identity)):
             os.makedirs(FOLDER, exist_ok=True)
             self.prove(name)
             with tempfile.TemporaryDirectory() as room:
-                write(kept, self.identity + plain(self.text(self.catch(name, out, room), room)))
+                text = self.text(self.catch(name, out, room), room)
+                write(kept, self.identity + (plain(text) if name == LIBRARY else text))
         return read(kept)
 
     def text(self, bitcode, room):
         out = os.path.join(room, "module.ll")
         self.clang(f"--target={TRIPLE}", *KEEP, "-S", "-emit-llvm", "-x", "ir", bitcode, "-o", out)
         return read(out)
+
+
+def is_newer(made, source):
+    return os.path.exists(made) and os.path.getmtime(made) >= os.path.getmtime(source)
 
 
 def is_current(made):
