@@ -209,7 +209,7 @@ def rest_of_exports(files):
 
 def in_reading_order(believed, names):
     """Crate by crate, and each file behind those that it names."""
-    crates = [line.split(":")[0] for line in read(os.path.join(TOP, "crates.txt")).split("\n") if re.match(r"\w+:", line)]
+    crates = [line.split(":")[0].split()[0] for line in read(os.path.join(TOP, "crates.txt")).split("\n") if re.match(r"\w+:", line)]
     order = []
 
     def visit(name):
