@@ -65,7 +65,7 @@ def callee_and_values(found):
 def take_apart(text):
     """The functions by name, and the text before and behind them."""
     found = list(re.finditer(r"^(define [^\n]* \{)\n(.*?)^\}\n", text, re.M | re.S))
-    made = [Function(one[1], [re.sub(r" *; preds = .*", "", line.strip()) for line in one[2].splitlines() if line.strip()]) for one in found]
+    made = [Function(one[1], [re.sub(r" *; .*", "", line.strip()) for line in one[2].splitlines() if line.strip()]) for one in found]
     before = re.sub(r"^; Function Attrs.*\n", "", text[: found[0].start()], flags=re.M)
     return {one.name: one for one in made}, before, text[found[-1].end() :]
 

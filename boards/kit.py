@@ -1,14 +1,32 @@
-"""The toolchain: its clang, its archive, and the modules that it makes of what is proved, caught on their way to clang."""
-import os, platform, shlex, shutil, subprocess, tempfile
+"""The toolchain: its clang, what it makes of what is proved, and the modules that it hands to its clang on the way, caught there.
+
+The library is the crate board_c, a static library, and a program is a crate of its own. Each is made by `rattle build` over the libraries that rt has proved:
+rt is asked to prove them first, unless HK_PROVED is set: `yes` where that was done right before, `gate` where rt ci has done it in a checkout in which nothing was made before, so
+that the programs in out/ are of that run too.
+"""
+import os, re, shlex, shutil, subprocess, tempfile
 
 from module import Unexpected
+from plain import plain
 
 TOP = os.path.dirname(os.path.dirname(os.path.abspath(__file__)))
 FOLDER = os.path.join(TOP, "target", "archive")
-TOOLCHAIN_ARCHIVE = os.path.join(TOP, "target", "staticlib", "libboard.a")
+# The static library's crate, and its archive as the toolchain makes it; the library for C on this machine, and the programs.
+LIBRARY = "board_c"
+TOOLCHAIN_ARCHIVE = os.path.join(FOLDER, "libboard_c.a")
+ARCHIVE = os.path.join(TOP, "target", "staticlib", "libboard.a")
+PROGRAMS = os.path.join(TOP, "target", "bin")
+MODULE = os.path.join(FOLDER, "module.ll")
 SOURCES = [os.path.join(TOP, "crates"), os.path.join(TOP, "crates.txt")]
 # As it is: nothing optimised.
 KEEP = shlex.split("-O0 -Xclang -disable-llvm-passes --no-default-config -Wno-override-module")
+TRIPLE = "x86_64-unknown-linux-gnu"
+# How the toolchain has its clang optimise: -O3, without what it has known to be wrong.
+OPTIMISED = shlex.split(
+    "-O3 -ffunction-sections -fdata-sections -mllvm -trap-unreachable -mllvm -no-trap-after-noreturn -mllvm -disable-machine-licm -mllvm -disable-postra-machine-licm "
+    "-mllvm -sink-common-insts=false --no-default-config -Wno-override-module"
+)
+OF_X86 = shlex.split("-march=x86-64 -fPIC -mllvm -no-x86-call-frame-opt")
 
 
 def run(command, **options):
@@ -32,94 +50,167 @@ def find_kit():
     rt = shutil.which("rt", path=os.environ["PATH"] + os.pathsep + os.path.join(os.environ.get("RATTLE_HOME", ""), "bin"))
     if rt is None:
         raise Unexpected("rt is not found: put the toolchain's bin/ on PATH, or its folder in RATTLE_HOME")
-    return rt, os.environ.get("RATTLE_HOME") or os.path.dirname(os.path.dirname(os.path.realpath(rt)))
+    return rt, os.path.dirname(os.path.dirname(os.path.realpath(rt)))
+
+
+def needed(top=TOP):
+    """The crates of crates.txt and what each names, lowest first as they stand there."""
+    found = {}
+    for line in read(os.path.join(top, "crates.txt")).splitlines():
+        one = re.match(r"(\w+)[^:#]*:([\w ]*)", line)
+        if one:
+            found[one[1]] = one[2].split()
+    return found
+
+
+def below(name, crates):
+    """The repository's crates below one, each after those that it needs."""
+    found = []
+    for one in crates[name]:
+        if one in crates:
+            found += [other for other in [*below(one, crates), one] if other not in found]
+    return found
 
 
 class Kit:
-    def __init__(self):
+    def __init__(self, top=TOP):
         self.rt, self.home = find_kit()
-        self.tools = os.path.join("on", platform.machine(), "toolchain", "bin")
+        self.top, self.crates = top, needed(top)
+        self.tools = os.path.join(self.home, "toolchain", "bin")
         self.identity = "; " + read(os.path.join(self.home, "KIT-ID")).strip() + "\n"
 
     def tool(self, name):
-        return os.path.join(self.home, self.tools, name)
+        return os.path.join(self.tools, name)
 
     def clang(self, *words, **options):
         return run([self.tool("clang"), *words], **options)
 
-    def prove(self, home, words=("staticlib", "board")):
-        """The toolchain's own archive, or a program, by the kit in this folder."""
-        print(f"rt {' '.join(words)} (the first time it proves every function, one line each):", flush=True)
+    # ---- proving
+    def prove(self, name):
+        """All that a crate needs, and it itself; a library of the repository's that was proved is not proved again."""
+        if os.environ.get("HK_PROVED"):
+            return
+        verb = "lib" if self.is_library(name) else "check"
+        print(f"rt {verb}, in crates/{name} (the first time it proves every function, one line each):", flush=True)
         lines = []
-        environment = {**os.environ, "RATTLE_HOME": home}
-        with subprocess.Popen([self.rt, *words], cwd=TOP, env=environment, stdout=subprocess.PIPE, stderr=subprocess.STDOUT, text=True) as proving:
+        with subprocess.Popen([self.rt, verb], cwd=self.folder(name), stdout=subprocess.PIPE, stderr=subprocess.STDOUT, text=True) as proving:
             for line in proving.stdout:
                 lines.append(line)
                 if line.startswith(("fn ", "rt: ")):
                     print(f"    {line}", end="", flush=True)
         if proving.returncode != 0:
-            raise Unexpected(f"rt {' '.join(words)}:\n" + "".join(lines[-20:]))
+            raise Unexpected(f"rt {verb}, in crates/{name}:\n" + "".join(lines[-20:]))
 
-    def module(self):
-        """The library's module as text, caught unless the one caught before is current. The archive comes of the same proof."""
-        kept = os.path.join(FOLDER, "module.ll")
-        if self.is_kept(kept) and not is_current(TOOLCHAIN_ARCHIVE):
-            self.prove(self.home)
-        return self.kept(kept, "staticlib", "board")
+    def folder(self, name):
+        return os.path.join(self.top, "crates", name)
 
-    def program(self, name):
-        """The module of a proved program as text, caught in the same way."""
-        kept = os.path.join(FOLDER, f"{name}.ll")
-        stamp = os.path.join(TOP, "target", "stamp", name)
-        if not self.is_kept(kept) and os.path.exists(stamp):
-            os.remove(stamp)  # so that it is made again
-        return self.kept(kept, "check", name)
+    def is_library(self, name):
+        return os.path.exists(os.path.join(self.folder(name), "src", "lib.rt"))
 
-    def is_kept(self, kept):
-        return is_current(kept) and read(kept).startswith(self.identity)
+    def rlib(self, name):
+        """A proved library: one of the repository or of the toolchain."""
+        if name in self.crates:
+            return os.path.join(self.folder(name), "out", "rlib", f"{name}.rlib")
+        return os.path.join(self.home, "rlibs", f"{name}.rlib")
 
-    def kept(self, kept, *words):
-        if not self.is_kept(kept):
-            os.makedirs(FOLDER, exist_ok=True)
-            with tempfile.TemporaryDirectory() as room:
-                write(kept, self.identity + self.text(self.catch(room, words), room))
-        return read(kept)
+    # ---- making
+    def build(self, name, out, toolchain):
+        """`rattle build` of a proved crate, with this folder of tools."""
+        kept = os.path.join(self.folder(name), "out", "incremental")
+        libraries = list(dict.fromkeys(["std", *self.crates[name]]))
+        folders = [os.path.join(self.home, "rlibs"), *(os.path.dirname(self.rlib(one)) for one in below(name, self.crates))]
+        run([os.path.join(self.home, "bin", "rattle"), "build", "--crate-name", name, f"src/{'lib' if self.is_library(name) else 'main'}.rt",
+             *(word for one in libraries for word in ("--extern", f"{one}={self.rlib(one)}")), *(word for one in folders for word in ("-L", f"dependency={one}")),
+             "--antt-project", os.path.join(self.home, "rattle", "logic", "antt-project.json"), "--logic-built", os.path.join(self.home, "logic_built"),
+             *(["--incremental", kept] if os.path.isdir(kept) else ["--jobs", str(os.cpu_count())]), "--links", f"{name}=",
+             *(["--crate-type", "staticlib"] if self.is_library(name) else []), "--backend", "llvm", "--toolchain", toolchain, "-o", out], cwd=self.folder(name))
 
-    def text(self, bitcode, room):
-        out = os.path.join(room, "module.ll")
-        self.clang("--target=x86_64-unknown-linux-gnu", *KEEP, "-S", "-emit-llvm", "-x", "ir", bitcode, "-o", out)
-        return read(out)
-
-    def catch(self, room, words):
-        """What rt hands to clang: it is run in a kit made of links, whose clang keeps what it is handed."""
-        os.chmod(room, 0o755)  # a program that is proved is run as nobody
-        caught = os.path.join(room, "caught")
+    def catch(self, name, out, room):
+        """Makes a crate, and gives what rattle hands to clang: it is run with a folder of links to the tools, whose clang keeps what it is handed."""
+        caught, mirror = os.path.join(room, "caught"), os.path.join(room, "toolchain")
+        os.makedirs(os.path.join(mirror, "bin"))
         os.mkdir(caught)
-        mirror = os.path.join(room, "kit")
-        link_all_but(self.home, mirror, [*self.tools.split(os.sep), "clang"])
-        wrapper = os.path.join(mirror, self.tools, "clang")
+        os.symlink(os.path.join(self.home, "toolchain", "lib"), os.path.join(mirror, "lib"))
+        for tool in os.listdir(self.tools):
+            if tool != "clang":
+                os.symlink(self.tool(tool), os.path.join(mirror, "bin", tool))
+        wrapper = os.path.join(mirror, "bin", "clang")
         write(wrapper, "#!/bin/sh\n"
               f'for word; do case $word in *.bc | *.ll) cp "$word" "$(mktemp -u {shlex.quote(caught)}/XXXXXX)" ;; esac; done\n'
               f'exec {shlex.quote(self.tool("clang"))} "$@"\n')
         os.chmod(wrapper, 0o755)
-        self.prove(mirror, words)
+        self.build(name, out, mirror)
         modules = os.listdir(caught)
         if len(modules) != 1:
-            raise Unexpected(f"rt {' '.join(words)} hands {len(modules)} modules to clang, not one")
+            raise Unexpected(f"rattle build, in crates/{name}, hands {len(modules)} modules to clang, not one")
         return os.path.join(caught, modules[0])
 
+    def archive(self):
+        """The library for C on this machine: of its module, so that a part of NULL stays one."""
+        text = self.module()
+        if is_newer(ARCHIVE, MODULE):
+            return
+        with tempfile.TemporaryDirectory() as room:
+            source, part, made = (os.path.join(room, name) for name in ("module.ll", "board.o", "libboard.a"))
+            write(source, text)
+            self.clang(f"--target={TRIPLE}", *OF_X86, *OPTIMISED, "-c", "-x", "ir", source, "-o", part)
+            run([self.tool("llvm-ar"), "rcsD", made, part])
+            os.makedirs(os.path.dirname(ARCHIVE), exist_ok=True)
+            shutil.copy(made, ARCHIVE)
 
-def link_all_but(source, target, path):
-    """A folder of links to all in source, but that the last name of path is left out, and folders on the way to it are folders."""
-    os.mkdir(target)
-    for name in os.listdir(source):
-        if name != path[0]:
-            os.symlink(os.path.join(source, name), os.path.join(target, name))
-    if len(path) > 1:
-        link_all_but(os.path.join(source, path[0]), os.path.join(target, path[0]), path[1:])
+    def linked(self, name):
+        """A program in target/bin: the gate's, or of the object that its module came with."""
+        made, gates = os.path.join(PROGRAMS, name), os.path.join(self.folder(name), "out", name)
+        if os.environ.get("HK_PROVED") == "gate" and os.path.exists(gates):
+            os.makedirs(PROGRAMS, exist_ok=True)
+            shutil.copy(gates, made)
+            return
+        self.program(name)
+        part = os.path.join(FOLDER, f"{name}.o")
+        if not is_newer(made, part):
+            self.link(part, made)
+
+    def link(self, part, out):
+        """A program of its object file, as rt links it."""
+        os.makedirs(os.path.dirname(out), exist_ok=True)
+        libraries = [os.path.join(self.home, "c", name) for name in ("libos_c.a", "liblibc_c.a")]
+        run([os.path.join(self.home, "bin", "rattle-link"), "--target", TRIPLE, "--toolchain", os.path.join(self.home, "toolchain"), "-o", out, part, *libraries])
+
+    # ---- modules
+    def module(self):
+        """The library's module as text, caught unless the one caught before is current. The toolchain's archive comes of the same proof."""
+        return self.kept(MODULE, LIBRARY, TOOLCHAIN_ARCHIVE)
+
+    def program(self, name):
+        """The module of a proved program as text, caught in the same way."""
+        return self.kept(os.path.join(FOLDER, f"{name}.ll"), name, os.path.join(FOLDER, f"{name}.o"))
+
+    def kept(self, kept, name, out):
+        if not (is_current(out) and is_current(kept) and read(kept).startswith(self.identity)):
+            os.makedirs(FOLDER, exist_ok=True)
+            self.prove(name)
+            with tempfile.TemporaryDirectory() as room:
+                text = self.text(self.catch(name, out, room), room)
+                write(kept, self.identity + (plain(text) if name == LIBRARY else text))
+        return read(kept)
+
+    def text(self, bitcode, room):
+        out = os.path.join(room, "module.ll")
+        self.clang(f"--target={TRIPLE}", *KEEP, "-S", "-emit-llvm", "-x", "ir", bitcode, "-o", out)
+        return read(out)
+
+
+def is_newer(made, source):
+    return os.path.exists(made) and os.path.getmtime(made) >= os.path.getmtime(source)
 
 
 def is_current(made):
     """Whether it is there, and no source is newer."""
-    files = (os.path.join(folder, name) for source in SOURCES for folder, _, names in os.walk(source) for name in names)
-    return os.path.exists(made) and all(os.path.getmtime(file) <= os.path.getmtime(made) for file in [*files, SOURCES[1]])
+    if not os.path.exists(made):
+        return False
+    time = os.path.getmtime(made)
+    for place, folders, names in os.walk(SOURCES[0]):
+        folders[:] = [one for one in folders if one != "out"]
+        if any(os.path.getmtime(os.path.join(place, name)) > time for name in names):
+            return False
+    return os.path.getmtime(SOURCES[1]) <= time

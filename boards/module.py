@@ -18,7 +18,7 @@ COPY, FILL, TRAP = INTRINSICS = ("llvm.memmove.p0.p0.i64", "llvm.memset.p0.i64",
 MARKS = ("llvm.lifetime.start.p0", "llvm.lifetime.end.p0")
 NUMBER = "number"
 # What ties the text to x86-64.
-TIES = [r'^target (datalayout|triple) .*\n', r' "target-cpu"="x86-64"', r' "probe-stack"="inline-asm"']
+TIES = [r'^target (datalayout|triple) .*\n', r' "target-cpu"="[\w-]+"', r' "probe-stack"="inline-asm"', r' "stack-probe-size"="\d+"']
 
 NAME = r'@("[\w:.<>$ ,&\[\]-]+"|[\w.]+)'
 INTEGER = r"i(?:1|8|16|32|64)"
@@ -37,7 +37,7 @@ FORMS = {
     "flow": re.compile(
         rf"(?:br {LABEL}|br i1 {VALUE}, {LABEL}, {LABEL}|ret void|ret {INTEGER} {VALUE}|unreachable|switch {INTEGER} {VALUE}, {LABEL} \[|{INTEGER} -?\d+, {LABEL}|\])$"
     ),
-    "label": re.compile(r"[\w.]+:(?: *; preds = .*)?$"),
+    "label": re.compile(r"[\w.]+:(?: *; .*)?$"),
 }
 
 
@@ -208,7 +208,9 @@ class Audit:
         if not values[2].isdigit():
             raise Unexpected(f"a computed length, in {name}: {line}")
         length, target = int(values[2]), self.places[values[0]]
-        if callee == COPY:
+        if callee == FILL and values[1] == "0" and target[1] == 0 and length == self.memory.sizes.get(target[0]):
+            self.memory.reach(target, length)  # a whole variable becomes zero, as what a pointer's slot holds as well
+        elif callee == COPY:
             self.copied.append((self.places[values[1]], target, length, line))
         else:
             for at in range(length):

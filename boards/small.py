@@ -11,6 +11,7 @@ from layout import Layout
 from lifetimes import DECLARED, with_lifetimes
 from module import Unexpected, audit, retargeted
 from narrow import Narrowing
+from plain import with_proved_sums, with_whole_copies, without_zeros
 from promises import with_promises
 from tables import with_tables
 
@@ -28,6 +29,10 @@ def small(text, prototypes, judged=True, reasons=None):
     """The text for these exports; judged=False leaves out the audits of numbers and slots, for tests. Counts by reason are added to `reasons`."""
     functions, before, behind = take_apart(retargeted(text))
     functions = reached(functions, [prototype.name for prototype in prototypes])
+    for function in functions.values():
+        without_zeros(function)
+        with_whole_copies(function)
+        with_proved_sums(function)
     without_copies(functions)
     plain = put_together(functions, before, behind)
     audit(plain)

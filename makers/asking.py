@@ -20,7 +20,7 @@ PROGRAM_FILES = {ONE: ["set.bin"], SUPER_SET: ["set.bin"], TWO: ["full.bin", "hi
 def run_maker(words, directory):
     """What the program says, run where its files are."""
     if not os.path.exists(MAKER):
-        raise CannotBeDone("the makers' program is not built: ./run builds it, and so does rt check maker")
+        raise CannotBeDone("the makers' program is not built: ./run builds it, and so does tools/products maker")
     return subprocess.run([os.path.join(TOP, "tools", "emulate"), MAKER, *words], cwd=directory, capture_output=True, text=True, check=True).stdout
 
 

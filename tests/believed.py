@@ -12,7 +12,7 @@ CRATES = os.path.join(TOP, "crates")
 EXPORTS = os.path.join(CRATES, "board", "src")
 MAKERS = "makers.rt"  # the exports of a bench computer; those of the other files run on a board
 
-WORD = re.compile(r"[^\s(){}\[\].;,λ⌜⌝]+|[.;{}(),λ]")
+WORD = re.compile(r"[^\s(){}\[\].;,λ]+|[.;{}(),λ]")
 USE = re.compile(r"\s*(?:ghost |unfoldable )?(?:pub )?use\s+(\S+?)(?:\.\{(.*)\})?(?: as (\w+))?;?\s*$")
 MODULE = re.compile(r"\s*module\s+\S+(.*)where\s*$")
 ITEM = re.compile(r"\s*((?:(?:pub|abbrev|unfoldable)\s+)*)(?:(record|data)\s+(\S+)|([^\s:(){},.]+(?:\s+[^\s:(){},.]+)*)\s+:\s)")
@@ -22,6 +22,11 @@ FIELDS = re.compile(r"\s*(?:pub )?([^\s:(){},.]+(?:\s+[^\s:(){},.]+)*)\s+:\s")
 def read(path):
     with open(path, encoding="utf-8") as file:
         return file.read()
+
+
+def bare(name):
+    """An operator without the places of its operands."""
+    return name.strip("◌") or name
 
 
 def without_comments(text):
@@ -37,7 +42,7 @@ def names_used(line):
     if names is None:
         return [(alias or module.split(".")[-1], module, None)]
     pairs = [one.strip().split(" as ") for one in names.split(",")]
-    return [(pair[-1].strip("_"), module, pair[0]) for pair in pairs]
+    return [(bare(pair[-1]), module, pair[0]) for pair in pairs]
 
 
 class Item:
@@ -95,7 +100,7 @@ class File:
                 kind = begins[2] or (begins[1].replace("pub", "").strip() or "theorem")
                 names = [begins[3]] if begins[2] else begins[4].split()
                 item = Item(self, names[0], kind, line, [text for _, text in modules])
-                self.items.update({name.strip("_"): item for name in names})
+                self.items.update({bare(name): item for name in names})
                 inside = indent if begins[2] else None
             elif item:
                 item.lines.append(line)
@@ -117,9 +122,9 @@ def all_files():
 
 
 def crate_and_rest(module):
-    """Rattle·sets.specs.Opening and Rattle·sets·specs.specs.Opening: the crate and what stands behind `specs.`; nothing for the kit's own."""
-    found = re.match(r"Rattle·(\w+?)(?:·specs)?\.specs\.(.*)$", module)
-    return found.groups() if found else None
+    """Rattle.sets.specs.Opening: the crate and what stands behind `specs.`; nothing for the toolchain's own."""
+    found = re.match(r"Rattle\.(\w+)\.specs\.(.*)$", module)
+    return found.groups() if found and os.path.isdir(os.path.join(CRATES, found[1])) else None
 
 
 def references(text):
@@ -128,7 +133,7 @@ def references(text):
     for at, (word, start) in enumerate(words):
         last = words[at - 1] if at else ("", 0)
         behind = words[at + 1][0] if at + 1 < len(words) else ""
-        is_field = last[0] == "." and last[1] == start - 1 and text[last[1] - 1 : last[1]] in (" ", "\n", "(")
+        is_field = last[0] == "." and last[1] == start - 1 and text[last[1] - 1 : last[1]] not in (" ", "\n", "(")
         if not is_field and not (behind == "=" and last[0] in ("{", ";")):
             yield word
 
@@ -141,10 +146,10 @@ class Believed:
         self.edges = {}  # a file's name: the files that it names
 
     def type_of(self, crate, path):
-        parts = [part for part in path.split(".") if part != "the-variants"]
+        parts = [part for part in path.split(".") if part != "TheVariants"]
         modules, name = parts[1:-1], parts[-1]
         source = os.path.join(CRATES, crate, "src", *(modules or ["lib"])) + ".rt"
-        declared = re.search(rf"^(?:#\[.*\]\n)?(?:pub )?(?:struct|enum) {name}\b(?:[^\n{{]*;|.*?^\}})$", read(source), re.MULTILINE | re.DOTALL)
+        declared = re.search(rf"^(?:#\[.*\]\n)*(?:pub )?(?:struct|enum) {name}\b(?:[^\n{{]*;|.*?^\}})$", read(source), re.MULTILINE | re.DOTALL)
         self.types["::".join([crate, *modules, name])] = declared[0].count("\n") + 1
 
     def follow(self, module, name, at=None):
@@ -155,7 +160,7 @@ class Believed:
             return self.type_of(*place)
         file = self.files[place]
         self.edges.setdefault(at, set()).add(file.name())
-        item = file.items.get(name.strip("_")) or file.owner(name)
+        item = file.items.get(bare(name)) or file.owner(name)
         if item is None:
             if name in file.uses:  # passed on by `pub use`
                 return self.follow(*file.uses[name], file.name())
@@ -168,7 +173,7 @@ class Believed:
         self.items[id(item)] = item
         file = item.file
         for word in references(text):
-            word = word.strip("_") if len(word) > 1 else word
+            word = bare(word)
             if word in file.uses and file.uses[word][1]:
                 self.follow(*file.uses[word], file.name())
             elif word in file.items:
@@ -187,9 +192,8 @@ def statements(wanted):
             continue
         text = read(os.path.join(EXPORTS, source))
         uses = {here: (module, there) for line in text.split("\n") for here, module, there in names_used(line) if there}
-        for head in re.findall(r"^pub extern \"C\" fn hk_\w+(.*?)^\{", text, re.MULTILINE | re.DOTALL):
-            for promise in re.findall(r"⌜(.*?)⌝", head, re.DOTALL):
-                yield from (uses[word] for word in references(promise) if word in uses)
+        for promises in re.findall(r"^pub extern \"C\" fn hk_\w+.*?(^ +ensures\b.*?)^\{", text, re.MULTILINE | re.DOTALL):
+            yield from (uses[bare(word)] for word in references(promises) if bare(word) in uses)
 
 
 def rest_of_exports(files):
@@ -205,7 +209,7 @@ def rest_of_exports(files):
 
 def in_reading_order(believed, names):
     """Crate by crate, and each file behind those that it names."""
-    crates = [line.split(":")[0] for line in read(os.path.join(TOP, "crates.txt")).split("\n") if re.match(r"\w+:", line)]
+    crates = [line.split(":")[0].split()[0] for line in read(os.path.join(TOP, "crates.txt")).split("\n") if re.match(r"\w+:", line)]
     order = []
 
     def visit(name):

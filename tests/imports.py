@@ -4,24 +4,24 @@
   imports [CRATE..]            prints them, with file and line; exit status 1 if there are any
   imports --remove [CRATE..]   takes them out of their files
 
-In antt a name is used where it stands as a word outside the `use` lines and comments: not as a field, ` .name`, nor in front of `=` in a record. Of an
-operator, `_≡_`, each part must stand there. What `pub use` brings is passed on. In Rattle a `ghost use` serves the contracts, any other the code.
+In antt a name is used where it stands as a word outside the `use` lines and comments: not as a field, `x.name`, nor in front of `=` in a record. Of an
+operator, `◌≡◌`, each part must stand there. What `pub use` brings is passed on. In Rattle a `ghost use` serves the contracts, any other the code.
 """
 import os, re, sys
 
 from shared import TOP
 
 CRATES = os.path.join(TOP, "crates")
-USE = re.compile(r"(?P<kind>ghost |unfoldable )?(?P<passed>pub )?use (?P<path>\S+?)(?:\.\{(?P<names>.*)\})?(?: as (?P<here>\S+?))?(?P<end>;?)$")
+USE = re.compile(r"(?P<kind>ghost |unfoldable )?(?P<passed>pub )?use (?P<path>[^\s{]+?)(?:(?P<group>\.|::)\{(?P<names>[^{}]*)\})?(?: as (?P<here>\S+?))?(?P<end>;?)$")
 WORD = re.compile(r"[^\s(){}.;,@\"«»⌜⌝⟦⟧]+")
-FIELD = re.compile(r"(?<=[\s(])\.[^\s(){}.;,]+|(?<=[{;] )[^\s(){}.;,]+(?= = )")
+FIELD = re.compile(r"(?<=[^\s({;,])\.[^\s(){}.;,]+|(?<=[{;] )[^\s(){}.;,]+(?= = )")
 COMMENT = re.compile(r"(?:^|(?<=\s))(?:--|//).*", re.MULTILINE)
 CONTRACT = re.compile(r"^ +(?:requires|ensures)\b.*(?:\n {8}.*)*", re.MULTILINE)
 
 
-def here(name):
-    """How `a`, `N.a` or `a as b` is called in the file that imports it."""
-    return re.split(r" as |\.", name)[-1]
+def here(name, path=""):
+    """How `a`, `N.a` or `a as b` is called in the file that imports it, and `self` of a path."""
+    return re.split(r" as |\.|::", path if name == "self" else name)[-1]
 
 
 def words(text):
@@ -29,7 +29,7 @@ def words(text):
 
 
 def is_used(name, there):
-    return name in there or "_" in name and set(filter(None, name.split("_"))) <= there
+    return name in there or "◌" in name and set(filter(None, name.split("◌"))) <= there
 
 
 class Imports:
@@ -54,14 +54,14 @@ class Imports:
                 continue
             there = self.ghost if use["kind"] else self.code
             names = use["names"].split(", ") if use["names"] else [use["here"] or re.split(r"\.|::", use["path"])[-1]]
-            used = [name for name in names if is_used(here(name), there)]
+            used = [name for name in names if is_used(here(name, use["path"]), there)]
             if used != names:
                 yield number, names, used
 
     def remove(self):
         for number, _, used in reversed(list(self.unused())):
             use = USE.match(self.lines[number])
-            self.lines[number : number + 1] = [f"{use['kind'] or ''}use {use['path']}.{{{', '.join(used)}}}{use['end']}"] if used else []
+            self.lines[number : number + 1] = [f"{use['kind'] or ''}use {use['path']}{use['group']}{{{', '.join(used)}}}{use['end']}"] if used else []
         with open(self.path, "w", encoding="utf-8") as file:
             file.write("\n".join(self.lines))
 

@@ -14,14 +14,14 @@ use events::refusals::RECORD_DOES_NOT_FIT;
 use events::{Answer, Event};
 use records::{Change, Device, IMAGE_LENGTH};
 
-mod endpoint;
-mod large;
-mod makers;
+pub mod endpoint;
+pub mod large;
+pub mod makers;
 mod numbers;
-mod pipe;
-mod ports;
-mod two;
-mod version;
+pub mod pipe;
+pub mod ports;
+pub mod two;
+pub mod version;
 
 // Opens a set with its serial block: the image becomes the fresh record, whether they are accepted or not.
 #[unsafe(no_mangle)]

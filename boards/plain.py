@@ -1,0 +1,120 @@
+"""The module as the toolchain makes it, brought to the form that the others here read: in text, and for what is made small function by function.
+
+- A slice that C lends begins where C says, also at NULL; the toolchain's exports have it begin at 4096 then, and nothing is read or written there either way.
+- Blocks that nothing leads to are left out.
+- A result of two fields is written to where its caller wants it, as longer ones are; the toolchain hands it back in two registers.
+- Of what is made small: a variable is not filled with zeros before its function begins (what is read of it is written first), a struct that is copied field by
+  field is copied at once, and a sum, a difference or a product is marked as the toolchain has proved it, never beyond its type or below 0 (the library asks for
+  none that may be).
+"""
+import re
+
+from module import COPY, FILL, INTEGER, WIDTHS, Unexpected
+
+# How an export has a slice begin elsewhere where C lends NULL.
+NULL_GUARD = re.compile(
+    r"^  (%\w+) = icmp eq ptr (%\w+), null\n  (%\w+) = zext i1 \1 to i64\n  (%\w+) = mul i64 \3, 4096\n  (%\w+) = getelementptr i8, ptr \2, i64 \4\n", re.M
+)
+PAIR = rf"\{{ ({INTEGER}|ptr), ({INTEGER}|ptr) \}}"
+PAIR_HEAD = re.compile(rf"^(define internal )(?:noundef )?{PAIR} (@[^(]*\()(?=(.))", re.M)
+PAIR_RETURNED = re.compile(rf"^  (%\w+) = load {PAIR}, ptr (%\w+), align \d+\n  ret {PAIR} \1\n", re.M)
+# A call whose result's fields are stored one after the other.
+PAIR_CALLED = re.compile(
+    rf"^  (%\w+) = call {PAIR} (@[^(]*\()(.*)\)\n  (%\w+) = extractvalue {{ \2, \3 }} \1, 0\n  (%\w+) = extractvalue {{ \2, \3 }} \1, 1\n"
+    r"  store \2 \6, ptr (%\w+), align \d+\n  (%\w+) = getelementptr i8, ptr \8, i64 (\d+)\n  store \3 \7, ptr \9, align \d+\n",
+    re.M,
+)
+FILLED = re.compile(rf"call void @{re.escape(FILL)}\(ptr (%\w+), i8 0, i64 (\d+), i1 false\)$")
+MOVED = re.compile(rf"call void @{re.escape(COPY)}\(ptr (%\w+), ptr (%\w+), i64 (\d+), i1 false\)$")
+STEPPED = re.compile(r"(%\w+) = getelementptr i8, ptr (%\w+), i64 (\d+)$")
+
+
+# ---- in text
+def plain(text):
+    text = NULL_GUARD.sub(r"  \5 = getelementptr i8, ptr \2, i64 0\n", text)
+    text = re.sub(r"^(define [^\n]* \{\n)(.*?)^\}", lambda found: found[1] + "".join(reached_blocks(found[2])) + "}", text, flags=re.M | re.S)
+    text = PAIR_HEAD.sub(lambda found: f"{found[1]}void {found[4]}ptr noundef %result{'' if found[5] == ')' else ', '}", text)
+    text = PAIR_RETURNED.sub(lambda found: f"  call void @{COPY}(ptr %result, ptr {found[4]}, i64 {of_pair(found[2], found[3])[1]}, i1 false)\n  ret void\n", text)
+    text = PAIR_CALLED.sub(told_where, text)
+    if left := re.search(rf"^.*(?:{PAIR}|\bnull\b|\bextractvalue\b).*", text, re.M):
+        raise Unexpected(f"a line of another form: {left[0].strip()}")
+    return text
+
+
+def reached_blocks(body):
+    """The blocks of a function that its first one leads to."""
+    blocks = dict(re.findall(r"^([\w.]+):[^\n]*\n(.*?)(?=^[\w.]+:|\Z)", body, re.M | re.S))
+    todo, found = [next(iter(blocks))], set()
+    while todo:
+        name = todo.pop()
+        if name not in found:
+            found.add(name)
+            todo += re.findall(r"label %([\w.]+)", blocks[name])
+    return [f"{name}:\n{lines}" for name, lines in blocks.items() if name in found]
+
+
+def of_pair(first, second):
+    """Where the second of two fields stands, and the length of both."""
+    whole = max(WIDTHS[first], WIDTHS[second])
+    offset = -(-WIDTHS[first] // WIDTHS[second]) * WIDTHS[second]
+    return offset, -(-(offset + WIDTHS[second]) // whole) * whole
+
+
+def told_where(found):
+    if int(found[10]) != of_pair(found[2], found[3])[0]:
+        raise Unexpected(f"a result that is stored in another form: {found[0].strip()}")
+    return f"  call void {found[4]}ptr {found[8]}{', ' if found[5] else ''}{found[5]})\n"
+
+
+# ---- of the functions that are made small
+def without_zeros(function):
+    """Leaves out that a variable of several bytes is zero at first. Each is, before it is named otherwise, so that no fill of the program's own goes in its place;
+    but for those of the exports, which are written whole."""
+    if function.exported:
+        return
+    found = {}
+    for at, line in enumerate(function.lines):
+        for word in set(re.findall(r"%\w+", line)) & function.variables().keys():
+            found.setdefault(word, []).append(at)
+    dropped = set()
+    branch = next(at for at, line in enumerate(function.lines) if line.startswith(("br ", "switch ", "ret ", "unreachable")))
+    for word in found:
+        declared, *used = found[word]
+        if "x i8]" not in function.lines[declared]:
+            continue
+        fill = FILLED.match(function.lines[used[0]]) if used and used[0] < branch else None
+        if not fill or int(fill[2]) != function.variables()[word][0]:
+            raise Unexpected(f"a variable that is not zero at first, in {function.name}: {function.lines[declared]}")
+        dropped.add(used[0])
+    function.lines = [line for at, line in enumerate(function.lines) if at not in dropped]
+
+
+def with_whole_copies(function):
+    """A variable that is copied field by field, or becomes such a copy, is copied at once. The bytes between its fields have no use."""
+    lines, at = [], 0
+    while at < len(function.lines):
+        length, source, target, whole = by_fields(function, at)
+        lines.append(f"call void @{COPY}(ptr {target}, ptr {source}, i64 {whole}, i1 false)" if length else function.lines[at])
+        at += length or 1
+    function.lines = lines
+
+
+def with_proved_sums(function):
+    """Marks what the toolchain has proved and does not say in its module."""
+    function.lines = [re.sub(rf"^(%\w+ = (?:add|sub|mul)) ({INTEGER}) ", r"\1 nuw \2 ", line) for line in function.lines]
+
+
+def by_fields(function, at):
+    """A copy field by field that begins here: how many lines it takes, from where and to where, and the length of the whole; or no lines."""
+    first = MOVED.match(function.lines[at])
+    sizes = [function.variables()[word][0] for word in (first[1], first[2]) if word in function.variables()] if first else []
+    if not sizes:
+        return 0, None, None, 0
+    end, next_line, whole = int(first[3]), at + 1, sizes[0]
+    while end < whole and next_line + 2 < len(function.lines):
+        to, of, move = (form.match(line) for form, line in zip((STEPPED, STEPPED, MOVED), function.lines[next_line : next_line + 3]))
+        if not (to and of and move) or (to[2], of[2]) != (first[1], first[2]) or to[3] != of[3] or int(to[3]) < end or (move[1], move[2]) != (to[1], of[1]):
+            break
+        end, next_line = int(to[3]) + int(move[3]), next_line + 3
+    is_whole = next_line > at + 1 and end <= whole < end + 8 and all(size == whole for size in sizes)
+    return (next_line - at, first[2], first[1], whole) if is_whole else (0, None, None, 0)
