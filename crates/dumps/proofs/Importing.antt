@@ -35,8 +35,8 @@ numbered-up i (b ∷ c ∷ bs) = rw (lt-ltb i (i + 1) (omega arith)) (numbered-u
 
 pub pieces_up : (device : List ℕ) (bs : List (List ℕ)) → neighbours precedes (numbered 0 bs) ≡ true → neighbours precedes (device_piece device ∷ numbered 0 bs) ≡ true
 unfolding numbered neighbours
-pieces_up device [] p = refl
-pieces_up device (b ∷ bs) p = p
+pieces_up d [] p = refl
+pieces_up d (b ∷ bs) p = p
 
 pub numbered-length : (i : ℕ) (bs : List (List ℕ)) → length (numbered i bs) ≡ length bs
 unfolding numbered

@@ -1,5 +1,5 @@
 -- In a set that opens, the device and the configuration bodies lie end to end, from where the bodies begin. No axiom.
-use Rattle.octets.proofs.Vocabulary.{◌≡◌, refl, sym, ap, ◌∙◌, ℕ, ◌+◌, ◌-◌, ◌*◌, ◌≤◌, ◌<◌, List, [], ◌∷◌, ◌++◌, map, append_assoc, append-nil, Bool, true, false, ⊎_elim, length, take, drop, length-drop, eqb, leb, ltb, drop-drop, take-add, length-take-le, take-length, arith, zero-add, add-sub_cancel_left, eqb-true, ltb-true, eqb-false, ne_eqb, eq-eqb, le-leb, lt-leb, lt-ltb, le-ltb, leb-true}
+use Rattle.octets.proofs.Vocabulary.{◌≡◌, refl, sym, ap, ◌∙◌, ℕ, ◌+◌, ◌-◌, ◌*◌, ◌≤◌, ◌<◌, List, [], ◌∷◌, ◌++◌, map, append_assoc, append-nil, Bool, true, false, ⊎_elim, length, take, drop, length-drop, eqb, leb, ltb, drop-drop, take-add, length-take-le, sub-zero, arith, zero-add, add-sub_cancel_left, eqb-true, ltb-true, eqb-false, ne_eqb, eq-eqb, le-leb, lt-leb, lt-ltb, le-ltb, leb-true}
 use Rattle.octets.specs.Octets.{byte, part}
 use Rattle.octets.specs.Sentences.{pick, every, only, neighbours}
 use Rattle.octets.proofs.Sentences.{cases, both, either, conjunct, never, neighbours-cons}
@@ -170,7 +170,7 @@ module _ (set serial out : List ℕ) (n : ℕ) (e : n ≡ opening full_speed (le
     pub small : size < 65536
     small = omega (arith, q, d.fits, d.small)
 
-    -- what the code lends to `copy`
+    -- what the code lends to `copy_from_slice`
     abbrev copied : List ℕ
     copied = take (4 + 8 * k + size - (4 + 8 * k)) (drop (4 + 8 * k) set)
 
@@ -180,11 +180,11 @@ module _ (set serial out : List ℕ) (n : ℕ) (e : n ≡ opening full_speed (le
     pub short : length out < size → Exports set serial out out (answer 22 0)
     short l = record { fills = record { number = sym (rw (← e, eq-eqb n 0 h, lt-ltb (length out) (length (exported set)) (omega (arith, d.size, q)))); bytes = refl }; counts = refl }
 
-    pub given : size ≤ length out → {after : List ℕ} → after ≡ take (length copied) copied ++ drop (length copied) out → Exports set serial out after (answer 0 size)
+    pub given : size ≤ length out → {written : List ℕ} → written ≡ copied → Exports set serial out (written ++ drop (size - 0) out) (answer 0 size)
     given l p = record {
       fills = record {
         number = sym (rw (← e, eq-eqb n 0 h, le-ltb (length out) (length (exported set)) (omega (arith, d.size, q))));
-        bytes = p ∙ rw (take-length, copied_is);
+        bytes = rw (p ∙ copied_is, sub-zero, q, ← d.size);
       };
       counts = q ∙ sym d.size;
     }
