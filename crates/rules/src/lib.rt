@@ -34,6 +34,7 @@ pub struct Explained {
 }
 
 // One rule is asked, of byte k of what begins at `at` of what begins at `start`; the first fault stays.
+#[tactic(auto, unfolding(crate::specs::After::or_broken))]
 pub fn ask(found: Fault, rule: u16, start: u16, at: u16, k: u8, holds: bool) -> Fault
     ensures { result ≡ or_broken found (asked rule (byte_at start at k) holds) }
 {
