@@ -27,9 +27,9 @@ returns-then-speed-eq0 c =
     let slow = c.open_full-slow.ensures in
     record {
       number = (let compared : let a = c.args in c.compare-number.result ≡ opening_two a.full.now a.high.now a.serial.now = let a = c.args in
-    c.compare-number.ensures a.serial.now
-    (sym c.open_full-slow.ensures.number ∙ c.if-slow-ne-DONE.false)
-    (sym c.open_high-fast.ensures.number ∙ c.if-fast-ne-DONE.false) in compared);
+          c.compare-number.ensures a.serial.now
+          (sym c.open_full-slow.ensures.number ∙ c.if-slow-ne-DONE.false)
+          (sym c.open_high-fast.ensures.number ∙ c.if-fast-ne-DONE.false) in compared);
       known = λ _. rw (eq-eqb a.speed 0 c.if-speed-eq0.true) (slow.known c.if-slow-ne-DONE.false);
     }
 
@@ -39,8 +39,8 @@ returns c =
     let fast = c.open_high-fast.ensures in
     record {
       number = (let compared : let a = c.args in c.compare-number.result ≡ opening_two a.full.now a.high.now a.serial.now = let a = c.args in
-    c.compare-number.ensures a.serial.now
-    (sym c.open_full-slow.ensures.number ∙ c.if-slow-ne-DONE.false)
-    (sym c.open_high-fast.ensures.number ∙ c.if-fast-ne-DONE.false) in compared);
+          c.compare-number.ensures a.serial.now
+          (sym c.open_full-slow.ensures.number ∙ c.if-slow-ne-DONE.false)
+          (sym c.open_high-fast.ensures.number ∙ c.if-fast-ne-DONE.false) in compared);
       known = λ _. rw (ne_eqb a.speed 0 c.if-speed-eq0.false) (fast.known c.if-fast-ne-DONE.false);
     }

@@ -19,8 +19,8 @@ react-requires c =
     let o = c.open_set-opened in
     let number = rw c.full_speed-limits.ensures at o.ensures.number in
     let told : o.result.number ≡ 0 → Told (view_in false a.set.now a.serial.now) false (record_in a.image.now) a.event o.result.known c.seek-sought.result = λ z.
-        told_in false a.set.now a.serial.now (record_in a.image.now) a.event (λ i. omega (arith, c.type_inv.set i)) (full_speed, sym number ∙ z)
-        (rw (c.asked_of-asked.ensures, c.read-device.ensures) at (o.ensures.known z)) (c.seek-sought.ensures z false)
+    told_in false a.set.now a.serial.now (record_in a.image.now) a.event (λ i. omega (arith, c.type_inv.set i)) (full_speed, sym number ∙ z)
+    (rw (c.asked_of-asked.ensures, c.read-device.ensures) at (o.ensures.known z)) (c.seek-sought.ensures z false)
     in
     λ z. (view_in false a.set.now a.serial.now, told z)
 
@@ -30,8 +30,8 @@ returns c =
     let o = c.open_set-opened in
     let number = rw c.full_speed-limits.ensures at o.ensures.number in
     let told : o.result.number ≡ 0 → Told (view_in false a.set.now a.serial.now) false (record_in a.image.now) a.event o.result.known c.seek-sought.result = λ z.
-        told_in false a.set.now a.serial.now (record_in a.image.now) a.event (λ i. omega (arith, c.type_inv.set i)) (full_speed, sym number ∙ z)
-        (rw (c.asked_of-asked.ensures, c.read-device.ensures) at (o.ensures.known z)) (c.seek-sought.ensures z false)
+    told_in false a.set.now a.serial.now (record_in a.image.now) a.event (λ i. omega (arith, c.type_inv.set i)) (full_speed, sym number ∙ z)
+    (rw (c.asked_of-asked.ensures, c.read-device.ensures) at (o.ensures.known z)) (c.seek-sought.ensures z false)
     in
     let v = view_in false a.set.now a.serial.now in
     record { answer = rw number at (c.react.ensures.answer v told); image = rw number at (c.react.ensures.image v told) }

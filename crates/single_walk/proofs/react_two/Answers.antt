@@ -18,11 +18,11 @@ react-requires c =
     let full = c.type_inv.full in
     let high = c.type_inv.high in
     let told : o.result.number ≡ 0 → Told (view_in true u.result.now a.serial.now) true (record_in a.image.now) a.event o.result.known c.seek-sought.result = λ z.
-        told_in true u.result.now a.serial.now (record_in a.image.now) a.event
-        (rw u.ensures.bytes (either-bytes (eqb a.speed 0) a.full.now a.high.now (λ i. omega (arith, full i)) (λ i. omega (arith, high i))))
-        (rw u.ensures.bytes (openable a.full.now a.high.now a.serial.now a.speed (sym o.ensures.number ∙ z)))
-        (rw u.ensures.bytes (rw (c.asked_of-asked.ensures, c.read-device.ensures) at (o.ensures.known z)))
-        (c.seek-sought.ensures z true)
+    told_in true u.result.now a.serial.now (record_in a.image.now) a.event
+    (rw u.ensures.bytes (either-bytes (eqb a.speed 0) a.full.now a.high.now (λ i. omega (arith, full i)) (λ i. omega (arith, high i))))
+    (rw u.ensures.bytes (openable a.full.now a.high.now a.serial.now a.speed (sym o.ensures.number ∙ z)))
+    (rw u.ensures.bytes (rw (c.asked_of-asked.ensures, c.read-device.ensures) at (o.ensures.known z)))
+    (c.seek-sought.ensures z true)
     in
     λ z. (view_in true u.result.now a.serial.now, told z)
 
@@ -34,11 +34,11 @@ returns c =
     let full = c.type_inv.full in
     let high = c.type_inv.high in
     let told : o.result.number ≡ 0 → Told (view_in true u.result.now a.serial.now) true (record_in a.image.now) a.event o.result.known c.seek-sought.result = λ z.
-        told_in true u.result.now a.serial.now (record_in a.image.now) a.event
-        (rw u.ensures.bytes (either-bytes (eqb a.speed 0) a.full.now a.high.now (λ i. omega (arith, full i)) (λ i. omega (arith, high i))))
-        (rw u.ensures.bytes (openable a.full.now a.high.now a.serial.now a.speed (sym o.ensures.number ∙ z)))
-        (rw u.ensures.bytes (rw (c.asked_of-asked.ensures, c.read-device.ensures) at (o.ensures.known z)))
-        (c.seek-sought.ensures z true)
+    told_in true u.result.now a.serial.now (record_in a.image.now) a.event
+    (rw u.ensures.bytes (either-bytes (eqb a.speed 0) a.full.now a.high.now (λ i. omega (arith, full i)) (λ i. omega (arith, high i))))
+    (rw u.ensures.bytes (openable a.full.now a.high.now a.serial.now a.speed (sym o.ensures.number ∙ z)))
+    (rw u.ensures.bytes (rw (c.asked_of-asked.ensures, c.read-device.ensures) at (o.ensures.known z)))
+    (c.seek-sought.ensures z true)
     in
     let v = view_in true u.result.now a.serial.now in
     record { answer = rw (u.ensures.bytes, o.ensures.number) at (c.react.ensures.answer v told); image = rw (u.ensures.bytes, o.ensures.number) at (c.react.ensures.image v told) }

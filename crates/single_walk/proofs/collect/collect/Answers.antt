@@ -27,7 +27,7 @@ rest-walked-requires c =
     let body = a.body.now in
     let end = c.advance-step.result.end in
     let inside = head-inside body _ ((let stepped : pace_of c.advance-step.result ≡ step_of c.args.body.now 0 before = c.advance-step.ensures.steps in stepped)) ((let went : 0 < c.advance-step.result.end = omega (arith, c.if-end-eq0.false) in went)) in
-    let small = (let head_small : c.good_head.result ≡ true → let body = c.args.body.now in let d = take c.advance-step.result.end body in (length body ≤ 65535) × (1 ≤ bNumInterfaces d) × (bNumInterfaces d ≤ 16) = λ p. 
+    let small = (let head_small : c.good_head.result ≡ true → let body = c.args.body.now in let d = take c.advance-step.result.end body in (length body ≤ 65535) × (1 ≤ bNumInterfaces d) × (bNumInterfaces d ≤ 16) = λ p.
     let body = c.args.body.now in
     let end = c.advance-step.result.end in
     head-short (length body) (take end body) (sym c.good_head.ensures ∙ p) (part_bytes body (λ k. omega (arith, c.type_inv.body k)) 0 end) in head_small) c.if-good_head.true in
@@ -44,7 +44,7 @@ rest-walked-requires c =
     }
 
 pub survey_of-requires : goal.survey_of-requires
-survey_of-requires c = rw c.peek-interfaces.ensures ((let head_small : c.good_head.result ≡ true → let body = c.args.body.now in let d = take c.advance-step.result.end body in (length body ≤ 65535) × (1 ≤ bNumInterfaces d) × (bNumInterfaces d ≤ 16) = λ p. 
+survey_of-requires c = rw c.peek-interfaces.ensures ((let head_small : c.good_head.result ≡ true → let body = c.args.body.now in let d = take c.advance-step.result.end body in (length body ≤ 65535) × (1 ≤ bNumInterfaces d) × (bNumInterfaces d ≤ 16) = λ p.
     let body = c.args.body.now in
     let end = c.advance-step.result.end in
     head-short (length body) (take end body) (sym c.good_head.ensures ∙ p) (part_bytes body (λ k. omega (arith, c.type_inv.body k)) 0 end) in head_small) c.if-good_head.true).2

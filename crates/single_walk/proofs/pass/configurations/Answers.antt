@@ -1,10 +1,10 @@
 -- `single_walk::pass::configurations` meets its contract: what is asked of all configurations is asked of those left, and what is known is known before them. No axiom.
-use Rattle.octets.proofs.Vocabulary.{◌≡◌, refl, sym, ap, ◌∙◌, ◌+◌, ◌-◌, ◌<◌, map, ◌&&◌, ◌||◌, true, false≢true, and-true, and_assoc, ⊎_elim, eqb, arith, rules, not-true, not-false}
+use Rattle.octets.proofs.Vocabulary.{◌≡◌, refl, sym, ap, ◌∙◌, ◌+◌, ◌<◌, map, ◌&&◌, ◌||◌, true, false≢true, and-true, and_assoc, eqb, arith, rules}
 use Rattle.octets.specs.Sentences.{every, only}
 use Rattle.octets.specs.Table.{has}
 use Rattle.octets.proofs.Sentences.{both}
 use Rattle.octets.proofs.Tables.{all_of, with-long}
-use Rattle.descriptors.specs.Check.{verdict, configuration_refers}
+use Rattle.descriptors.specs.Check.{configuration_refers}
 use Rattle.descriptors.specs.Configuration.{bConfigurationValue, good_configuration}
 use Rattle.descriptors.proofs.CheckReferences.{refused, told}
 use Rattle.sets.specs.Contents.{body_of, is_kind}
@@ -17,6 +17,7 @@ use Rattle.sets.proofs.Passing.{frame-whole}
 use Rattle.steps.specs.declared.facts.Selected.{Selected}
 use Rattle.single_walk.proofs.Learning.{taken-apart, learned, learnt-start, learnt-more, learnt-end}
 use Rattle.single_walk.proofs.pass.configurations.Goals as goal
+use Rattle.single_walk.proofs.pass.configurations.Goals.{then-selected, else-selected}
 
 pub loop-i-init : goal.loop-i-init
 loop-i-init c =
@@ -54,12 +55,15 @@ returns-then-not-is_numbered-verdict c =
           (sym
           (asked_here 2 (λ es. good_from a.limits l.index l.seen (map (piece_for a.set.now) es)) a.set.now _ c.peek-count.ensures l.i l.invariant.2 c.loop-i-test.true _ c.entry_whole-e.ensures c.if-e-eq-CONFIGURATION.true
           ∙ good_more a.limits l.index l.seen c.entry_whole-e.result (body_of a.set.now c.entry_whole-e.result) _ ((let small : bConfigurationValue (body_of c.args.set.now c.entry_whole-e.result) < 256 = rw (← c.body_whole-body.ensures, ← c.peek-here.ensures) (search rules) in small)) l.invariant.1
-          ∙ rw (sym ((let judged : let a = c.args in let l = c.loop-i in let e = c.entry_whole-e.result in let body = body_of a.set.now e in (c.is_numbered.result && c.walk_once-collected.result.verdict.good) ≡ good_numbered a.limits e l.index body (has l.seen (bConfigurationValue body)) = let a = c.args in
-    let l = c.loop-i in
-    let e = c.entry_whole-e.result in
-    let n = rw (c.holds.ensures, c.peek-here.ensures, c.body_whole-body.ensures) at c.is_numbered.ensures in
-    let g = ap (λ v. v.good) c.walk_once-collected.ensures.verdict ∙ ap (good_configuration a.limits) c.body_whole-body.ensures in
-    rw (n, g) (taken-apart a.limits e l.index (body_of a.set.now e) (has l.seen (bConfigurationValue (body_of a.set.now e)))) in judged)), c.if-not-is_numbered-verdict.true)));
+          ∙ rw (
+            sym ((let judged : let a = c.args in let l = c.loop-i in let e = c.entry_whole-e.result in let body = body_of a.set.now e in (c.is_numbered.result && c.walk_once-collected.result.verdict.good) ≡ good_numbered a.limits e l.index body (has l.seen (bConfigurationValue body)) = let a = c.args in
+                let l = c.loop-i in
+                let e = c.entry_whole-e.result in
+                let n = rw (c.holds.ensures, c.peek-here.ensures, c.body_whole-body.ensures) at c.is_numbered.ensures in
+                let g = ap (λ v. v.good) c.walk_once-collected.ensures.verdict ∙ ap (good_configuration a.limits) c.body_whole-body.ensures in
+                rw (n, g) (taken-apart a.limits e l.index (body_of a.set.now e) (has l.seen (bConfigurationValue (body_of a.set.now e)))) in judged)),
+            c.if-not-is_numbered-verdict.true,
+          )));
       known = λ g. absurd (false≢true (sym (ap (λ x. x.good) c.refuse.ensures) ∙ g));
     }
 
@@ -86,15 +90,21 @@ loop-i-preserved-then-e-eq-CONFIGURATION c =
       rw c.join.ensures (with-long l.seen _ l.invariant.1),
       asked_here 2 (λ es. good_from a.limits l.index l.seen (map (piece_for a.set.now) es)) a.set.now _ count l.i l.invariant.2 test _ c.entry_whole-e.ensures kind
           ∙ good_more a.limits l.index l.seen e (body_of a.set.now e) _ ((let small : bConfigurationValue (body_of c.args.set.now c.entry_whole-e.result) < 256 = rw (← c.body_whole-body.ensures, ← c.peek-here.ensures) (search rules) in small)) l.invariant.1
-          ∙ rw (sym ((let judged : let a = c.args in let l = c.loop-i in let e = c.entry_whole-e.result in let body = body_of a.set.now e in (c.is_numbered.result && c.walk_once-collected.result.verdict.good) ≡ good_numbered a.limits e l.index body (has l.seen (bConfigurationValue body)) = let a = c.args in
-    let l = c.loop-i in
-    let e = c.entry_whole-e.result in
-    let n = rw (c.holds.ensures, c.peek-here.ensures, c.body_whole-body.ensures) at c.is_numbered.ensures in
-    let g = ap (λ v. v.good) c.walk_once-collected.ensures.verdict ∙ ap (good_configuration a.limits) c.body_whole-body.ensures in
-    rw (n, g) (taken-apart a.limits e l.index (body_of a.set.now e) (has l.seen (bConfigurationValue (body_of a.set.now e)))) in judged)), (let passed : (c.is_numbered.result && c.walk_once-collected.result.verdict.good) ≡ true = c.if-not-is_numbered-verdict.false in passed), c.join.ensures, c.peek-here.ensures, body),
+          ∙ rw (
+            sym ((let judged : let a = c.args in let l = c.loop-i in let e = c.entry_whole-e.result in let body = body_of a.set.now e in (c.is_numbered.result && c.walk_once-collected.result.verdict.good) ≡ good_numbered a.limits e l.index body (has l.seen (bConfigurationValue body)) = let a = c.args in
+                let l = c.loop-i in
+                let e = c.entry_whole-e.result in
+                let n = rw (c.holds.ensures, c.peek-here.ensures, c.body_whole-body.ensures) at c.is_numbered.ensures in
+                let g = ap (λ v. v.good) c.walk_once-collected.ensures.verdict ∙ ap (good_configuration a.limits) c.body_whole-body.ensures in
+                rw (n, g) (taken-apart a.limits e l.index (body_of a.set.now e) (has l.seen (bConfigurationValue (body_of a.set.now e)))) in judged)),
+            (let passed : (c.is_numbered.result && c.walk_once-collected.result.verdict.good) ≡ true = c.if-not-is_numbered-verdict.false in passed),
+            c.join.ensures,
+            c.peek-here.ensures,
+            body,
+          ),
       rw (told walked.result.verdict _ _ walked.ensures.verdict good, body)
           (asked_here 2 (λ es. l.refers && every f (map (body_of a.set.now) es)) a.set.now _ count l.i l.invariant.3 test _ c.entry_whole-e.ensures kind ∙ rw every-cons (sym (and_assoc l.refers _ _))),
-      rw ((let learns : let a = c.args in let l = c.loop-i in let w = c.can_wake-waking.result in ◌≡◌ {A = Selected} (record { configured = c.if-selected.configured; waking = l.waking || w; survey = c.if-selected.survey }) (learned (record { configured = l.configured; waking = l.waking; survey = l.survey }) w (eqb c.peek-here.result a.value.0) c.walk_once-collected.result.survey) = ⊎_elim (λ w. rw (w.0.taken, w.2, w.3)) (λ w. rw (w.0.left, w.1, w.2)) c.if-selected.branch in learns), c.can_wake-waking.ensures, c.peek-here.ensures, body)
+      rw ((let learns : let a = c.args in let l = c.loop-i in let w = c.can_wake-waking.result in ◌≡◌ {A = Selected} (record { configured = c.if-selected.configured; waking = l.waking || w; survey = c.if-selected.survey }) (learned (record { configured = l.configured; waking = l.waking; survey = l.survey }) w (eqb c.peek-here.result a.value.0) c.walk_once-collected.result.survey) = elim c.if-selected.branch [ then-selected w ↦ rw (w.if-selected.true, w.configured-is, w.survey-is) | else-selected w ↦ rw (w.if-selected.false, w.configured-is, w.survey-is) ] in learns), c.can_wake-waking.ensures, c.peek-here.ensures, body)
           (learnt-more a.set.now a.value.0 a.alternates.now a.asked e (rest_of 2 a.set.now (l.i + 1)) walked.result.survey
           (λ t. rw body at (walked.ensures.surveyed (rw (here, body) t) good))
           (rw (kind-next 2 a.set.now _ count l.i test e c.entry_whole-e.ensures kind) at l.invariant.4)),

@@ -1,5 +1,5 @@
 -- `single_walk::walk::list` meets its contract. No axiom.
-use Rattle.octets.proofs.Vocabulary.{refl, sym, ◌∙◌, [], ◌∷◌, leb, rules, leb-true}
+use Rattle.octets.proofs.Vocabulary.{refl, sym, ◌∙◌, [], ◌∷◌, leb, leb-true}
 use Rattle.octets.proofs.Sentences.{never, conjunct}
 use Rattle.descriptors.specs.Descriptor.{type_allowed, good_endpoint}
 use Rattle.descriptors.specs.Sequence.{free}

@@ -88,15 +88,15 @@ returns c =
     let alone = no-companions high in
     let r = l.invariant high asked e in
     elim c.loop-at-test.branch [
-      else-loop-at-test w ↦ rests-end alone r _ pre.one (omega (arith, w.loop-at-test.false)) (rw w.at-is at good) c.told.ensures.1 c.told.ensures.2
-    | then-loop-at-test+then-size-lt2 w ↦ rests-stopped _ _ _ pre.some_bytes w.at-is good (reached-small alone r.reached (before-end body w.loop-at-test.true) w.if-size-lt2.true)
-    | then-loop-at-test+else-size-lt2+else-t-ge-CLASS+then-body-end w ↦ rests-stopped _ _ _ pre.some_bytes w.at-is good (reached-long alone r.reached (before-end body w.loop-at-test.true) w.if-body-end.true)
-    | then-loop-at-test+else-size-lt2+else-t-ge-CLASS+else-body-end+then-not-turned w ↦
-      let h = before-end body w.loop-at-test.true in
-      let whole = whole-steps body l.at 0 h w.if-size-lt2.false w.if-body-end.false in
-      let ended = step-ends _ _ _ whole w.step_over-step.ensures in
-      let bytes = part_bytes body (λ k. omega (arith, c.type_inv.body k)) l.at (w.step_over-step.result.end - l.at) in
-      let turned = rw e at w.turn-turned.ensures in
-      rests-stopped _ _ _ pre.some_bytes w.at-is good
-      (reached-refused alone r.reached h w.if-size-lt2.false w.step_over-step.result.end ended (omega (arith, ended, w.if-body-end.false)) (bytes 2) (bytes 3) pre.few (step-sets _ _ _ whole w.step_over-step.ensures) (sym turned.may ∙ not-true _ w.if-not-turned.true))
+      | else-loop-at-test w ↦ rests-end alone r _ pre.one (omega (arith, w.loop-at-test.false)) (rw w.at-is at good) c.told.ensures.1 c.told.ensures.2
+      | then-loop-at-test+then-size-lt2 w ↦ rests-stopped _ _ _ pre.some_bytes w.at-is good (reached-small alone r.reached (before-end body w.loop-at-test.true) w.if-size-lt2.true)
+      | then-loop-at-test+else-size-lt2+else-t-ge-CLASS+then-body-end w ↦ rests-stopped _ _ _ pre.some_bytes w.at-is good (reached-long alone r.reached (before-end body w.loop-at-test.true) w.if-body-end.true)
+      | then-loop-at-test+else-size-lt2+else-t-ge-CLASS+else-body-end+then-not-turned w ↦
+          let h = before-end body w.loop-at-test.true in
+          let whole = whole-steps body l.at 0 h w.if-size-lt2.false w.if-body-end.false in
+          let ended = step-ends _ _ _ whole w.step_over-step.ensures in
+          let bytes = part_bytes body (λ k. omega (arith, c.type_inv.body k)) l.at (w.step_over-step.result.end - l.at) in
+          let turned = rw e at w.turn-turned.ensures in
+          rests-stopped _ _ _ pre.some_bytes w.at-is good
+          (reached-refused alone r.reached h w.if-size-lt2.false w.step_over-step.result.end ended (omega (arith, ended, w.if-body-end.false)) (bytes 2) (bytes 3) pre.few (step-sets _ _ _ whole w.step_over-step.ensures) (sym turned.may ∙ not-true _ w.if-not-turned.true))
     ]
