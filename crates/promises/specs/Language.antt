@@ -1,5 +1,5 @@
 -- The language of a string, sentence by sentence (L6), for every accepted board and every record that fits: GET_DESCRIPTOR of a string index from 1 on, in any
--- language. No axiom.
+-- language. What follows where the asked one is not listed, and at the serial index, stands in proofs/Language. No axiom.
 use Rattle.std.specs.Prelude.{ℕ, ◌+◌, ◌*◌, ◌/◌, ◌%◌, ◌≤◌, ◌≡◌, refl, true, false, ◌&&◌, length, get_or, eqb}
 use native.Mathlib.Omega.{arith}
 use Rattle.std.proofs.Common.{sym, ◌∙◌}

@@ -1,4 +1,5 @@
 -- Demand 1 over the step and over opening: what a refusal leaves, what it hands back, which numbers there are, and where parts lie.
+-- That the step and an event on an image leave what `keeps` says stands in proofs/Refusals.
 -- No axiom.
 use Rattle.std.specs.Prelude.{ℕ, ◌≤◌, ◌≡◌, refl, List, [], Bool, true, false, ◌&&◌, ◌||◌, length, eqb, leb}
 use Rattle.std.proofs.Common.{arith, sym, eqb-true, eq-eqb, le-leb}
