@@ -13,7 +13,8 @@ use Rattle.events.specs.declared.Event.{Event}
 use Rattle.events.specs.Answer.{number_of, bytes_of, part_of, bytes_at}
 use Rattle.events.specs.Step.{step, Reply}
 use Rattle.promises.specs.Refusal.{left_by, allows}
-use Rattle.promises.specs.Refusals.{step_number, step_keeps, step_inside, refusal_empty}
+use Rattle.promises.specs.Refusals.{step_number, step_inside, refusal_empty}
+use Rattle.promises.proofs.Refusals.{step_keeps}
 use Rattle.promises.specs.Keeps.{image_fits}
 use Rattle.promises.specs.Images
 use Rattle.promises.specs.Images.{step_sized, same_image}

@@ -14,7 +14,8 @@ use Rattle.events.specs.Step.{setup_event, event, opened}
 use Rattle.order.specs.Run.{run, answers}
 use Rattle.promises.specs.Rearranged.{Values, values_of, image_answer, image_next}
 use Rattle.promises.specs.Refusal.{allows_image, image_left_by, fresh_image}
-use Rattle.promises.specs.Refusals.{event_number, event_keeps, event_inside, refusal_empty}
+use Rattle.promises.specs.Refusals.{event_number, event_inside, refusal_empty}
+use Rattle.promises.proofs.Refusals.{event_keeps}
 use Rattle.promises.specs.Keeps.{Reached, after_opening, after_event, never_eight}
 use Rattle.board.specs.Exports.{Opens, Happens, AnswersSetup, Spot, Spots, padded, spot_of_part, numbered, AnswersImage}
 

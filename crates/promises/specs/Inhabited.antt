@@ -20,9 +20,9 @@ use Rattle.octets.specs.Octets.{Bytes}
 use Rattle.sets.specs.Sound.{Sound}
 use Rattle.promises.specs.Sound.{sound}
 use Rattle.promises.specs.Keeps.{FitImage, Reached, after_opening, after_event, step_fits, opened_fits, reached_fits}
-use Rattle.promises.specs.Refusals.{step_keeps, step_keeps_all, event_keeps, refusal_empty}
+use Rattle.promises.specs.Refusals.{refusal_empty}
 use Rattle.promises.specs.Replies.{reply_cuts}
-use Rattle.promises.specs.Refusal.{left_by, image_left_by, empty_part}
+use Rattle.promises.specs.Refusal.{empty_part}
 
 -- ---- the bench set S, and the titrator T
 pub accepted_s : accepted S ≡ true
@@ -107,15 +107,6 @@ pub keeps7 : ((step (lent [] []) waiting StatusEnd).answer ≡ Refused 7) × ((s
 unfolding computed
 keeps7 = (refl, refl)
 
--- the theorems at these: in general, and with nothing waiting
-pub keeps_waiting : (step S waiting qualifier).device ≡ left_by 13 waiting
-unfolding computed
-keeps_waiting = step_keeps S waiting qualifier (omega arith)
-
-pub keeps_configured : (step S configured qualifier).device ≡ configured
-unfolding computed
-keeps_configured = step_keeps_all S configured qualifier refl refl (omega arith)
-
 pub empty_answer : (bytes_of (Refused 13) ≡ []) × (part_of (Refused 13) ≡ empty_part)
 empty_answer = refusal_empty (Refused 13) (omega arith)
 
@@ -126,10 +117,6 @@ waiting_image = 0 ∷ 0 ∷ 5 ∷ replicate 29 0
 pub image_drops13 : ((event S waiting_image qualifier).answer ≡ Refused 13) × ((event S waiting_image qualifier).image ≡ 0 ∷ 0 ∷ 255 ∷ replicate 29 0)
 unfolding computed
 image_drops13 = (refl, refl)
-
-pub image_keeps : (event S waiting_image qualifier).image ≡ image_left_by 13 waiting_image
-unfolding computed
-image_keeps = event_keeps S waiting_image qualifier (octets waiting_image refl) (omega arith)
 
 -- ---- a part that is not empty, inside the set: the device descriptor
 pub device_part : (step S fresh (setup_event (bytes 8 0x8006000100004000))).answer ≡ SetPart 20 18

@@ -1,7 +1,8 @@
 -- Demand 1 over the step and over opening: what a refusal leaves, what it hands back, which numbers there are, and where parts lie.
+-- That the step and an event on an image leave what `keeps` says stands in proofs/Refusals.
 -- No axiom.
 use Rattle.std.specs.Prelude.{ℕ, ◌≤◌, ◌≡◌, refl, List, [], Bool, true, false, ◌&&◌, ◌||◌, length, eqb, leb}
-use Rattle.std.proofs.Common.{arith, sym, ◌∙◌, eqb-true, eq-eqb, le-leb}
+use Rattle.std.proofs.Common.{arith, sym, eqb-true, eq-eqb, le-leb}
 use Rattle.std.proofs.Math.Path.{ap}
 use Rattle.std.proofs.Math.Option.{Option, some, none}
 use Rattle.octets.specs.Sentences.{pick, is_some}
@@ -11,9 +12,8 @@ use Rattle.sets.specs.Opening.{Board, lent, opening}
 use Rattle.sets.specs.Pair.{agrees, or_else, opening_two}
 use Rattle.sets.specs.View.{View, opening_of, accepted}
 use Rattle.records.specs.declared.Device.{Device}
-use Rattle.records.specs.Device.{nothing, fresh, in_test_mode, settled}
+use Rattle.records.specs.Device.{fresh, in_test_mode, settled}
 use Rattle.records.specs.Image.{device_of, image_of}
-use Rattle.records.proofs.Image.{image-device}
 use Rattle.records.specs.Current.{board_for, view_at}
 use Rattle.records.proofs.InUse.{row_for, opens_for}
 use Rattle.records.specs.Fits.{fits_on}
@@ -25,11 +25,10 @@ use Rattle.laws.specs.Parts.{drops}
 use Rattle.events.specs.declared.Outcome.{Outcome}
 use Rattle.events.specs.Answer.{number_of, bytes_of, part_of, InsideAt}
 use Rattle.events.specs.Step.{answer_setup, respond, step, event, opened}
-use Rattle.octets.specs.Octets.{Bytes}
-use Rattle.promises.specs.Refusal.{after_settling, left_by, refuses, allows_fit, allows, empty_part, allows_image, image_left_by, opens}
+use Rattle.promises.specs.Refusal.{after_settling, left_by, refuses, allows_fit, allows, empty_part, allows_image, opens}
 use Rattle.sets.proofs.Groups.{groups}
 use Rattle.laws.proofs.Outcomes.{chosen, Refusable, malformed, no_reset, no_halt, no_pass, no_power, no_wake, responded}
-use Rattle.laws.proofs.Refusing.{Numbered, not_refused, refused_setup, refused_in_test, refused_other, numbered, placed, nothing-settled, left-image, opening-number}
+use Rattle.laws.proofs.Refusing.{Numbered, not_refused, refused_setup, refused_in_test, refused_other, numbered, placed, opening-number}
 
 -- ---- over the step
 -- "Refusals hand back no bytes and an empty part."
@@ -75,7 +74,7 @@ allowed v d e = cases (in_test_mode d && drops e)
     (λ p. rw p (eq-eqb (number_of (respond v d e).answer) 17 (in_test17 v d e p)))
     (λ p. rw p (own_number (numbered (responded v d e)) p))
 
-keeps : {d : Device} {e : Event} {o : Outcome} → Numbered d e o → (number_of o.answer ≡ 0 → ⊥) → o.device ≡ left_by (number_of o.answer) d
+pub keeps : {d : Device} {e : Event} {o : Outcome} → Numbered d e o → (number_of o.answer ≡ 0 → ⊥) → o.device ≡ left_by (number_of o.answer) d
 keeps (not_refused z) refused = absurd (refused z)
 keeps {d} (refused_setup {n = n} l h) refused = ap (λ b. pick b (settled d) d) (sym (or_left (eqb n 17) (joined (le-leb 10 n l) (le-leb n 14 h))))
 keeps {d} (refused_in_test p) refused = refl
@@ -106,17 +105,6 @@ module _ (b : Board) (d : Device) (e : Event) where
       (λ p. cases (fits_on b d) (λ q. rw (p, q) (allowed (view_at b d) d e)) (λ q. rw (p, q)))
       (λ p. rw p)
 
-  -- where the number is not 0 the record stays as it was, but that 10 to 14 drop what still waits, and with 17 clear byte 6
-  pub step_keeps : (number_of (step b d e).answer ≡ 0 → ⊥) → (step b d e).device ≡ left_by (number_of (step b d e).answer) d
-  unfolding step
-  step_keeps = cases (accepted b)
-      (λ p. cases (fits_on b d) (λ q. rw (p, q) (keeps (numbered (responded (view_at b d) d e)))) (λ q. rw (p, q) (λ z. refl)))
-      (λ p. rw p (λ z. refl))
-
-  -- so with nothing waiting, and awake, every refusal leaves all as it was
-  pub step_keeps_all : d.waiting ≡ nothing → d.suspended ≡ 0 → (number_of (step b d e).answer ≡ 0 → ⊥) → (step b d e).device ≡ d
-  step_keeps_all w a z = step_keeps z ∙ nothing-settled d w a (after_settling (number_of (step b d e).answer))
-
   -- every part lies inside its slice: the set in use, or the serial block
   pub step_inside : InsideAt b d.speed (part_of (step b d e).answer)
   unfolding step
@@ -129,13 +117,6 @@ module _ (b : Board) (image : List ℕ) (e : Event) where
   pub event_number : allows_image b image e (number_of (event b image e).answer) ≡ true
   unfolding event
   event_number = cases (eqb (length image) 32) (λ p. rw p (step_number b (device_of image) e)) (λ p. cases (accepted b) (λ q. rw (p, q)) (λ q. rw (p, q)))
-
-  -- where the number is not 0 the image stays as it was, but that 10 to 14 drop what still waits, and with 17 clear byte 6
-  pub event_keeps : Bytes image → (number_of (event b image e).answer ≡ 0 → ⊥) → (event b image e).image ≡ image_left_by (number_of (event b image e).answer) image
-  unfolding event
-  event_keeps bytes = cases (eqb (length image) 32)
-      (λ p. rw p (λ z. ap image_of (step_keeps b (device_of image) e z) ∙ left-image image (image-device image (eqb-true (length image) 32 p) bytes) (after_settling (number_of (step b (device_of image) e).answer))))
-      (λ p. cases (accepted b) (λ q. rw (p, q) (λ z. refl)) (λ q. rw (p, q) (λ z. refl)))
 
   pub event_inside : InsideAt b (device_of image).speed (part_of (event b image e).answer)
   unfolding event

@@ -1,7 +1,0 @@
--- `single_walk::begin` meets its contract. No axiom.
-use Rattle.octets.proofs.Vocabulary.{needs}
-use Rattle.single_walk.proofs.begin.Statement.{statement}
-use Rattle.single_walk.proofs.begin.Tie as tie
-
-pub begin-spec : {M : Type 1} → statement M
-begin-spec = tie.close (tie.spec (λ c κs. search needs) (λ c. c.first-groups.ensures))
