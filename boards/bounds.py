@@ -4,9 +4,9 @@ Each number has an upper bound, found by the rules below. Where a number comes f
 bound is the largest that comes there; these bounds grow from nothing until no rule raises one. So they hold at the first step of every run, and at each further
 step if they held before: what a step gives is within its bound if what it takes is. A value whose bound is 2^32 or more stops the build.
 
-Three things are taken from outside. A length that C lends is below 2^31: no object in C is longer than PTRDIFF_MAX. What the toolchain marks `nuw` never goes beyond
-64 bits or below 0: it has proved that, and its own archive relies on it. And a slice, which is a pointer with a 64-bit length right behind it, lies within what was
-lent: it has proved that too.
+Three things are taken from outside. A length that C lends is below 2^31: no object in C is longer than PTRDIFF_MAX. No sum, difference or product goes beyond its
+type or below 0: the toolchain has proved that of each and does not say so in the module, so plain.py marks them `nuw`. And a slice, which is a pointer with a 64-bit
+length right behind it, lies within what was lent: it has proved that too.
 """
 import re
 from collections import Counter

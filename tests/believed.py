@@ -149,7 +149,7 @@ class Believed:
         parts = [part for part in path.split(".") if part != "TheVariants"]
         modules, name = parts[1:-1], parts[-1]
         source = os.path.join(CRATES, crate, "src", *(modules or ["lib"])) + ".rt"
-        declared = re.search(rf"^(?:#\[.*\]\n)*(?:pub )?(?:struct|enum) {name}\b(?:[^\n{{]*;|.*?^\}})$", read(source), re.MULTILINE | re.DOTALL)
+        declared = re.search(rf"^(?:#\[[^\n]*\]\n)*(?:pub )?(?:struct|enum) {name}\b(?:[^\n{{]*;|.*?^\}})$", read(source), re.MULTILINE | re.DOTALL)
         self.types["::".join([crate, *modules, name])] = declared[0].count("\n") + 1
 
     def follow(self, module, name, at=None):

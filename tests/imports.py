@@ -19,9 +19,14 @@ COMMENT = re.compile(r"(?:^|(?<=\s))(?:--|//).*", re.MULTILINE)
 CONTRACT = re.compile(r"^ +(?:requires|ensures)\b.*(?:\n {8}.*)*", re.MULTILINE)
 
 
-def here(name, path=""):
-    """How `a`, `N.a` or `a as b` is called in the file that imports it, and `self` of a path."""
-    return re.split(r" as |\.|::", path if name == "self" else name)[-1]
+def here(name, use):
+    """How `a`, `N.a` or `a as b` is called in the file that imports it, and Rattle's `self` of a path."""
+    return re.split(r" as |\.|::", use["path"] if name == "self" and use["group"] == "::" else name)[-1]
+
+
+def is_trait(name, use):
+    """What std may name for its methods alone: the check itself tells where it does not (rt tidy)."""
+    return not use["kind"] and use["path"].startswith("std::") and name[:1].isupper()
 
 
 def words(text):
@@ -54,7 +59,7 @@ class Imports:
                 continue
             there = self.ghost if use["kind"] else self.code
             names = use["names"].split(", ") if use["names"] else [use["here"] or re.split(r"\.|::", use["path"])[-1]]
-            used = [name for name in names if is_used(here(name, use["path"]), there)]
+            used = [name for name in names if is_used(here(name, use), there) or is_trait(name, use)]
             if used != names:
                 yield number, names, used
 
