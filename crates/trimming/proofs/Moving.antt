@@ -1,4 +1,4 @@
--- Writing over what is read: entries that stay, bodies that move down, and zeros. No axiom.
+-- Writing over what is read: entries that stay and bodies that move down. No axiom.
 use Rattle.octets.proofs.Vocabulary.{◌≡◌, refl, sym, ap, ◌∙◌, ℕ, ◌+◌, ◌-◌, ◌≤◌, List, [], ◌∷◌, ◌++◌, map, Bool, true, false, length, take, drop, length-append, length-drop, length-take, eqb, sets-eq, paste, drop-paste, drop-drop, length-take-le, arith, eqb-true}
 use Rattle.octets.specs.Octets.{part}
 use Rattle.octets.specs.Sentences.{only}

@@ -1,4 +1,4 @@
--- Refused and unchanged, or trimmed: what opening tells that trimming needs. No axiom.
+-- Trimmed: what opening tells that trimming needs. No axiom.
 use Rattle.octets.proofs.Vocabulary.{◌≡◌, sym, ap, ◌∙◌, ℕ, zero, suc, ◌+◌, ◌<◌, List, [], ◌∷◌, map, List-as-Memᴰ, List·Memᴰ·cases-cons, List·Memᴰ·not-nil, Bool, true, ◌||◌, ⊎_elim, length, drop, eqb, leb, get_or-drop, eqb-true}
 use Rattle.octets.specs.Octets.{byte, Bytes}
 use Rattle.octets.specs.Sentences.{every, neighbours, only, any}
