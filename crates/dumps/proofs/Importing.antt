@@ -1,5 +1,5 @@
 -- The pieces of a dump stand in order; what import answers, case by case. No axiom.
-use Rattle.octets.proofs.Vocabulary.{◌≡◌, refl, sym, ap, ◌∙◌, ℕ, suc, ◌+◌, ◌-◌, ◌*◌, ◌≤◌, ◌<◌, List, [], ◌∷◌, ◌++◌, map, true, false, length, take, drop, length-map, eqb, ltb, sets-eq, take_at, arith, sub-zero, lt-ltb}
+use Rattle.octets.proofs.Vocabulary.{◌≡◌, refl, sym, ap, ◌∙◌, ℕ, suc, ◌+◌, ◌-◌, ◌*◌, ◌≤◌, ◌<◌, List, [], ◌∷◌, ◌++◌, map, true, length, take, drop, length-map, eqb, ltb, sets-eq, take_at, arith, sub-zero, lt-ltb}
 use Rattle.octets.specs.Sentences.{pick, neighbours}
 use Rattle.octets.proofs.Sentences.{or_left, or_right}
 use Rattle.descriptors.specs.Limits.{full_speed}
@@ -62,9 +62,6 @@ module _ (dump : List ℕ) where
 
 -- ---- what import answers
 module _ (dump out : List ℕ) where
-  pub broken : splits dump ≡ false → Imports dump out out (answer 23 0)
-  broken p = record { fills = record { number = sym (rw p); bytes = refl }; why = sym (rw p) }
-
   module _ (p : splits dump ≡ true) where
     over : too_large dump ≡ true → Imports dump out out (answer 21 0)
     over q = record { fills = record { number = sym (rw (p, q)); bytes = refl }; why = sym (rw (p, q)) }

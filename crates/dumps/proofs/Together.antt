@@ -156,9 +156,6 @@ abbrev pub answer : ℕ → ℕ → Dumped
 answer number written = record { number = number; written = written }
 
 module _ (set serial out : List ℕ) (n : ℕ) (e : n ≡ opening full_speed (lent set serial)) where
-  pub refused : (n ≡ 0 → ⊥) → Exports set serial out out (answer n 0)
-  refused h = record { fills = record { number = sym (rw (← e, ne_eqb n 0 h)); bytes = sym (rw (ne_eqb n 0 h)) }; counts = sym (rw (ne_eqb n 0 h)) }
-
   module _ (h : n ≡ 0) (k : ℕ) (i : k ≡ count set) (size : ℕ) (q : size ≡ shares (entries set)) where
     d : Dump set
     d = dump set serial (sym e ∙ h)

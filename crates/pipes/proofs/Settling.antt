@@ -1,40 +1,15 @@
--- What the library's answer settles, and what is handed over, in clean contexts: for the proofs of src/response.rt. No axiom.
-use Rattle.octets.proofs.Vocabulary.{◌≡◌, refl, sym, ap, ◌∙◌, ℕ, ◌≤◌, List, [], ◌∷◌, Bool, true, false, length, eqb, leb, arith, eqb-true, leb-true}
+-- What is sent lies inside what is lent: for the proofs of src/response.rt. No axiom.
+use Rattle.octets.proofs.Vocabulary.{◌≡◌, refl, ℕ, ◌≤◌, List, [], ◌∷◌, Bool, true, false, length, eqb, leb, arith, eqb-true, leb-true}
 use Rattle.octets.specs.Sentences.{pick}
 use Rattle.octets.proofs.Sentences.{conjunct}
-use Rattle.requests.specs.declared.Setup.{Setup}
-use Rattle.events.specs.declared.Answer.{Answer}
-use Rattle.events.specs.Answer.{number_of}
 use Rattle.packets.proofs.Sizes.{inside}
 use Rattle.pipes.specs.declared.Lengths.{Lengths}
 use Rattle.pipes.specs.declared.Transfer.{Transfer}
-use Rattle.pipes.specs.declared.Wire.{Wire}
-use Rattle.pipes.specs.declared.response.Response.{Response}
 use Rattle.pipes.specs.Transfer.{data_in, send, block_length, fits}
 use Rattle.pipes.specs.Sending.{piece_of, no_piece, sends, sent, in_block, Inside}
-use Rattle.pipes.specs.Pipe.{lengths_in, order_begun, pipe_begun, turn_begun, pipe_reset}
-use Rattle.pipes.specs.Hearing.{is_setup, bare, with_bytes, responds, settles}
+use Rattle.pipes.specs.Pipe.{lengths_in}
 use Rattle.pipes.proofs.Fitting.{reply-inside}
 
-module _ (size : ℕ) (w : Wire) (s : Setup) (a : Answer) (pipe : List ℕ) {r : Response} {left : List ℕ} where
-  -- a setup
-  pub settle-begins : (k order : ℕ) → is_setup w ≡ true → k ≡ size → order ≡ order_begun (number_of a) (turn_begun a s k) → left ≡ pipe_begun (number_of a) pipe (turn_begun a s k)
-      → r ≡ with_bytes a order → (r ≡ responds size w s a) × (left ≡ settles size w s a pipe)
-  settle-begins k order is e o p q = (
-    q ∙ ap (with_bytes a) (o ∙ ap (λ (n : ℕ). order_begun (number_of a) (turn_begun a s n)) e)
-        ∙ sym (ap (λ (t : Bool). pick t (with_bytes a (order_begun (number_of a) (turn_begun a s size))) (bare (number_of a) 0)) is),
-    p ∙ ap (λ (n : ℕ). pipe_begun (number_of a) pipe (turn_begun a s n)) e
-        ∙ sym (ap (λ (t : Bool). pick t (pipe_begun (number_of a) pipe (turn_begun a s size)) (pipe_reset (number_of a) pipe)) is),
-  )
-
-  -- a reset, or a transfer that has ended
-  pub settle-restarts : (n : ℕ) → is_setup w ≡ false → n ≡ number_of a → left ≡ pipe_reset n pipe → r ≡ bare n 0 → (r ≡ responds size w s a) × (left ≡ settles size w s a pipe)
-  settle-restarts n is e p q = (
-    q ∙ ap (λ (m : ℕ). bare m 0) e ∙ sym (ap (λ (t : Bool). pick t (with_bytes a (order_begun (number_of a) (turn_begun a s size))) (bare (number_of a) 0)) is),
-    p ∙ ap (λ (m : ℕ). pipe_reset m pipe) e ∙ sym (ap (λ (t : Bool). pick t (pipe_begun (number_of a) pipe (turn_begun a s size)) (pipe_reset (number_of a) pipe)) is),
-  )
-
--- ---- what is sent lies inside what is lent
 pub sent-inside : (first used serial reply : List ℕ) (order : ℕ) (t : Transfer) → Inside first used serial reply (sent (lengths_in used serial reply) order t)
 unfolding sent
 sent-inside first used serial reply order t = go (sends lens order t) refl

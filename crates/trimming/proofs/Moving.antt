@@ -1,5 +1,5 @@
--- Writing over what is read: entries that stay, bodies that move down, and zeros. No axiom.
-use Rattle.octets.proofs.Vocabulary.{◌≡◌, refl, sym, ap, ◌∙◌, ℕ, suc, ◌+◌, ◌-◌, ◌≤◌, ◌<◌, List, [], ◌∷◌, ◌++◌, map, Bool, true, false, length, take, drop, replicate, length-append, length-drop, length-take, length-replicate, eqb, sets-eq, paste, drop-paste, drop-drop, length-take-le, arith, eqb-true}
+-- Writing over what is read: entries that stay and bodies that move down. No axiom.
+use Rattle.octets.proofs.Vocabulary.{◌≡◌, refl, sym, ap, ◌∙◌, ℕ, ◌+◌, ◌-◌, ◌≤◌, List, [], ◌∷◌, ◌++◌, map, Bool, true, false, length, take, drop, length-append, length-drop, length-take, eqb, sets-eq, paste, drop-paste, drop-drop, length-take-le, arith, eqb-true}
 use Rattle.octets.specs.Octets.{part}
 use Rattle.octets.specs.Sentences.{only}
 use Rattle.octets.proofs.Sentences.{both, cases}
@@ -104,16 +104,3 @@ module _ (start out : List ℕ) (to from size : ℕ) (same : drop from out ≡ d
         ap (λ (n : ℕ). drop n after) (sym k) ∙ sym (drop-drop (from - to) (to + size) after)
         ∙ ap (drop (from - to)) (ap (drop (to + size)) e ∙ drop-paste out to (drop from out) size (omega arith) long)
         ∙ drop-drop (from - to) (to + size) out ∙ ap (λ (n : ℕ). drop n out) k ∙ still
-
--- ---- zeros
-zeros-suc : (n : ℕ) → replicate {A = ℕ} (suc n) 0 ≡ 0 ∷ replicate n 0
-zeros-suc n = refl
-
-pub zeros-more : (size at : ℕ) → at < size → replicate {A = ℕ} (size - at) 0 ≡ (0 ∷ []) ++ replicate (size - (at + 1)) 0
-zeros-more size at h = let e : size - at ≡ suc (size - (at + 1)) = omega arith in ap (λ (n : ℕ). replicate {A = ℕ} n 0) e ∙ zeros-suc (size - (at + 1))
-
-pub zeros-none : (size at : ℕ) → size ≤ at → replicate {A = ℕ} (size - at) 0 ≡ []
-zeros-none size at h = let e : size - at ≡ 0 = omega arith in ap (λ (n : ℕ). replicate {A = ℕ} n 0) e
-
-pub room-zeros : (size at : ℕ) → at ≤ size → at + length (replicate {A = ℕ} (size - at) 0) ≤ size
-room-zeros size at h = omega (arith, length-replicate {A = ℕ} (size - at) 0)

@@ -73,9 +73,6 @@ pick-long false table k p = p
 pub long-pick : (d table : List ℕ) {t : List ℕ} → t ≡ pick (is_interface d) (with table (iInterface d)) table → length table ≡ 8 → length t ≡ 8
 long-pick d table e p = rw e (pick-long (is_interface d) table (iInterface d) p)
 
-pub long-with : (table : List ℕ) (k : ℕ) {t : List ℕ} → t ≡ with table k → length table ≡ 8 → length t ≡ 8
-long-with table k e p = rw e (with-long table k p)
-
 -- ---- the set's references
 any-flat : {A : Type 0} (f : ℕ → Bool) (g : A → List ℕ) (xs : List A) → any f (flat_map g xs) ≡ any (λ x. any f (g x)) xs
 unfolding any flat_map

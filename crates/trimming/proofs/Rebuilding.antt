@@ -1,5 +1,5 @@
 -- The set anew: contents, bodies, zeros and header, one after another, are the set of the pieces that stay. No axiom.
-use Rattle.octets.proofs.Vocabulary.{◌≡◌, refl, sym, ap, ◌∙◌, ℕ, zero, suc, ◌+◌, ◌-◌, ◌*◌, ◌/◌, ◌%◌, ◌≤◌, ◌<◌, List, [], ◌∷◌, ◌++◌, map, append_assoc, append-nil, Bool, true, false, length, take, drop, set, replicate, length-append, length-drop, length-map, length-replicate, drop_of_length-le, take-append-drop, eqb, leb, sets, sets-eq, length-sets, drop-set-lt, drop_at, take-length, length-take-le, drop-append-le, arith, sub-zero, eqb-true, leb-true}
+use Rattle.octets.proofs.Vocabulary.{◌≡◌, refl, sym, ap, ◌∙◌, ℕ, zero, suc, ◌+◌, ◌-◌, ◌*◌, ◌/◌, ◌%◌, ◌≤◌, ◌<◌, List, [], ◌∷◌, ◌++◌, map, append_assoc, append-nil, Bool, true, false, length, take, drop, set, replicate, length-append, length-drop, length-map, length-replicate, drop_of_length-le, take-append-drop, eqb, leb, sets, sets-eq, length-sets, drop-set-lt, drop_at, length-take-le, drop-append-le, arith, sub-zero, eqb-true, leb-true}
 use Rattle.octets.specs.Octets.{byte, part}
 use Rattle.octets.specs.Sentences.{pick, only}
 use Rattle.octets.proofs.Sentences.{cases, conjunct}
@@ -282,20 +282,22 @@ module _ (set rest : List ℕ) (g : Frame set) {size : ℕ} (s : size ≡ bodies
   aside-entries : entries aside ≡ entries set
   aside-entries = ap entries e ∙ alike (take size set) rest (drop size set) (omega (arith, front_long, here)) ∙ ap entries (sym split)
 
--- what was copied, as the code has it: the part from 0 on
-module _ (set zeros : List ℕ) (g : Frame set) (p : ℕ) (c : p ≡ count set) {aside : List ℕ}
-    (e : aside ≡ take (length (take (4 + 8 * p - 0) set)) (take (4 + 8 * p - 0) set) ++ drop (length (take (4 + 8 * p - 0) set)) zeros) where
+-- what was copied, as the code has it: the part from 0 on, and behind it what was there
+module _ (set : List ℕ) (g : Frame set) (p : ℕ) (c : p ≡ count set) {written : List ℕ} (e : written ≡ take (4 + 8 * p - 0) set) (rest : List ℕ) where
+  abbrev aside : List ℕ
+  aside = written ++ rest
+
   size_is : 4 + 8 * p - 0 ≡ bodies_at set
   size_is = rw (sub-zero, c)
 
-  copied : aside ≡ take (4 + 8 * p - 0) set ++ drop (length (take (4 + 8 * p - 0) set)) zeros
-  copied = e ∙ ap (λ (l : List ℕ). l ++ drop (length (take (4 + 8 * p - 0) set)) zeros) (take-length (take (4 + 8 * p - 0) set))
+  copied : aside ≡ take (4 + 8 * p - 0) set ++ rest
+  copied = ap (λ (l : List ℕ). l ++ rest) e
 
   pub copied-entries : entries aside ≡ entries set
-  copied-entries = aside-entries set _ g size_is copied
+  copied-entries = aside-entries set rest g size_is copied
 
   copied-count : count aside ≡ count set
-  copied-count = aside-count set _ g size_is copied
+  copied-count = aside-count set rest g size_is copied
 
   pub prepared : (f : Entry → Bool) (n : ℕ) → end_to_end (bodies_at set) (length set) (entries set) ≡ true → n ≡ length (only f (entries aside)) → Ready set f (entries aside) (bodies_at aside) n
   prepared f n h q = record {

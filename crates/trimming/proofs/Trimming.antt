@@ -1,5 +1,5 @@
--- Refused and unchanged, or trimmed: what opening tells that trimming needs. No axiom.
-use Rattle.octets.proofs.Vocabulary.{◌≡◌, sym, ap, ◌∙◌, ℕ, zero, suc, ◌+◌, ◌<◌, List, [], ◌∷◌, map, List-as-Memᴰ, List·Memᴰ·cases-cons, List·Memᴰ·not-nil, Bool, true, ◌||◌, ⊎_elim, length, drop, eqb, leb, get_or-drop, eqb-true, ne_eqb}
+-- Trimmed: what opening tells that trimming needs. No axiom.
+use Rattle.octets.proofs.Vocabulary.{◌≡◌, sym, ap, ◌∙◌, ℕ, zero, suc, ◌+◌, ◌<◌, List, [], ◌∷◌, map, List-as-Memᴰ, List·Memᴰ·cases-cons, List·Memᴰ·not-nil, Bool, true, ◌||◌, ⊎_elim, length, drop, eqb, leb, get_or-drop, eqb-true}
 use Rattle.octets.specs.Octets.{byte, Bytes}
 use Rattle.octets.specs.Sentences.{every, neighbours, only, any}
 use Rattle.octets.proofs.Sentences.{both, conjunct, every-member, member-every}
@@ -49,10 +49,7 @@ indices (suc n) bytes h e m = ⊎_elim (λ q. rw q (h 1)) (λ k. indices n (drop
 index-small : (set : List ℕ) → Bytes set → (e : Entry) → List-as-Memᴰ e (entries set) → e.index < 256
 index-small set h = indices (count set) (drop 4 set) (λ i. rw (get_or-drop 4 set i 0) (h (4 + i)))
 
--- ---- the two answers
-pub refused : (limits : Limits) (set serial : List ℕ) (n : ℕ) → n ≡ opening limits (lent set serial) → (n ≡ 0 → ⊥) → Trims limits set serial set n
-refused limits set serial n e h = record { number = e; bytes = rw (ne_eqb n 0 h) }
-
+-- ---- the answer 0
 module _ (limits : Limits) (set serial : List ℕ) (small : Bytes set) (n : ℕ) (e : n ≡ opening limits (lent set serial)) (z : n ≡ 0) (table : List ℕ)
     (names : (j : ℕ) → j < 256 → has table j ≡ keeping.referenced set j) (a : Bool) (first : a ≡ any (table_names table) (entries set)) (s : ℕ) (serially : s ≡ iSerialNumber (device_body set)) where
   stays : (a || leb 1 s) ≡ zero_stays set
