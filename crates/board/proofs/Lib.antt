@@ -3,5 +3,4 @@ pub mod Spots
 pub mod EndpointImages
 pub mod TwoSets
 pub mod PortAnswers
-pub mod Elements
 pub mod Piping

@@ -2,7 +2,6 @@
 use Rattle.octets.proofs.Vocabulary.{◌≡◌, refl, sym, ap, subst, ◌∙◌, ℕ, ◌+◌, ◌≤◌, ◌<◌, List, [], Bool, true, false, false≢true, length, eqb, arith, eq-eqb, eqb-true}
 use Rattle.octets.specs.Octets.{byte}
 use Rattle.octets.specs.Sentences.{pick}
-use Rattle.sets.specs.Contents.{count}
 use Rattle.sets.specs.Opening.{Board}
 use Rattle.records.specs.Image.{device_of}
 use Rattle.records.specs.Current.{set_for, in_use}

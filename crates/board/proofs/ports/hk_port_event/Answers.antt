@@ -1,0 +1,10 @@
+-- `board::ports::hk_port_event` meets its contract: the record at the port is changed where it stands. No axiom.
+use Rattle.sets.specs.Opening.{lent}
+use Rattle.board.specs.Exports.{spot_of, spots, numbered}
+use Rattle.board.proofs.PortAnswers.{present}
+use Rattle.board.proofs.ports.hk_port_event.Goals as goal
+
+pub returns : goal.returns
+returns c =
+    let a = c.args in
+    present (lent a.set.now a.serial.now) (spots (spot_of a.set.ref_ptr) (spot_of a.serial.ref_ptr)) a.row.now a.port (numbered a.kind a.value a.setup.now) _ c.if-row-port.false c.record_event.ensures
