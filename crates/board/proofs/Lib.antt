@@ -4,3 +4,5 @@ pub mod EndpointImages
 pub mod TwoSets
 pub mod PortAnswers
 pub mod Piping
+pub mod PortRuns
+pub mod InhabitedPorts

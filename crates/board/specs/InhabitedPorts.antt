@@ -6,22 +6,18 @@ use Rattle.sets.specs.Opening.{Board}
 use Rattle.records.specs.declared.Device.{Device}
 use Rattle.records.specs.Device.{fresh, Sized}
 use Rattle.records.specs.Image.{image_of}
-use Rattle.order.specs.Run.{All}
 use Rattle.promises.specs.Examples.{bytes, computed, T}
-use Rattle.promises.specs.Inhabited.{accepted_t, bytes_t, configured, configured_sized}
-use Rattle.promises.specs.InhabitedOrder.{configured_fits_t}
-use Rattle.board.specs.Exports.{Opens, Spots, record_at}
-use Rattle.board.specs.Runs.{Given, number_given}
-use Rattle.board.specs.Order.{concerns_this, Reordered, told, told_to}
-use Rattle.board.specs.Unnoticed.{kept, kept_of, Alike}
-use Rattle.board.specs.Records.{as_images}
-use Rattle.board.specs.Ports.{PortCall, RowRuns, calls_at, given_at, port_run, order_ports, unnoticed_ports_by_page, never_eight_ports}
+use Rattle.promises.specs.Inhabited.{configured}
+use Rattle.board.specs.Exports.{Opens, Spots}
+use Rattle.board.specs.Order.{concerns_this, Reordered}
+use Rattle.board.specs.Unnoticed.{kept}
+use Rattle.board.specs.Ports.{PortCall, calls_at}
 use Rattle.board.specs.InhabitedRuns.{start, lie}
 
-abbrev titrators : ℕ → Board
+abbrev pub titrators : ℕ → Board
 titrators k = T
 
-abbrev spots : ℕ → Spots
+abbrev pub spots : ℕ → Spots
 spots k = lie
 
 -- an event at a port, and a setup
@@ -51,11 +47,6 @@ pub reordered : Reordered T (image_of configured) (calls_at 1 one_order) (calls_
 unfolding computed
 reordered = record { one = refl; other = refl; same = same }
 
-pub ordered_at_one : {last other : List Device} {gs hs : List Given} → RowRuns titrators spots row one_order gs last → RowRuns titrators spots row other_order hs other
-    → (record_at last 1 ≡ record_at other 1)
-    × ((i : ℕ) → told_to T (image_of configured) i (calls_at 1 one_order) (given_at 1 one_order gs) ≡ told_to T (image_of configured) i (calls_at 1 other_order) (given_at 1 other_order hs))
-ordered_at_one one two = order_ports titrators spots 1 bytes_t accepted_t (omega arith) configured_sized configured_fits_t one two reordered
-
 -- ---- L9: from power-on at port 1, SET_ADDRESS 5, its status end, SET_CONFIGURATION 1 and the same; without interface 0's packet interface 1 is given the same
 abbrev pub opened : List Device
 opened = configured ∷ fresh ∷ []
@@ -76,14 +67,3 @@ left_run = ask 1 0x0005050000000000 ∷ at 1 1 0 ∷ ask 1 0x0009010000000000 �
 pub struck_out : calls_at 1 left_run ≡ kept T lie 1 (image_of fresh) (calls_at 1 whole_run)
 unfolding computed
 struck_out = refl
-
-pub unnoticed_at_one : {last other : List Device} {gs hs : List Given} (one : RowRuns titrators spots opened whole_run gs last) → RowRuns titrators spots opened left_run hs other
-    → (kept_of T lie 1 (as_images T lie bytes_t fresh_sized (port_run titrators spots 1 (omega arith) one)).0 ≡ told (calls_at 1 left_run) (given_at 1 left_run hs))
-    × Alike T lie 1 (image_of (record_at last 1)) (image_of (record_at other 1))
-unfolding computed
-unnoticed_at_one one two = unnoticed_ports_by_page titrators spots 1 bytes_t {start = start} 1 refl fresh_sized opens (omega arith) one
-    (λ p. (refl, λ q. refl), (λ p. (refl, λ q. refl), (λ p. (refl, λ q. refl), (λ p. (refl, λ q. refl), (λ p. (refl, λ q. refl), (λ p. (refl, λ q. refl), tt)))))) two struck_out
-
--- ---- and none of them gets 8
-pub never_eight_at_one : {last : List Device} {gs : List Given} → RowRuns titrators spots opened whole_run gs last → All (λ (g : Given). number_given g ≡ 8 → ⊥) (given_at 1 whole_run gs)
-never_eight_at_one r = never_eight_ports titrators spots 1 bytes_t {start = start} refl fresh_sized opens (omega arith) r

@@ -7,7 +7,8 @@ use Rattle.records.proofs.Image.{device-image}
 use Rattle.board.specs.Exports.{Spots, record_at}
 use Rattle.board.specs.Runs.{Given, handed, record_event, by_record_event}
 use Rattle.board.specs.Records.{on_image, as_images}
-use Rattle.board.specs.Ports.{PortCall, RowRuns, ended, called, calls_at, given_at, port_run, at_port, same_length}
+use Rattle.board.specs.Ports.{PortCall, RowRuns, ended, called, calls_at, given_at, at_port}
+use Rattle.board.proofs.PortRuns.{port_run, same_length}
 use Rattle.host_runs.specs.AtPorts.{PortsAreDevices, NeverLockedOutAtPorts, ReadsGivenAtPorts, ReplacedAtPorts}
 use Rattle.host_runs.proofs.NeverLockedOut.{never_locked_out}
 use Rattle.host_runs.proofs.Given.{bytes-so, reads_given}

@@ -39,7 +39,8 @@ use Rattle.board.specs.InhabitedTwo.{opens_two, lie_two}
 use Rattle.board.specs.InhabitedPorts.{opened, fresh_sized}
 use Rattle.board.specs.InhabitedPorts as ports
 use Rattle.board.specs.Records.{as_images}
-use Rattle.board.specs.Ports.{PortCall, RowRuns, ended, calls_at, port_run}
+use Rattle.board.specs.Ports.{PortCall, RowRuns, ended, calls_at}
+use Rattle.board.proofs.PortRuns.{port_run}
 use Rattle.host_runs.specs.Calls.{seen_given, Played, PlayedFrom, CalledSince, call_of, calls_of}
 use Rattle.host_runs.specs.NeverLockedOut.{EnumeratesFrom}
 use Rattle.host_runs.specs.Given.{ReadFrom, Collects}

@@ -18,7 +18,8 @@ use Rattle.board.specs.InhabitedRuns.{start, configuring, lie}
 use Rattle.board.specs.InhabitedTwo.{lie_two}
 use Rattle.board.specs.InhabitedPorts.{opened, fresh_sized}
 use Rattle.board.specs.InhabitedPorts as ports
-use Rattle.board.specs.Ports.{PortCall, RowRuns, calls_at, port_run}
+use Rattle.board.specs.Ports.{PortCall, RowRuns, calls_at}
+use Rattle.board.proofs.PortRuns.{port_run}
 use Rattle.host_runs.proofs.Replaced.{replaced_by_page, replaced}
 use Rattle.host_runs.proofs.AtPorts.{replaced_at_ports}
 

@@ -23,7 +23,8 @@ use Rattle.board.specs.Makers.{Writes}
 use Rattle.board.specs.Runs.{event_of, Given, handed, leaves}
 use Rattle.board.specs.Records.{as_images}
 use Rattle.board.specs.Unnoticed.{kept, kept_of, Alike}
-use Rattle.board.specs.Ports.{PortCall, RowRuns, calls_at, port_run}
+use Rattle.board.specs.Ports.{PortCall, RowRuns, calls_at}
+use Rattle.board.proofs.PortRuns.{port_run}
 use Rattle.host_runs.specs.Calls.{seen_given, PlayedFrom, CalledSince}
 
 -- ---- from where, at port k: hk_open or hk_two_open gave 0 on the port's record, by its 32 bytes, and any calls followed, at any ports
