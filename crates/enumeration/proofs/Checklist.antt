@@ -34,7 +34,7 @@ use Rattle.events.specs.Step.{good_reset, step, request, asks_test_mode}
 use Rattle.events.specs.Step as steps
 use Rattle.laws.proofs.Recipients.{test-code}
 use Rattle.promises.specs.Sound.{sound}
-use Rattle.enumeration.specs.Script.{Seen, line, reading, done, seen_of, Plays, Ready, ask, get_descriptor, set_address, set_configuration, set_interface, get_interface, set_halt, get_endpoint_status, bus_reset, status_end}
+use Rattle.enumeration.specs.Script.{Seen, line, reading, seen_of, Plays, Ready, ask, get_descriptor, set_address, set_configuration, set_interface, get_interface, set_halt, get_endpoint_status, bus_reset, status_end}
 use Rattle.enumeration.specs.Bodies.{configuration_body, string_body}
 use Rattle.enumeration.specs.Checklist.{Stalls, Answers, get_configuration, get_device_status, get_interface_status, set_wakeup, clear_wakeup, Descriptors, Addresses, Configurations, Statuses, Halts, Wakeups, Interfaces, Others, Checklist}
 use Rattle.enumeration.proofs.Asking.{raw, asked, other-code, other-kind, stated, lets, stops, gets}

@@ -23,7 +23,7 @@ use Rattle.events.specs.Step as steps
 use Rattle.order.specs.Run.{All}
 use Rattle.laws.proofs.Outcomes.{chosen}
 use Rattle.promises.specs.Sound.{sound}
-use Rattle.enumeration.specs.Script.{Line, line, reading, done, Plays, get_descriptor, set_address, set_configuration, bus_reset, status_end, Ready}
+use Rattle.enumeration.specs.Script.{Line, line, reading, Plays, get_descriptor, set_address, set_configuration, bus_reset, status_end, Ready}
 use Rattle.enumeration.specs.Bodies.{configuration_body, piece_body, string_body}
 use Rattle.enumeration.specs.Enumeration.{device_lines, configuration_lines, other_speed, other_configuration, other_lines, zero_lines, string_line, string_lines, addressed_lines, enumeration, ending, enumeration_by_transfers, enumerated}
 use Rattle.enumeration.specs.Enumerates.{Enumerates, EnumeratesByTransfers}

@@ -30,12 +30,12 @@ next {b} {d} {left} {e = e} {s = s} {rest} p q r = record {
 
 -- one script after the other
 pub append : {b : Board} {d mid last : Device} (xs : List Line) {ys : List Line} → Plays b d xs mid → Plays b mid ys last → Plays b d (xs ++ ys) last
-append {b} {last = last} [] {ys} p q = rw (← p.ends) at q
+append {b} {d} {last = last} [] {ys} p q = rw (← p.ends) at q
 append {b} {d} (x ∷ xs) {ys} p q =
     let front = p.heard in
     let head : line x.0 (sees b d x.0) ≡ x = cc in
     let tail : log (sees b) (next_of b) (next_of b d x.0) (does xs) ≡ xs = cc in
-    let r = append xs (record { heard = tail; ends = p.ends }) q in
+    let r = append {d = next_of b d x.0} xs (record { heard = tail; ends = p.ends }) q in
     record { heard = ap (λ (y : Line). y ∷ log (sees b) (next_of b) (next_of b d x.0) (does (xs ++ ys))) head ∙ ap (λ (l : List Line). x ∷ l) r.heard; ends = r.ends }
 
 -- lines that leave the record as it is

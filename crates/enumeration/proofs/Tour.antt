@@ -18,7 +18,7 @@ use Rattle.records.proofs.InUse.{row_for}
 use Rattle.enumeration.specs.Script.{Plays, Ready}
 use Rattle.enumeration.specs.Bodies.{configuration_body}
 use Rattle.enumeration.specs.Enumeration.{enumeration}
-use Rattle.enumeration.specs.Works.{selecting, visiting, after_visiting, Tours}
+use Rattle.enumeration.specs.Works.{selecting, after_selecting, visiting, after_visiting, Tours}
 use Rattle.enumeration.proofs.Found.{rules, configuration_entry}
 use Rattle.enumeration.proofs.Playing.{played, append}
 use Rattle.enumeration.proofs.Enumerates.{enumerates, enumerated_ready}
@@ -27,11 +27,11 @@ use Rattle.enumeration.proofs.Settings.{every_setting, selecting_ready}
 -- ---- from every record in Configured that fits and is in no test mode; no setting changes which configuration is selected
 visits : (b : Board) → BytesOf b → accepted b ≡ true → {d : Device} → Ready b d → d.state ≡ in_configured
     → (ss : List Setting) → ((s : Setting) → List-as-Memᴰ s ss → List-as-Memᴰ s (selected (view_at b d) d).settings) → Plays b d (visiting ss) (after_visiting b d ss)
-visits b octets ok r c [] all = played
+visits b octets ok {d} r c [] all = played
 visits b octets ok {d} r c (s ∷ ss) all =
     let m = all s (List·Memᴰ·head refl) in
     append (selecting s) (every_setting b octets ok d r c s m).plays
-    (visits b octets ok (selecting_ready b octets ok r c s m) c ss (λ t n. all t (List·Memᴰ·tail n)))
+    (visits b octets ok {d = after_selecting b d s} (selecting_ready b octets ok r c s m) c ss (λ t n. all t (List·Memᴰ·tail n)))
 
 module _ (b : Board) (octets : BytesOf b) (ok : accepted b ≡ true) (speed : ℕ) (i : ℕ) (there : i < bNumConfigurations (device_body (set_for b speed))) where
   abbrev set : List ℕ
