@@ -13,7 +13,7 @@ use Rattle.pipes.specs.declared.Wire.{Wire}
 use Rattle.pipes.specs.declared.Wire.TheVariants.{Setup, Taken, Received, Reset, Reply as Replies, Room, Accept, Refuse, Unknown}
 use Rattle.pipes.specs.Transfer.{idle, data_in, status_out, data_out, status_in}
 use Rattle.pipes.specs.Image.{transfer_of, image_of, fits_in}
-use Rattle.pipes.specs.Turns.{stays, stalls, ends, asked, due, may_reply, sends_reply, may_write, receives, may_accept, sends_status, taken, received, replied, roomed, accepted, refused, turned}
+use Rattle.pipes.specs.Turns.{stays, stalls, asked, due, may_reply, sends_reply, may_write, receives, may_accept, sends_status, taken, received, replied, roomed, accepted, refused, turned}
 use Rattle.pipes.specs.Pipe.{Told, Records, lengths_of, on_transfer, heard_as, heard}
 use Rattle.pipe_runs.specs.Runs.{Happening, leaves, is_quiet, is_idle, ends_at, if_ended, events_by, events_at, events_in, no_end}
 use Rattle.pipe_runs.specs.Promises.{EndsBy, by_taken, by_empty}
@@ -95,8 +95,8 @@ module _ (b : Board) (r : Records) (e : Told) (ends : ends_at b r e ≡ true) wh
   on-transfer = rw (record-fits, turn-ended, (turned-ends (length e.reply) (transfer_of r.pipe) e.wire).rests turn-ended)
 
   by-wire : (w : Wire) → EndsBy (transfer_of r.pipe) w → (heard_as b r e w).left.pipe ≡ image_of idle
-  by-wire Taken (by_taken p) = on-transfer
-  by-wire (Received n) (by_empty p) = on-transfer
+  by-wire _ (by_taken p) = on-transfer
+  by-wire _ (by_empty p) = on-transfer
 
   pub idle_then : (leaves b r e).pipe ≡ image_of idle
   unfolding heard
@@ -104,8 +104,8 @@ module _ (b : Board) (r : Records) (e : Told) (ends : ends_at b r e ≡ true) wh
 
   -- the one library event at it is the status end
   by-wire-told : (w : Wire) → EndsBy (transfer_of r.pipe) w → events_by b r e w ≡ if_ended (ends_at b r e)
-  by-wire-told Taken (by_taken p) = refl
-  by-wire-told (Received n) (by_empty p) = refl
+  by-wire-told _ (by_taken p) = refl
+  by-wire-told _ (by_empty p) = refl
 
   pub told_once : events_at b r e ≡ StatusEnd ∷ []
   told_once = rw (eq-eqb (length r.pipe) 16 long, by-wire-told e.wire ends_how) (ap if_ended ends)

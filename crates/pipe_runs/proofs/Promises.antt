@@ -148,7 +148,7 @@ module _ (b : Board) where
 
   reached-after : {image : List ℕ} (xs : List Event) → Reached b image → Reached b (device_after b image xs)
   reached-after [] p = p
-  reached-after (x ∷ xs) p = reached-after xs (after_event x p)
+  reached-after {image} (x ∷ xs) p = reached-after {image = (event b image x).image} xs (after_event x p)
 
   reached_in_run : (es : List Happening) → Reached b (after b power_on es).image
   reached_in_run es = rw (nothing_else_moves b power_on es) (reached-after (events_in b power_on es) reached-fresh)
