@@ -1,6 +1,8 @@
 """The module as the toolchain makes it, brought to the form that the others here read: in text, and for what is made small function by function.
 
 - A slice that C lends begins where C says, also at NULL; the toolchain's exports have it begin at 4096 then, and nothing is read or written there either way.
+- Bytes are copied one after the other; the toolchain copies at once what does not overlap, by a test of two addresses.
+- A tag is stored alone; the toolchain fills the bytes between it and the first field, too, which belong to neither.
 - Blocks that nothing leads to are left out.
 - A result of two fields is written to where its caller wants it, as longer ones are; the toolchain hands it back in two registers.
 - Of what is made small: a variable is not filled with zeros before its function begins (what is read of it is written first), a struct that is copied field by
@@ -15,6 +17,11 @@ from module import COPY, FILL, INTEGER, WIDTHS, Unexpected
 NULL_GUARD = re.compile(
     r"^  (%\w+) = icmp eq ptr (%\w+), null\n  (%\w+) = zext i1 \1 to i64\n  (%\w+) = mul i64 \3, 4096\n  (%\w+) = getelementptr i8, ptr \2, i64 \4\n", re.M
 )
+# Bytes are copied at once unless the target begins within the source, and then one after the other, which is right for all.
+COPIED_APART = re.compile(
+    r"^  (%\w+) = ptrtoaddr ptr %\w+ to i64\n  (%\w+) = ptrtoaddr ptr %\w+ to i64\n  (%\w+) = sub i64 \1, \2\n  (%\w+) = icmp ult i64 \3, %\w+\n"
+    r"  br i1 \4, (label %inside\.\d+), label %apart\.\d+\n", re.M
+)
 PAIR = rf"\{{ ({INTEGER}|ptr), ({INTEGER}|ptr) \}}"
 PAIR_HEAD = re.compile(rf"^(define internal )(?:noundef )?{PAIR} (@[^(]*\()(?=(.))", re.M)
 PAIR_RETURNED = re.compile(rf"^  (%\w+) = load {PAIR}, ptr (%\w+), align \d+\n  ret {PAIR} \1\n", re.M)
@@ -24,19 +31,26 @@ PAIR_CALLED = re.compile(
     r"  store \2 \6, ptr (%\w+), align \d+\n  (%\w+) = getelementptr i8, ptr \8, i64 (\d+)\n  store \3 \7, ptr \9, align \d+\n",
     re.M,
 )
+# A tag that is stored with the bytes behind it, which belong to no field: as a number that it is widened to, or as a constant.
+WIDENED_TAG = re.compile(r"^  (%\w+) = zext i8 (%\w+) to (i16|i32|i64)\n  store \3 \1, (ptr %\w+, align 1)$", re.M)
+CONSTANT_TAG = re.compile(r"^  store (?:i16|i32|i64) (\d+), (ptr %\w+, align 1)$", re.M)
 FILLED = re.compile(rf"call void @{re.escape(FILL)}\(ptr (%\w+), i8 0, i64 (\d+), i1 false\)$")
 MOVED = re.compile(rf"call void @{re.escape(COPY)}\(ptr (%\w+), ptr (%\w+), i64 (\d+), i1 false\)$")
+TAG_LOADED = re.compile(r"(%\w+) = load i8, ptr (%\w+), align 1$")
+TAG_STORED = re.compile(r"store i8 (%\w+), ptr (%\w+), align 1$")
 STEPPED = re.compile(r"(%\w+) = getelementptr i8, ptr (%\w+), i64 (\d+)$")
 
 
 # ---- in text
 def plain(text):
     text = NULL_GUARD.sub(r"  \5 = getelementptr i8, ptr \2, i64 0\n", text)
+    text = CONSTANT_TAG.sub(r"  store i8 \1, \2", WIDENED_TAG.sub(r"  store i8 \2, \4", text))
+    text = COPIED_APART.sub(r"  br \5\n", text)
     text = re.sub(r"^(define [^\n]* \{\n)(.*?)^\}", lambda found: found[1] + "".join(reached_blocks(found[2])) + "}", text, flags=re.M | re.S)
     text = PAIR_HEAD.sub(lambda found: f"{found[1]}void {found[4]}ptr noundef %result{'' if found[5] == ')' else ', '}", text)
     text = PAIR_RETURNED.sub(lambda found: f"  call void @{COPY}(ptr %result, ptr {found[4]}, i64 {of_pair(found[2], found[3])[1]}, i1 false)\n  ret void\n", text)
     text = PAIR_CALLED.sub(told_where, text)
-    if left := re.search(rf"^.*(?:{PAIR}|\bnull\b|\bextractvalue\b).*", text, re.M):
+    if left := re.search(rf"^.*(?:{PAIR}|\bnull\b|\bextractvalue\b|store i(?:16|32|64) .*, align 1$).*", text, re.M):
         raise Unexpected(f"a line of another form: {left[0].strip()}")
     return text
 
@@ -80,7 +94,7 @@ def without_zeros(function):
     branch = next(at for at, line in enumerate(function.lines) if line.startswith(("br ", "switch ", "ret ", "unreachable")))
     for word in found:
         declared, *used = found[word]
-        if "x i8]" not in function.lines[declared]:
+        if "x i8]" not in function.lines[declared] or "[0 x i8]" in function.lines[declared]:
             continue
         fill = FILLED.match(function.lines[used[0]]) if used and used[0] < branch else None
         if not fill or int(fill[2]) != function.variables()[word][0]:
@@ -106,15 +120,25 @@ def with_proved_sums(function):
 
 def by_fields(function, at):
     """A copy field by field that begins here: how many lines it takes, from where and to where, and the length of the whole; or no lines."""
-    first = MOVED.match(function.lines[at])
-    sizes = [function.variables()[word][0] for word in (first[1], first[2]) if word in function.variables()] if first else []
+    source, target, end, next_line = first_field(function, at)
+    sizes = [function.variables()[word][0] for word in (target, source) if word in function.variables()]
     if not sizes:
         return 0, None, None, 0
-    end, next_line, whole = int(first[3]), at + 1, sizes[0]
+    whole = sizes[0]
     while end < whole and next_line + 2 < len(function.lines):
         to, of, move = (form.match(line) for form, line in zip((STEPPED, STEPPED, MOVED), function.lines[next_line : next_line + 3]))
-        if not (to and of and move) or (to[2], of[2]) != (first[1], first[2]) or to[3] != of[3] or int(to[3]) < end or (move[1], move[2]) != (to[1], of[1]):
+        if not (to and of and move) or (to[2], of[2]) != (target, source) or to[3] != of[3] or int(to[3]) < end or (move[1], move[2]) != (to[1], of[1]):
             break
         end, next_line = int(to[3]) + int(move[3]), next_line + 3
-    is_whole = next_line > at + 1 and end <= whole < end + 8 and all(size == whole for size in sizes)
-    return (next_line - at, first[2], first[1], whole) if is_whole else (0, None, None, 0)
+    is_whole = next_line > at + 2 and end <= whole < end + 8 and all(size == whole for size in sizes)
+    return (next_line - at, source, target, whole) if is_whole else (0, None, None, 0)
+
+
+def first_field(function, at):
+    """From where and to where the first field of a copy goes, its length, and the line behind it. The tag is such a field, and is loaded for nothing else."""
+    if move := MOVED.match(function.lines[at]):
+        return move[2], move[1], int(move[3]), at + 1
+    load, store = (form.match(line) for form, line in zip((TAG_LOADED, TAG_STORED), (*function.lines[at : at + 2], "")))
+    if load and store and load[1] == store[1] and sum(load[1] in re.findall(r"%\w+", line) for line in function.lines) == 2:
+        return load[2], store[2], 1, at + 2
+    return None, None, 0, 0
