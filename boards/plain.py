@@ -119,26 +119,39 @@ def with_proved_sums(function):
 
 
 def by_fields(function, at):
-    """A copy field by field that begins here: how many lines it takes, from where and to where, and the length of the whole; or no lines."""
-    source, target, end, next_line = first_field(function, at)
-    sizes = [function.variables()[word][0] for word in (target, source) if word in function.variables()]
-    if not sizes:
+    """A copy field by field that begins here: how many lines it takes, from where and to where, and how many bytes; or no lines. It goes to the end of a variable,
+    but for less than its alignment, or leaves out no byte."""
+    found = field(function, at)
+    if not found:
         return 0, None, None, 0
-    whole = sizes[0]
-    while end < whole and next_line + 2 < len(function.lines):
-        to, of, move = (form.match(line) for form, line in zip((STEPPED, STEPPED, MOVED), function.lines[next_line : next_line + 3]))
-        if not (to and of and move) or (to[2], of[2]) != (target, source) or to[3] != of[3] or int(to[3]) < end or (move[1], move[2]) != (to[1], of[1]):
+    source, target, _, end, lines = found
+    fields, dense = 1, True
+    while next_field := field(function, at + lines, source, target):
+        if next_field[2] < end:
             break
-        end, next_line = int(to[3]) + int(move[3]), next_line + 3
-    is_whole = next_line > at + 2 and end <= whole < end + 8 and all(size == whole for size in sizes)
-    return (next_line - at, source, target, whole) if is_whole else (0, None, None, 0)
+        dense &= next_field[2] == end
+        end, lines, fields = next_field[2] + next_field[3], lines + next_field[4], fields + 1
+    size, alignment = min((function.variables()[word] for word in (target, source) if word in function.variables()), default=(0, 0))
+    is_whole = end <= size < end + alignment
+    return (lines, source, target, size if is_whole else end) if fields > 1 and (is_whole or dense) else (0, None, None, 0)
 
 
-def first_field(function, at):
-    """From where and to where the first field of a copy goes, its length, and the line behind it. The tag is such a field, and is loaded for nothing else."""
-    if move := MOVED.match(function.lines[at]):
-        return move[2], move[1], int(move[3]), at + 1
-    load, store = (form.match(line) for form, line in zip((TAG_LOADED, TAG_STORED), (*function.lines[at : at + 2], "")))
-    if load and store and load[1] == store[1] and sum(load[1] in re.findall(r"%\w+", line) for line in function.lines) == 2:
-        return load[2], store[2], 1, at + 2
-    return None, None, 0, 0
+def field(function, at, source=None, target=None):
+    """A field's copy at this line, of the struct that is copied from source to target or, where they are not given, of one that begins with it: from where, to where,
+    at which offset, how many bytes, by how many lines; or None. A tag is loaded and stored, and what was loaded has no other use."""
+    lines, offset, steps = [*function.lines[at : at + 4], "", "", "", ""], 0, 0
+    if source:
+        to, of = STEPPED.match(lines[0]), STEPPED.match(lines[1])
+        if not (to and of) or (to[2], of[2]) != (target, source) or to[3] != of[3]:
+            return None
+        offset, steps = int(to[3]), 2
+    if move := MOVED.match(lines[steps]):
+        here, there, length, count = move[2], move[1], int(move[3]), 1
+    else:
+        load, store = TAG_LOADED.match(lines[steps]), TAG_STORED.match(lines[steps + 1])
+        if not (load and store) or load[1] != store[1] or sum(load[1] in re.findall(r"%\w+", line) for line in function.lines) != 2:
+            return None
+        here, there, length, count = load[2], store[2], 1, 2
+    if source and (there, here) != (to[1], of[1]):
+        return None
+    return here, there, offset, length, steps + count
