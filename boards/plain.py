@@ -5,12 +5,14 @@
 - A tag is stored alone; the toolchain fills the bytes between it and the first field, too, which belong to neither.
 - Blocks that nothing leads to are left out.
 - A result of two fields is written to where its caller wants it, as longer ones are; the toolchain hands it back in two registers.
-- Of what is made small: a variable is not filled with zeros before its function begins (what is read of it is written first), a struct that is copied field by
+- Of what is made small or lean: a variable is not filled with zeros before its function begins (what is read of it is written first), a struct that is copied field by
   field is copied at once, and a sum, a difference or a product is marked as the toolchain has proved it, never beyond its type or below 0 (the library asks for
   none that may be).
 """
 import re
 
+from copies import without_copies
+from functions import put_together, take_apart
 from module import COPY, FILL, INTEGER, WIDTHS, Unexpected
 
 # How an export has a slice begin elsewhere where C lends NULL.
@@ -80,7 +82,23 @@ def told_where(found):
     return f"  call void {found[4]}ptr {found[8]}{', ' if found[5] else ''}{found[5]})\n"
 
 
-# ---- of the functions that are made small
+# ---- of functions
+def without_waste(functions):
+    """All below, and without the copies that nobody needs."""
+    for function in functions.values():
+        without_zeros(function)
+        with_whole_copies(function)
+        with_proved_sums(function)
+    without_copies(functions)
+
+
+def lean(text):
+    """The module's text after that."""
+    functions, before, behind = take_apart(text)
+    without_waste(functions)
+    return put_together(functions, before, behind)
+
+
 def without_zeros(function):
     """Leaves out that a variable of several bytes is zero at first. Each is, before it is named otherwise, so that no fill of the program's own goes in its place;
     but for those of the exports, which are written whole."""
