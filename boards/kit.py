@@ -7,7 +7,7 @@ that the programs in out/ are of that run too.
 import os, re, shlex, shutil, subprocess, tempfile
 
 from module import Unexpected
-from plain import plain
+from plain import lean, plain
 
 TOP = os.path.dirname(os.path.dirname(os.path.abspath(__file__)))
 FOLDER = os.path.join(TOP, "target", "archive")
@@ -152,7 +152,7 @@ class Kit:
             return
         with tempfile.TemporaryDirectory() as room:
             source, part, made = (os.path.join(room, name) for name in ("module.ll", "board.o", "libboard.a"))
-            write(source, text)
+            write(source, lean(text))
             self.clang(f"--target={TRIPLE}", *OF_X86, *OPTIMISED, "-c", "-x", "ir", source, "-o", part)
             run([self.tool("llvm-ar"), "rcsD", made, part])
             os.makedirs(os.path.dirname(ARCHIVE), exist_ok=True)

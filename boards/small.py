@@ -4,14 +4,13 @@ lengths and indices of 32 bits, with constant tables, and with what is compiled 
 import glob, hashlib, os, re
 
 import bounds
-from copies import without_copies
 from functions import put_together, reached, take_apart
 from kit import FOLDER, read, write
 from layout import Layout
 from lifetimes import DECLARED, with_lifetimes
 from module import Unexpected, audit, retargeted
 from narrow import Narrowing
-from plain import with_proved_sums, with_whole_copies, without_zeros
+from plain import without_waste
 from promises import with_promises
 from tables import with_tables
 
@@ -29,11 +28,7 @@ def small(text, prototypes, judged=True, reasons=None):
     """The text for these exports; judged=False leaves out the audits of numbers and slots, for tests. Counts by reason are added to `reasons`."""
     functions, before, behind = take_apart(retargeted(text))
     functions = reached(functions, [prototype.name for prototype in prototypes])
-    for function in functions.values():
-        without_zeros(function)
-        with_whole_copies(function)
-        with_proved_sums(function)
-    without_copies(functions)
+    without_waste(functions)
     plain = put_together(functions, before, behind)
     audit(plain)
     layout = Layout(plain, judged).run()
