@@ -16,7 +16,6 @@ use Rattle.promises.specs.Refusals.{event_inside}
 use Rattle.promises.specs.Replies.{event_within, done_accepted}
 use Rattle.pipes.specs.declared.Lengths.{Lengths}
 use Rattle.pipes.specs.declared.Piece.{Piece}
-use Rattle.pipes.specs.declared.Transfer.{Transfer}
 use Rattle.pipes.specs.declared.Turn.{Turn}
 use Rattle.pipes.specs.declared.Wire.{Wire}
 use Rattle.pipes.specs.declared.Wire.TheVariants.{Setup as ASetup, Taken, Received, Reset, Reply as Replies, Room, Accept, Refuse, Unknown}
@@ -294,21 +293,6 @@ first_of false full high = refl
 pub second-of : (t : Bool) (full high : ℕ × ℕ) → pick t full.1 high.1 ≡ (pick t full high).1
 second-of true full high = refl
 second-of false full high = refl
-
--- a part of the set in use is one of an equal set at the same place
-pub hands-used : (first serial reply : List ℕ) (first_at serial_at reply_at x_at y_at : ℕ × ℕ) (order : ℕ) (t : Transfer) (x y : List ℕ) {shown : List ℕ} {at : ℕ × ℕ} → x ≡ y → x_at.0 ≡ y_at.0 → x_at.1 ≡ y_at.1
-    → HandsPiece first x serial reply first_at x_at serial_at reply_at (sent (lengths_in x serial reply) order t) shown at
-    → HandsPiece first y serial reply first_at y_at serial_at reply_at (sent (lengths_in y serial reply) order t) shown at
-hands-used first serial reply first_at serial_at reply_at x_at y_at order t x y {shown} {at} e p q h = record {
-  shows = h.shows ∙ ap (λ (z : List ℕ). bytes_in first z serial reply (piece z)) e;
-  block = h.block ∙ ap (λ (z : List ℕ). in_block first_at.0 x_at.0 serial_at.0 reply_at.0 (piece z).block) e
-      ∙ ap (λ (n : ℕ). in_block first_at.0 n serial_at.0 reply_at.0 (piece y).block) p;
-  offset = h.offset ∙ ap (λ (z : List ℕ). in_block first_at.1 x_at.1 serial_at.1 reply_at.1 (piece z).block + (piece z).offset) e
-      ∙ ap (λ (n : ℕ). in_block first_at.1 n serial_at.1 reply_at.1 (piece y).block + (piece y).offset) q;
-}
-  where
-    piece : List ℕ → Piece
-    piece z = sent (lengths_in z serial reply) order t
 
 module _ (b : Board) (image pipe setup reply : List ℕ) (first_at used_at serial_at reply_at : ℕ × ℕ) (high : Spot) (used : List ℕ) (u : used ≡ set_for b (device_of image).speed)
     (us : spot_of used_at ≡ in_use b.high (device_of image).speed (spot_of first_at) high) where
