@@ -123,7 +123,7 @@ class Kit:
              *(word for one in libraries for word in ("--extern", f"{one}={self.rlib(one)}")), *(word for one in folders for word in ("-L", f"dependency={one}")),
              "--antt-project", os.path.join(self.home, "rattle", "logic", "antt-project.json"), "--logic-built", os.path.join(self.home, "logic_built"),
              *(["--incremental", kept] if os.path.isdir(kept) else ["--jobs", str(os.cpu_count())]), "--links", f"{name}=",
-             *(["--crate-type", "staticlib"] if self.is_library(name) else []), "--backend", "llvm", "--toolchain", toolchain, "-o", out], cwd=self.folder(name))
+             *(["--crate-type", "staticlib", "--cpu", "x86-64"] if self.is_library(name) else []), "--backend", "llvm", "--toolchain", toolchain, "-o", out], cwd=self.folder(name))
 
     def catch(self, name, out, room):
         """Makes a crate, and gives what rattle hands to clang: it is run with a folder of links to the tools, whose clang keeps what it is handed."""
