@@ -3,7 +3,8 @@ it gives back; a copy goes where the bytes can be used where they stand. Each ru
 """
 import re
 
-from functions import FOUND, PARAMETER, Alone, Effects, Roots, successors
+from functions import FOUND, PARAMETER, Alone, Effects, Roots, callee_and_values, successors
+from module import COPY, FILL, WIDTHS
 
 MOVE = re.compile(r"call void @llvm\.memmove\.p0\.p0\.i64\(ptr (%\w+), ptr (%\w+), i64 (\d+), i1 false\)$")
 
@@ -108,11 +109,82 @@ class Forwarding:
         return True
 
 
+def reached(next_lines, starts, stop=None):
+    """The lines that follow from these and they themselves, without going through `stop`."""
+    found, todo = set(), [at for at in starts if at != stop]
+    while todo:
+        at = todo.pop()
+        if at not in found:
+            found.add(at)
+            todo += [one for one in next_lines[at] if one != stop]
+    return found
+
+
+class Building(Forwarding):
+    """A variable that is copied whole into a part of another place, and is not used afterwards, is built there. Whoever touches the variable comes to the copy, and till
+    then nobody touches that part of the place."""
+
+    # A shorter one lies in registers: built elsewhere it takes more code.
+    LEAST = 20
+
+    def may_hold(self, word, alignment):
+        """Whether the place is memory that only lines of this function touch, which say where."""
+        root, offset = self.roots.at[word]
+        if offset is None or root in self.kept or self.roots.kind[root] == FOUND:
+            return False
+        if self.roots.kind[root] == PARAMETER and self.function.parameter(root) not in self.alone.own:
+            return False
+        return alignment <= self.alone.aligned(self.function, word)
+
+    def find(self):
+        """A copy that can go: (line, variable, place)."""
+        for at, line in enumerate(self.function.lines):
+            copy = MOVE.match(line)
+            if copy and copy[2] in self.variables and copy[2] not in self.kept and self.roots.of(copy[1]) != copy[2]:
+                size, alignment = self.variables[copy[2]]
+                if size == int(copy[3]) >= self.LEAST and self.may_hold(copy[1], alignment) and self.leads_there(at, copy[2], copy[1], size):
+                    return at, copy[2], copy[1]
+        return None
+
+    def leads_there(self, copy, variable, place, size):
+        touching = [at for at in range(len(self.reads)) if at != copy and variable in self.reads[at] | self.writes[at]]
+        between = reached(self.next_lines, touching, copy)
+        if any(self.function.lines[at].startswith("ret ") for at in between) or reached(self.next_lines, self.next_lines[copy]) & set(touching):
+            return False
+        root, start = self.roots.at[place]
+        return not any(self.touches(at, root, start, start + size) for at in between)
+
+    def touches(self, at, root, start, end):
+        """Whether a line may touch these bytes of a root."""
+        if root not in self.reads[at] | self.writes[at]:
+            return False
+        _, form, found = self.function.matches()[at]
+        accesses = None
+        if form in ("load", "store"):
+            accesses = [(found[3], WIDTHS[found[2 if form == "load" else 1]])]
+        elif callee_and_values(found)[0] in (COPY, FILL):
+            callee, values = callee_and_values(found)
+            accesses = [(word, int(values[2]) if values[2].isdigit() else None) for word in (values[:2] if callee == COPY else values[:1])]
+        return accesses is None or any(self.overlaps(word, length, root, start, end) for word, length in accesses)
+
+    def overlaps(self, word, length, root, start, end):
+        at, offset = self.roots.at[word]
+        return at == root and (offset is None or length is None or offset < end and start < offset + length)
+
+    def build_there(self, copy, variable, place):
+        root, offset = self.roots.at[place]
+        word = f"{variable}_there"
+        renamed(self.function, {variable: word}, {copy})
+        lines = self.function.lines
+        first = next((at + 1 for at, line in enumerate(lines) if line.startswith(f"{root} = alloca")), 1 if lines[0].endswith(":") else 0)
+        self.function.lines = [*lines[:first], f"{word} = getelementptr i8, ptr {root}, i64 {offset}", *lines[first:]]
+
+
 def without_copies(functions):
     """Leaves out what can be, function by function; gives how many copies went by each rule."""
     effects = Effects(functions)
     alone = Alone(effects)
-    gone = {"lent": 0, "given": 0, "forwarded": 0}
+    gone = {"lent": 0, "given": 0, "forwarded": 0, "built": 0}
     for function in functions.values():
         if not function.exported:
             gone["lent"] += lent_in_place(function, effects, alone)
@@ -128,4 +200,10 @@ def without_copies(functions):
             at, variable, source = found
             renamed(function, {variable: source}, {at})
             gone["forwarded"] += 1
+    effects = Effects(functions)
+    alone = Alone(effects)
+    for function in functions.values():
+        while (building := Building(function, effects, alone)) and (found := building.find()):
+            building.build_there(*found)
+            gone["built"] += 1
     return gone

@@ -78,7 +78,7 @@ def riscv(name, operands, outlined):
         return Deed(-int(found[1]))
     if re.match(r"sp\b", operands):
         raise Unexpected(f"an unknown change of the stack pointer: {name} {operands}")
-    if name == "call":
+    if name in ("call", "jal"):
         return Deed(0, "call", last.strip('"'))
     if name in ("j", "tail"):
         return to(last)
@@ -86,7 +86,7 @@ def riscv(name, operands, outlined):
         return to(last, True)
     if name == "ret" or name == "jr" and outlined and operands == "t0":
         return Deed(0, "give back")
-    if name in ("jal", "jalr"):
+    if name == "jalr":
         raise Unexpected(f"a call to no name: {name} {operands}")
     return Deed(0, "table") if name == "jr" else Deed(0, "stop") if name in ("unimp", "ebreak") else Deed()
 

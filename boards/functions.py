@@ -187,14 +187,15 @@ class Effects:
 
 class Alone:
     """Which parameters' memory nobody else touches while the function runs: `still` has those that nobody else writes, `own` those that nobody else reads
-    either. Both begin as all parameters of the module's own functions, and lose what some call does not give. `alignment` is what all calls give."""
+    either. Both begin as all parameters of the module's own functions, and lose what some call does not give. `alignment` is what all calls give; `aligned` what C
+    gives to exports, by function and number of the parameter."""
 
-    def __init__(self, effects):
+    def __init__(self, effects, aligned=()):
         self.effects = effects
         inner = [function for function in effects.functions.values() if not function.exported]
         self.still = {(function.name, number) for function in inner for number, _ in function.pointers()}
         self.own = set(self.still)
-        self.alignment = defaultdict(lambda: 1, {one: 8 for one in self.still})
+        self.alignment = defaultdict(lambda: 1, {one: 8 for one in self.still} | dict(aligned))
         known = None
         while known != self.known():
             known = self.known()

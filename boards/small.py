@@ -33,7 +33,7 @@ def small(text, prototypes, judged=True, reasons=None):
     audit(plain)
     layout = Layout(plain, judged).run()
     addresses = bounds.judge(functions, layout, prototypes, reasons) if judged else set()
-    with_promises(functions)
+    with_promises(functions, prototypes)
     with_lifetimes(functions)
     narrowing = Narrowing(layout, addresses)
     for function in functions.values():
