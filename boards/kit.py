@@ -7,7 +7,7 @@ that the programs in out/ are of that run too.
 import os, re, shlex, shutil, subprocess, tempfile
 
 from module import Unexpected
-from plain import lean, plain
+from plain import lean, marked, plain
 
 TOP = os.path.dirname(os.path.dirname(os.path.abspath(__file__)))
 FOLDER = os.path.join(TOP, "target", "archive")
@@ -20,6 +20,8 @@ MODULE = os.path.join(FOLDER, "module.ll")
 SOURCES = [os.path.join(TOP, "crates"), os.path.join(TOP, "crates.txt")]
 # As it is: nothing optimised.
 KEEP = shlex.split("-O0 -Xclang -disable-llvm-passes --no-default-config -Wno-override-module")
+# The same, but for what is marked to be compiled into its callers.
+INLINE = shlex.split("-O0 --no-default-config -Wno-override-module")
 TRIPLE = "x86_64-unknown-linux-gnu"
 # How the toolchain has its clang optimise: -O3, without what it has known to be wrong.
 OPTIMISED = shlex.split(
@@ -191,8 +193,18 @@ class Kit:
             self.prove(name)
             with tempfile.TemporaryDirectory() as room:
                 text = self.text(self.catch(name, out, room), room)
-                write(kept, self.identity + (plain(text) if name == LIBRARY else text))
+                write(kept, self.identity + (plain(self.without_pointer_results(text, room)) if name == LIBRARY else text))
         return read(kept)
+
+    def without_pointer_results(self, text, room):
+        """The same, with what gives back a pointer compiled into its callers: clang does that at -O0, and nothing else."""
+        ready = marked(text)
+        if ready is None:
+            return text
+        source, out = os.path.join(room, "marked.ll"), os.path.join(room, "inlined.ll")
+        write(source, ready)
+        self.clang(f"--target={TRIPLE}", *INLINE, "-S", "-emit-llvm", "-x", "ir", source, "-o", out)
+        return read(out)
 
     def text(self, bitcode, room):
         out = os.path.join(room, "module.ll")

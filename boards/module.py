@@ -20,7 +20,7 @@ NUMBER = "number"
 # What ties the text to x86-64.
 TIES = [r'^target (datalayout|triple) .*\n', r' "target-cpu"="[\w-]+"', r' "probe-stack"="inline-asm"', r' "stack-probe-size"="\d+"']
 
-NAME = r'@("[\w:.<>$ ,&+#{}\x27\[\]-]+"|[\w.]+)'
+NAME = r'@("[\w:.<>$ ,&+*=(){}#\x27\[\]-]+"|[\w.]+)'
 INTEGER = r"i(?:1|8|16|32|64)"
 VALUE = r"(?:%[\w.]+|-?\d+|true|false)"
 LABEL = r"label %[\w.]+"

@@ -1,5 +1,7 @@
 """The module as the toolchain makes it, brought to the form that the others here read: in text, and for what is made small function by function.
 
+- A function that gives back a pointer, as std's from a slice to an array, is compiled into its callers, so that no result is a pointer.
+- A constant of a few bytes to which a function has a pointer is a variable of that function.
 - A slice that C lends begins where C says, also at NULL; the toolchain's exports have it begin at 4096 then, and nothing is read or written there either way.
 - Bytes are copied one after the other; the toolchain copies at once what does not overlap, by a test of two addresses.
 - A tag is stored alone; the toolchain fills the bytes between it and the first field, too, which belong to neither.
@@ -15,6 +17,9 @@ from copies import without_copies
 from functions import put_together, take_apart
 from module import COPY, FILL, INTEGER, WIDTHS, Unexpected
 
+# A function's name, with the parenthesis behind it.
+CALLED = r"@(?:\"[^\"]*\"|[\w.]+)\("
+
 # How an export has a slice begin elsewhere where C lends NULL.
 NULL_GUARD = re.compile(
     r"^  (%\w+) = icmp eq ptr (%\w+), null\n  (%\w+) = zext i1 \1 to i64\n  (%\w+) = mul i64 \3, 4096\n  (%\w+) = getelementptr i8, ptr \2, i64 \4\n", re.M
@@ -25,11 +30,11 @@ COPIED_APART = re.compile(
     r"  br i1 \4, (label %inside\.\d+), label %apart\.\d+\n", re.M
 )
 PAIR = rf"\{{ ({INTEGER}|ptr), ({INTEGER}|ptr) \}}"
-PAIR_HEAD = re.compile(rf"^(define internal )(?:noundef )?{PAIR} (@[^(]*\()(?=(.))", re.M)
+PAIR_HEAD = re.compile(rf"^(define internal )(?:noundef )?{PAIR} ({CALLED})(?=(.))", re.M)
 PAIR_RETURNED = re.compile(rf"^  (%\w+) = load {PAIR}, ptr (%\w+), align \d+\n  ret {PAIR} \1\n", re.M)
 # A call whose result's fields are stored one after the other.
 PAIR_CALLED = re.compile(
-    rf"^  (%\w+) = call {PAIR} (@[^(]*\()(.*)\)\n  (%\w+) = extractvalue {{ \2, \3 }} \1, 0\n  (%\w+) = extractvalue {{ \2, \3 }} \1, 1\n"
+    rf"^  (%\w+) = call {PAIR} ({CALLED})(.*)\)\n  (%\w+) = extractvalue {{ \2, \3 }} \1, 0\n  (%\w+) = extractvalue {{ \2, \3 }} \1, 1\n"
     r"  store \2 \6, ptr (%\w+), align \d+\n  (%\w+) = getelementptr i8, ptr \8, i64 (\d+)\n  store \3 \7, ptr \9, align \d+\n",
     re.M,
 )
@@ -43,8 +48,28 @@ TAG_STORED = re.compile(r"store i8 (%\w+), ptr (%\w+), align 1$")
 STEPPED = re.compile(r"(%\w+) = getelementptr i8, ptr (%\w+), i64 (\d+)$")
 
 
+# What gives back a pointer; and what the compiler calls that stands in its caller then.
+GIVES_POINTER = re.compile(r"^(define internal (?:noundef )?ptr [^\n]*\))( #\d+ \{)$", re.M)
+BROUGHT_IN = re.compile(r"(?<=%)(\w+)((?:\.i\d*)+)\b(?!\.)")
+ENDS_OF_CALLS = re.compile(r"\"[^\"\n]*\.(exit\d*(?:\.i\d*)*)\"(?=[:, ]|$)", re.M)
+
+
+# A constant to which a pointer leads, as one side of a comparison.
+CONSTANT = re.compile(r"^@(static\.\d+) = private unnamed_addr constant \[(\d+) x i8\] (?:zeroinitializer|c\"(.*)\"), align (\d+)\n", re.M)
+# So many bytes of one become a variable: what is longer is a table, and a table is written as a variable (tables.py).
+SHORT = 8
+
+
 # ---- in text
+def marked(text):
+    """The text with what gives back a pointer marked, to be compiled into its callers; None if nothing does."""
+    found, count = GIVES_POINTER.subn(r"\1 alwaysinline\2", text)
+    return found if count else None
+
+
 def plain(text):
+    text = with_own_constants(text)
+    text = ENDS_OF_CALLS.sub(r"\1", BROUGHT_IN.sub(lambda found: found[1] + found[2].replace(".", "_"), text))
     text = NULL_GUARD.sub(r"  \5 = getelementptr i8, ptr \2, i64 0\n", text)
     text = CONSTANT_TAG.sub(r"  store i8 \1, \2", WIDENED_TAG.sub(r"  store i8 \2, \4", text))
     text = COPIED_APART.sub(r"  br \5\n", text)
@@ -55,6 +80,30 @@ def plain(text):
     if left := re.search(rf"^.*(?:{PAIR}|\bnull\b|\bextractvalue\b|store i(?:16|32|64) .*, align 1$).*", text, re.M):
         raise Unexpected(f"a line of another form: {left[0].strip()}")
     return text
+
+
+def with_own_constants(text):
+    """A constant to which a function has a pointer is a variable of it, filled before it begins."""
+    found = {one[1]: (bytes(int(word[1:], 16) if len(word) > 1 else ord(word) for word in re.findall(r"\\[0-9A-F]{2}|.", one[3] or "")), int(one[4])) for one in CONSTANT.finditer(text)}
+
+    def filled(head, body):
+        for name in sorted(set(re.findall(r"@(static\.\d+)", body))):
+            values, alignment = found[name]
+            if len(values) > SHORT:
+                raise Unexpected(f"a pointer to a constant of {len(values)} bytes: {head.strip()}")
+            word = "%" + name.replace(".", "_")
+            kind = "i8" if len(values) == 1 else f"[{len(values)} x i8]"
+            lines = [f"{word} = alloca {kind}, align {alignment}"]
+            lines += [f"call void @{FILL}(ptr {word}, i8 0, i64 {len(values)}, i1 false)"] if len(values) > 1 else []
+            lines += [f"store i8 {values[0]}, ptr {word}, align 1"] if values else []
+            for at in range(1, len(values)):
+                lines += [f"{word}_{at} = getelementptr i8, ptr {word}, i64 {at}", f"store i8 {values[at]}, ptr {word}_{at}, align 1"]
+            label, rest = body.split("\n", 1)
+            body = "\n".join([label, *(f"  {line}" for line in lines), rest.replace(f"@{name},", f"{word},").replace(f"@{name})", f"{word})")])
+        return head + body
+
+    text = re.sub(r"^(define [^\n]* \{\n)(.*?)(?=^\})", lambda one: filled(one[1], one[2]) if "@static" in one[2] else one[0], text, flags=re.M | re.S)
+    return CONSTANT.sub("", text)
 
 
 def reached_blocks(body):
@@ -112,7 +161,7 @@ def without_zeros(function):
     branch = next(at for at, line in enumerate(function.lines) if line.startswith(("br ", "switch ", "ret ", "unreachable")))
     for word in found:
         declared, *used = found[word]
-        if "x i8]" not in function.lines[declared] or "[0 x i8]" in function.lines[declared]:
+        if "x i8]" not in function.lines[declared] or "[0 x i8]" in function.lines[declared] or re.search(r"_i\d*$", word):  # or of a function that was brought in
             continue
         fill = FILLED.match(function.lines[used[0]]) if used and used[0] < branch else None
         if not fill or int(fill[2]) != function.variables()[word][0]:

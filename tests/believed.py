@@ -237,8 +237,8 @@ def table(believed, names, types):
         said = re.split(r"(?<=\w)[.:](?: |$)| \(document", reached[name].first)[0].strip(" .")
         lines.append(f"| `{name}` | {reached[name].size} | {said} |")
     files = [reached[name] for name in names]
-    declared = f"{counted(files)}, and the declarations of {len(types)} types, {sum(types.values())} lines: "
-    return "\n".join([*lines, "", *textwrap.wrap(declared + ", ".join(f"`{name}`" for name in sorted(types)) + ".", 120)])
+    declared = f", and the declarations of {len(types)} types, {sum(types.values())} lines: " + ", ".join(f"`{name}`" for name in sorted(types)) if types else ""
+    return "\n".join([*lines, "", *textwrap.wrap(f"{counted(files)}{declared}.", 120)])
 
 
 HEADINGS = ("### For a board's calls", "### For the makers' calls, beyond these")

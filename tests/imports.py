@@ -5,7 +5,7 @@
   imports --remove [CRATE..]   takes them out of their files
 
 In antt a name is used where it stands as a word outside the `use` lines and comments: not as a field, `x.name`, nor in front of `=` in a record. Of an
-operator, `◌≡◌`, each part must stand there. What `pub use` brings is passed on. In Rattle a `ghost use` serves the contracts, any other the code.
+operator, `◌≡◌`, each part must stand there. What `pub use` brings is passed on. In Rattle a `ghost use` serves the contracts and ghost fields, any other the code.
 """
 import os, re, sys
 
@@ -16,7 +16,7 @@ USE = re.compile(r"(?P<kind>ghost |unfoldable )?(?P<passed>pub )?use (?P<path>[^
 WORD = re.compile(r"[^\s(){}.;,@\"«»⌜⌝⟦⟧]+")
 FIELD = re.compile(r"(?<=[^\s({;,])\.[^\s(){}.;,]+|(?<=[{;] )[^\s(){}.;,]+(?= = )")
 COMMENT = re.compile(r"(?:^|(?<=\s))(?:--|//).*", re.MULTILINE)
-CONTRACT = re.compile(r"^ +(?:requires|ensures)\b.*(?:\n {8}.*)*", re.MULTILINE)
+CONTRACT = re.compile(r"^ +(?:requires|ensures|(?:pub )?ghost)\b.*(?:\n {8}.*)*", re.MULTILINE)
 
 
 def here(name, use):

@@ -4,7 +4,7 @@
 // make the records.
 #![tactic(auto)]
 
-ghost use Rattle.std.specs.Prelude.{◌≤◌, ◌≡◌, length};
+ghost use Rattle.std.specs.Prelude.{◌≤◌};
 
 mod buffer;
 mod explain;
@@ -14,12 +14,13 @@ mod report;
 mod runs;
 mod words;
 
+use std::alloc::{AllocError, Global};
 use std::io;
 use std::io::Read;
 
 // The operations, each by its letter; a heading alone has none.
 fn work<'a>(
-    rt: &impl Print,
+    rt: &(impl Print + AllocGlobal),
     operation: u8,
     serial: &'a [u8],
     given: &'a [u8],
@@ -39,9 +40,18 @@ fn work<'a>(
     }
 }
 
-// Does what the record at the start of a buffer asks.
-fn run(rt: &impl Print, question: &[u8]) -> io::Result<()> {
-    let serial_at = 10 + octets::peek(question, 1) as usize;
+// A record begins with its operation and its sizes.
+const HEAD: usize = 10;
+
+// No record is longer, so that a damaged one takes no more memory.
+const LONGEST_RECORD: usize = 65536;
+
+// No more records are read than that, so that the program ends whatever it is given.
+const MOST_RECORDS: u32 = 1000000;
+
+// Does what a record asks.
+fn run(rt: &(impl Print + AllocGlobal), question: &[u8]) -> io::Result<()> {
+    let serial_at = HEAD + octets::peek(question, 1) as usize;
     let given_at = serial_at + octets::word(question, 2) as usize;
     let wanted_at = given_at + octets::word(question, 4) as usize;
     let end = wanted_at + octets::word(question, 6) as usize;
@@ -49,65 +59,53 @@ fn run(rt: &impl Print, question: &[u8]) -> io::Result<()> {
     if question.len() < end {
         return Ok(());
     }
-    files::say(rt, &question[10..serial_at])?;
-    let mut out = [buffer::FILLER; 65536];
+    rt.write_all(&question[HEAD..serial_at])?;
+    let mut out = vec![in rt.alloc(); buffer::FILLER; room]?;
     work(
         rt,
         octets::peek(question, 0),
         &question[serial_at..given_at],
         &question[given_at..wanted_at],
         &question[wanted_at..end],
-        &mut out[0..room],
+        &mut out,
     )
 }
 
-// A record's size, by its first ten bytes.
-fn size_of(head: &[u8]) -> usize
+// A record's size, by its head.
+fn size_of(head: &[u8; HEAD]) -> usize
     ensures { 10 ≤ result }
 {
-    10 + octets::peek(head, 1) as usize
+    HEAD + octets::peek(head, 1) as usize
         + octets::word(head, 2) as usize
         + octets::word(head, 4) as usize
         + octets::word(head, 6) as usize
 }
 
-// Reads the next record, and gives its size: 0 at the stream's end, and where a record is cut short or longer than what is lent.
-fn read_question(input: &mut impl Read, question: &mut [u8]) -> usize
-    ensures { (result ≤ length question.new) × (length question.new ≡ length question.old) }
-{
-    if question.len() < 10 {
-        return 0;
+// Reads the next record; there is none at the stream's end, and where a record is cut short or too long.
+fn read_question(alloc: Global, input: &mut impl Read) -> Result<Option<Vec<u8>>, AllocError> {
+    let mut head = [0u8; HEAD];
+    if input.read_exact(&mut head).is_err() {
+        return Ok(None);
     }
-    if files::fill(input, &mut question[0..10]) < 10 {
-        return 0;
+    let size = size_of(&head);
+    if LONGEST_RECORD < size {
+        return Ok(None);
     }
-    let end = size_of(question);
-    if question.len() < end {
-        return 0;
+    let mut question = vec![in alloc; 0; size]?;
+    question[..HEAD].copy_from_slice(&head);
+    if input.read_exact(&mut question[HEAD..]).is_err() {
+        return Ok(None);
     }
-    if files::fill(input, &mut question[10..end]) < end - 10 {
-        return 0;
-    }
-    end
-}
-
-// No more records are read than that, so that the program ends whatever it is given.
-const MOST_RECORDS: u32 = 1000000;
-
-fn run_all(rt: &(impl Input + Print), question: &mut [u8]) -> io::Result<()> {
-    let mut input = rt.reader();
-    let mut left = MOST_RECORDS;
-    while left > 0 {
-        if read_question(&mut input, question) == 0 {
-            return Ok(());
-        }
-        run(rt, question)?;
-        left -= 1;
-    }
-    Ok(())
+    Ok(Some(question))
 }
 
 fn main(rt: HostRuntime) -> io::Result<()> {
-    let mut question = [0u8; 65536];
-    run_all(&rt, &mut question)
+    let mut input = rt.reader();
+    for _ in 0..MOST_RECORDS {
+        let Some(question) = read_question(rt.alloc(), &mut input)? else {
+            break;
+        };
+        run(&rt, &question)?;
+    }
+    Ok(())
 }

@@ -1,26 +1,28 @@
 // What is done with sets: listed, written, imported, exported and trimmed.
 use crate::buffer::is_good;
 use descriptors::limits::Limits;
-use files::{say, tell};
 use std::io;
 
 // The number, why 21 was given, the length that is given back, and whether the buffer is as it should be.
+// Kept: both are numbers, 0 for no opening number, since nothing is done with them but that they are printed, as the calls for C give them.
 fn answer(rt: &impl Print, number: u8, opening: u8, written: u16, good: bool) -> io::Result<()> {
-    tell(rt, b"", number as usize, b" ")?;
+    print!(rt; "{number} ")?;
     if opening != 0 {
-        tell(rt, b"for ", opening as usize, b" ")?;
+        print!(rt; "for {opening} ")?;
     }
-    tell(rt, b"", written as usize, b" ")?;
-    if good {
-        return say(rt, b"good\n");
-    }
-    say(rt, b"not as it should be\n")
+    let verdict = if good { "good" } else { "not as it should be" };
+    println!(rt; "{written} {verdict}")
 }
 
-pub fn list(rt: &impl Print, set: &[u8], serial: &[u8], limits: Limits) -> io::Result<()> {
-    let mut out = [0u8; listing::ROOM];
+pub fn list(
+    rt: &(impl Print + AllocGlobal),
+    set: &[u8],
+    serial: &[u8],
+    limits: Limits,
+) -> io::Result<()> {
+    let mut out = vec![in rt.alloc(); 0; listing::ROOM]?;
     let size = listing::list(set, serial, limits, &mut out);
-    say(rt, &out[..size])
+    rt.write_all(&out[..size])
 }
 
 pub fn write(
@@ -30,21 +32,21 @@ pub fn write(
     wanted: &[u8],
     out: &mut [u8],
 ) -> io::Result<()> {
-    let report = set_writer::write(stream, serial, descriptors::limits::full_speed(), out);
-    let written = set_writer::length_written(report.number, out);
-    answer(rt, report.number, 0, written, is_good(out, wanted))
+    let number = match set_writer::write(stream, serial, descriptors::limits::full_speed(), out) {
+        Ok(()) => 0,
+        Err(why) => why.number(),
+    };
+    let written = set_writer::length_written(number == 0, out);
+    answer(rt, number, 0, written, is_good(out, wanted))
 }
 
 pub fn import(rt: &impl Print, dump: &[u8], wanted: &[u8], out: &mut [u8]) -> io::Result<()> {
-    let report = dumps::import::import(dump, out);
-    let written = set_writer::length_written(report.number, out);
-    answer(
-        rt,
-        report.number,
-        report.opening,
-        written,
-        is_good(out, wanted),
-    )
+    let (number, opening) = match dumps::import::import(dump, out) {
+        Ok(()) => (0, 0),
+        Err(why) => (why.number(), why.opening()),
+    };
+    let written = set_writer::length_written(number == 0, out);
+    answer(rt, number, opening, written, is_good(out, wanted))
 }
 
 pub fn export(
@@ -54,8 +56,11 @@ pub fn export(
     wanted: &[u8],
     out: &mut [u8],
 ) -> io::Result<()> {
-    let dumped = dumps::export::export(set, serial, out);
-    answer(rt, dumped.number, 0, dumped.written, is_good(out, wanted))
+    let (number, written) = match dumps::export::export(set, serial, out) {
+        Ok(written) => (0, written),
+        Err(why) => (why.number(), 0),
+    };
+    answer(rt, number, 0, written, is_good(out, wanted))
 }
 
 // The buffer is as long as the set, which is trimmed in it.
@@ -70,7 +75,8 @@ pub fn trim(
         return Ok(());
     }
     out[..set.len()].copy_from_slice(set);
-    let number = trimming::trim(out, serial, descriptors::limits::full_speed());
+    let trimmed = trimming::trim(out, serial, descriptors::limits::full_speed());
+    let number = sets::opening::number(trimmed);
     let good = &*out == wanted;
     answer(rt, number, 0, octets::word(out, 0), good)
 }

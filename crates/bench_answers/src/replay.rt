@@ -1,5 +1,5 @@
 // Recorded control transfers, replayed on the set of the device that was recorded, and our answers beside its own. tests/replay makes them.
-use crate::report;
+use crate::report::{self, How};
 use events::{Answer, Event};
 use records::Device;
 use std::io;
@@ -11,10 +11,7 @@ fn part_of<'a>(set: &'a [u8], serial: &'a [u8], answer: Answer) -> &'a [u8] {
             buffers::head(buffers::tail(set, offset as usize), length as usize)
         }
         Answer::SerialPart { length } => buffers::head(serial, length as usize),
-        Answer::Done => buffers::head(set, 0),
-        Answer::OneByte(_) => buffers::head(set, 0),
-        Answer::TwoBytes(_, _) => buffers::head(set, 0),
-        Answer::Refused(_) => buffers::head(set, 0),
+        _ => &[],
     }
 }
 
@@ -25,14 +22,14 @@ fn replay_one<'a>(
     serial: &'a [u8],
     device: Device,
     setup: &[u8],
-    how: u8,
+    how: How,
     recorded: &[u8],
 ) -> io::Result<Device> {
     let outcome = steps::step(set, serial, device, events::setup_event(setup));
     let answer = outcome.answer;
     let part = part_of(set, serial, answer);
-    report::transfer(rt, setup, answer, part, how, recorded)?;
-    if events::reply::number(answer) != 0 {
+    report::print_transfer(rt, setup, answer, part, how, recorded)?;
+    if let Answer::Refused(_) = answer {
         return Ok(outcome.device);
     }
     let ended = steps::step(set, serial, outcome.device, Event::StatusEnd);
@@ -61,7 +58,7 @@ fn replay_all<'a>(
             serial,
             device,
             &rest[0..8],
-            octets::peek(rest, 8),
+            How::from(octets::peek(rest, 8)),
             &rest[11..size],
         )?;
         at += size;
@@ -75,9 +72,9 @@ pub fn replay<'a>(
     serial: &'a [u8],
     transfers: &[u8],
 ) -> io::Result<()> {
-    let number = steps::opening(set, serial);
-    report::opened(rt, number)?;
-    if number == 0 {
+    let opening = steps::opening(set, serial);
+    report::opened(rt, opening)?;
+    if opening.is_ok() {
         replay_all(rt, set, serial, transfers)?;
     }
     Ok(())

@@ -1,94 +1,112 @@
 // The lines of the report.
-use crate::explain::explain;
-use crate::words::say_bytes;
+use crate::explain;
+use crate::words::print_bytes;
 use events::{Answer, reply};
-use files::{say, tell};
+use requests::Refusal;
+use sets::opening::Broken;
 use std::io;
 
 // How a recorded transfer went: its data or status stage ended well, or it was stalled. The last is no recorded transfer: it brings the
 // record to where the recording begins.
-pub const ENDED: u8 = 0;
+#[derive(Clone, Copy, PartialEq, Eq)]
+pub enum How {
+    Ended,
+    Stalled,
+    Unrecorded,
+}
 
-pub const STALLED: u8 = 1;
+impl From<u8> for How {
+    fn from(byte: u8) -> How {
+        match byte {
+            1 => How::Stalled,
+            2 => How::Unrecorded,
+            _ => How::Ended,
+        }
+    }
+}
 
-pub const UNRECORDED: u8 = 2;
+// A transfer as it was recorded, and as it is answered: what refuses it, and the bytes.
+#[derive(Clone, Copy)]
+pub struct Transfer<'a> {
+    pub setup: &'a [u8],
+    pub how: How,
+    pub recorded: &'a [u8],
+    pub refusal: Option<Refusal>,
+    pub ours: &'a [u8],
+}
 
 // As many bytes as a device descriptor has.
 const SHOWN: usize = 18;
 
-pub fn opened(rt: &impl Print, number: u8) -> io::Result<()> {
-    if number == 0 {
-        return say(rt, b"accepted\n");
+pub fn opened(rt: &impl Print, opening: Result<(), Broken>) -> io::Result<()> {
+    match sets::opening::number(opening) {
+        0 => println!(rt; "accepted"),
+        number => println!(rt; "refused {number}"),
     }
-    tell(rt, b"refused ", number as usize, b"\n")
 }
 
 // The setup bytes and our answer: the number, how many bytes, and the bytes.
-fn answered(rt: &impl Print, setup: &[u8], number: u8, ours: &[u8]) -> io::Result<()> {
-    say_bytes(rt, setup, SHOWN)?;
-    tell(rt, b" -> ", number as usize, b"")?;
-    if ours.len() > 0 {
-        tell(rt, b", ", ours.len(), b" bytes ")?;
-        say_bytes(rt, ours, SHOWN)?;
+fn answered(rt: &impl Print, number: u8, transfer: Transfer) -> io::Result<()> {
+    print_bytes(rt, transfer.setup, SHOWN)?;
+    print!(rt; " -> {number}")?;
+    let ours = transfer.ours;
+    if !ours.is_empty() {
+        let count = ours.len();
+        print!(rt; ", {count} bytes ")?;
+        print_bytes(rt, ours, SHOWN)?;
     }
     Ok(())
 }
 
 // Whether the device answered the same: the same bytes, or a refusal as well.
-fn is_same(number: u8, ours: &[u8], how: u8, recorded: &[u8]) -> bool {
-    if how == STALLED {
-        return number != 0;
+fn is_same(transfer: Transfer) -> bool {
+    if transfer.how == How::Stalled {
+        return transfer.refusal.is_some();
     }
-    number == 0 && ours == recorded
+    transfer.refusal.is_none() && transfer.ours == transfer.recorded
 }
 
-fn compared(
-    rt: &impl Print,
-    setup: &[u8],
-    number: u8,
-    ours: &[u8],
-    how: u8,
-    recorded: &[u8],
-) -> io::Result<()> {
-    if how == UNRECORDED {
-        return say(rt, b": before the recording\n");
+fn compared(rt: &impl Print, transfer: Transfer) -> io::Result<()> {
+    if transfer.how == How::Unrecorded {
+        return println!(rt; ": before the recording");
     }
-    if is_same(number, ours, how, recorded) {
-        return say(rt, b": same\n");
+    if is_same(transfer) {
+        return println!(rt; ": same");
     }
-    say(rt, b": differs: ")?;
-    explain(rt, setup, number, ours, how, recorded)?;
-    say(rt, b"\n")
+    let reason = explain::reason(transfer);
+    println!(rt; ": differs: {reason}")
 }
 
-fn line(
-    rt: &impl Print,
-    setup: &[u8],
-    number: u8,
-    ours: &[u8],
-    how: u8,
-    recorded: &[u8],
-) -> io::Result<()> {
-    answered(rt, setup, number, ours)?;
-    compared(rt, setup, number, ours, how, recorded)
+// What refuses, if an answer is a refusal.
+fn refusal_of(answer: Answer) -> Option<Refusal> {
+    match answer {
+        Answer::Refused(refusal) => Some(refusal),
+        _ => None,
+    }
 }
 
 // The line of a transfer: our answer is the bytes handed back, or else the part.
-pub fn transfer(
+pub fn print_transfer<'a>(
     rt: &impl Print,
-    setup: &[u8],
+    setup: &'a [u8],
     answer: Answer,
-    part: &[u8],
-    how: u8,
-    recorded: &[u8],
+    part: &'a [u8],
+    how: How,
+    recorded: &'a [u8],
 ) -> io::Result<()> {
-    let number = reply::number(answer);
     let handed = reply::bytes_of(answer);
     let bytes = [handed.first, handed.second];
-    let count = handed.count;
-    match count {
-        1 => line(rt, setup, number, &bytes[..1], how, recorded),
-        2 => line(rt, setup, number, &bytes, how, recorded),
-        _ => line(rt, setup, number, part, how, recorded),
-    }
+    let ours = match handed.count {
+        0 => part,
+        count => buffers::head(&bytes, count as usize),
+    };
+    let transfer = Transfer {
+        setup,
+        how,
+        recorded,
+        refusal: refusal_of(answer),
+        ours,
+    };
+    answered(rt, reply::number(answer), transfer)?;
+    compared(rt, transfer)
 }

@@ -3,108 +3,66 @@
 // the words, which are written as they stand, and the bytes: a setup, an address or a source. tests/runs makes them.
 ghost use Rattle.std.specs.Prelude.{◌<◌, ◌≤◌, length};
 
-use crate::words::say_bytes;
+use crate::words::print_bytes;
 use events::{Answer, Event, reply};
-use files::{say, tell};
 use records::Device;
 use std::io;
 
 // No reply has as many packets.
 const MOST_PACKETS: u32 = 8193;
 
-fn print_number(rt: &impl Print, number: usize) -> io::Result<()> {
-    tell(rt, b" ", number, b"")
-}
-
 // The lengths of a reply's packets.
 fn print_packets(rt: &impl Print, length: usize, asked: u16, size: u32) -> io::Result<()> {
-    let mut k: u32 = 0;
-    while k < MOST_PACKETS {
-        let packet = packets::packet_of(length, asked, size, k);
-        if packet.number != 0 {
-            return Ok(());
-        }
-        print_number(rt, packet.length)?;
-        k += 1;
+    for k in 0..MOST_PACKETS {
+        let Some(packet) = packets::packet_of(length, asked, size, k) else {
+            break;
+        };
+        let bytes = packet.length;
+        print!(rt; " {bytes}")?;
     }
     Ok(())
-}
-
-fn print_part(
-    rt: &impl Print,
-    block: &[u8],
-    offset: usize,
-    length: usize,
-    asked: u16,
-    size: u32,
-) -> io::Result<()> {
-    tell(rt, block, offset, b" ")?;
-    tell(rt, b"", length, b", packets")?;
-    print_packets(rt, length, asked, size)
 }
 
 // The bytes that an answer hands back.
 fn print_handed(rt: &impl Print, answer: Answer) -> io::Result<()> {
-    let handed = reply::bytes_of(answer);
-    if 0 < handed.count {
-        say(rt, b" ")?;
-        say_bytes(rt, &[handed.first], 1)?;
+    match answer {
+        Answer::OneByte(first) => print!(rt; " {first:02x}"),
+        Answer::TwoBytes(first, second) => print!(rt; " {first:02x}{second:02x}"),
+        _ => Ok(()),
     }
-    if 1 < handed.count {
-        say_bytes(rt, &[handed.second], 1)?;
-    }
-    Ok(())
 }
 
 // An answer: its number, its bytes, and its part in packets of `size` bytes, for the length asked.
 fn print_answer(rt: &impl Print, answer: Answer, asked: u16, size: u32) -> io::Result<()> {
-    tell(rt, b" -> ", reply::number(answer) as usize, b"")?;
+    let number = reply::number(answer);
+    print!(rt; " -> {number}")?;
     print_handed(rt, answer)?;
     match answer {
         Answer::SetPart { offset, length } => {
-            print_part(rt, b" set ", offset as usize, length as usize, asked, size)?
+            print!(rt; " set {offset} {length}, packets")?;
+            print_packets(rt, length as usize, asked, size)?;
         }
         Answer::SerialPart { length } => {
-            print_part(rt, b" serial ", 0, length as usize, asked, size)?
+            print!(rt; " serial 0 {length}, packets")?;
+            print_packets(rt, length as usize, asked, size)?;
         }
-        Answer::Done => (),
-        Answer::OneByte(_) => (),
-        Answer::TwoBytes(_, _) => (),
-        Answer::Refused(_) => (),
+        _ => {}
     }
-    say(rt, b"\n")
+    println!(rt)
 }
 
 fn event_of(event_number: u8, bytes: &[u8]) -> Event {
-    if event_number == 0 {
-        return events::setup_event(bytes);
+    match event_number {
+        0 => events::setup_event(bytes),
+        1 => Event::StatusEnd,
+        2 => Event::BusReset(0),
+        3 => Event::Halt(octets::peek(bytes, 0)),
+        4 => Event::PacketPassed(octets::peek(bytes, 0)),
+        5 => Event::Power(octets::peek(bytes, 0)),
+        6 => Event::Suspend,
+        7 => Event::Resume,
+        _ => Event::Wake,
     }
-    if event_number == 1 {
-        return Event::StatusEnd;
-    }
-    if event_number == 2 {
-        return Event::BusReset(0);
-    }
-    if event_number == 3 {
-        return Event::Halt(octets::peek(bytes, 0));
-    }
-    if event_number == 4 {
-        return Event::PacketPassed(octets::peek(bytes, 0));
-    }
-    if event_number == 5 {
-        return Event::Power(octets::peek(bytes, 0));
-    }
-    sleep_event(event_number)
-}
-
-fn sleep_event(event_number: u8) -> Event {
-    if event_number == 6 {
-        return Event::Suspend;
-    }
-    if event_number == 7 {
-        return Event::Resume;
-    }
-    Event::Wake
 }
 
 // Answers an event, and gives the record that it leaves.
@@ -116,7 +74,7 @@ fn answer_event(
     event: &[u8],
 ) -> io::Result<Device> {
     let size = octets::peek(event, 1) as usize;
-    say(rt, buffers::head(buffers::tail(event, 3), size))?;
+    rt.write_all(buffers::head(buffers::tail(event, 3), size))?;
     let bytes = buffers::tail(event, 3 + size);
     let outcome = steps::step(set, serial, device, event_of(octets::peek(event, 0), bytes));
     let answer = outcome.answer;
@@ -155,19 +113,19 @@ fn answer_all(
     Ok(device)
 }
 
-// The record of an image; the fresh one, where its length is another. Asked here, so that the caller needs no proof of it.
+// The record of an image; the fresh one, where its length is another.
 fn record_of(image: &[u8]) -> Device {
-    if image.len() == 32 {
-        return records::load(image);
+    match image.as_array() {
+        Some(whole) => records::laid(whole),
+        None => records::fresh(),
     }
-    records::fresh()
 }
 
 fn print_record(rt: &impl Print, device: Device) -> io::Result<()> {
     let mut image = [0u8; 32];
     records::store(device, &mut image);
-    say_bytes(rt, &image, 32)?;
-    say(rt, b"\n")
+    print_bytes(rt, &image, 32)?;
+    println!(rt)
 }
 
 // Runs the events on the record of an image.

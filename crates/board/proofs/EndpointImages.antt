@@ -1,25 +1,24 @@
 -- What hk_endpoint answers by the image's length, and that its part lies in the set in use. No axiom.
-use Rattle.octets.proofs.Vocabulary.{◌≡◌, ℕ, List, length, eqb, arith, eq-eqb, ne_eqb}
+use Rattle.octets.proofs.Vocabulary.{◌≡◌, ℕ, List, Bool, true, false, length, eqb, arith, eq-eqb, ne_eqb}
 use Rattle.octets.proofs.Sentences.{cases}
 use Rattle.sets.specs.Opening.{Board}
 use Rattle.sets.specs.View.{View}
 use Rattle.records.specs.Image.{device_of}
-use Rattle.events.specs.declared.Answer.TheVariants.{Refused}
-use Rattle.events.specs.Answer.{part_of, InsideAt}
+use Rattle.events.specs.Answer.{Refused, part_of, InsideAt}
 use Rattle.steps.specs.Endpoint.{endpoint_on}
 use Rattle.steps.specs.Gathering.{endpoint_in, endpoint_on_in}
 use Rattle.steps.proofs.EndpointParts.{endpoint-inside}
 
--- with what opening gives, and the view of the set in use
-module _ (n : ℕ) (v : View) (set image : List ℕ) (k : ℕ) where
+-- with whether what is lent opens, and the view of the set in use
+module _ (t : Bool) (v : View) (set image : List ℕ) (k : ℕ) where
   module _ (s : length image ≡ 32 → ⊥) where
-    pub short : n ≡ 0 → endpoint_on_in n v set image k ≡ Refused 8
-    short q = rw (ne_eqb (length image) 32 s, eq-eqb n 0 q)
+    pub short : t ≡ true → endpoint_on_in t v set image k ≡ Refused 8
+    short q = rw (ne_eqb (length image) 32 s, q)
 
-    pub refused : (n ≡ 0 → ⊥) → endpoint_on_in n v set image k ≡ Refused 7
-    refused q = rw (ne_eqb (length image) 32 s, ne_eqb n 0 q)
+    pub refused : t ≡ false → endpoint_on_in t v set image k ≡ Refused 7
+    refused q = rw (ne_eqb (length image) 32 s, q)
 
-  pub whole : length image ≡ 32 → endpoint_on_in n v set image k ≡ endpoint_in n v set (device_of image) k
+  pub whole : length image ≡ 32 → endpoint_on_in t v set image k ≡ endpoint_in t v set (device_of image) k
   whole l = rw (eq-eqb (length image) 32 l)
 
 pub inside : (b : Board) (image : List ℕ) (k : ℕ) → InsideAt b (device_of image).speed (part_of (endpoint_on b image k))

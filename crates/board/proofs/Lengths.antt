@@ -5,9 +5,7 @@ use Rattle.sets.specs.View.{opening_of}
 use Rattle.records.specs.Device.{fresh}
 use Rattle.octets.specs.Octets.{byte}
 use Rattle.records.specs.Image.{image_of}
-use Rattle.events.specs.declared.Answer.{Answer}
-use Rattle.events.specs.declared.Answer.TheVariants.{Done, OneByte, TwoBytes, SetPart, SerialPart, Refused}
-use Rattle.events.specs.Answer.{bytes_of}
+use Rattle.events.specs.Answer.{Answer, Done, OneByte, TwoBytes, SetPart, SerialPart, Refused, bytes_of}
 use Rattle.events.specs.Step.{opened}
 use Rattle.board.specs.Exports.{Opens, padded}
 

@@ -1,5 +1,5 @@
 -- What the parts of the pipe event give is what an event gets: for the proofs of src/pipe.rt, over any board. No axiom.
-use Rattle.octets.proofs.Vocabulary.{◌≡◌, refl, sym, ap, subst, ◌∙◌, ℕ, ◌+◌, ◌≤◌, ◌<◌, List, [], Bool, true, false, false≢true, length, eqb, arith, eq-eqb, eqb-true}
+use Rattle.octets.proofs.Vocabulary.{◌≡◌, refl, sym, ap, subst, ◌∙◌, ℕ, ◌+◌, List, [], Bool, true, false, false≢true, length, eqb, eq-eqb, eqb-true}
 use Rattle.octets.specs.Octets.{byte}
 use Rattle.octets.specs.Sentences.{pick}
 use Rattle.sets.specs.Opening.{Board}
@@ -7,53 +7,24 @@ use Rattle.records.specs.Image.{device_of}
 use Rattle.records.specs.Current.{set_for, in_use}
 use Rattle.requests.specs.declared.Setup.{Setup}
 use Rattle.requests.specs.Table.{setup_of}
-use Rattle.events.specs.declared.Answer.{Answer}
 use Rattle.events.specs.declared.Event.{Event}
 use Rattle.events.specs.declared.Event.TheVariants.{Malformed, StatusEnd}
-use Rattle.events.specs.Answer.{number_of, bytes_of}
+use Rattle.events.specs.Answer.{Answer, number_of, bytes_of}
 use Rattle.events.specs.Step.{Reply, setup_event, event}
-use Rattle.promises.specs.Refusals.{event_inside}
-use Rattle.promises.specs.Replies.{event_within, done_accepted}
 use Rattle.pipes.specs.declared.Lengths.{Lengths}
 use Rattle.pipes.specs.declared.Piece.{Piece}
-use Rattle.pipes.specs.declared.Turn.{Turn}
 use Rattle.pipes.specs.declared.Wire.{Wire}
 use Rattle.pipes.specs.declared.Wire.TheVariants.{Setup as ASetup, Taken, Received, Reset, Reply as Replies, Room, Accept, Refuse, Unknown}
-use Rattle.pipes.specs.declared.hearing.Moved.{Moved}
-use Rattle.pipes.specs.declared.response.Response.{Response}
 use Rattle.pipes.specs.Transfer.{idle, nothing}
 use Rattle.pipes.specs.Image.{transfer_of, image_of, fits_in}
-use Rattle.pipes.specs.Turns.{reply_at, turned}
+use Rattle.pipes.specs.Turns.{Turn, turned}
 use Rattle.pipes.specs.Sending.{room_for, sent, in_block, bytes_in}
 use Rattle.pipes.specs.Pipe.{Told, Records, Heard, lengths_in, lengths_of, packet_size, unheard, order_begun, pipe_begun, turn_begun, begins, pipe_reset, restarts, on_transfer, heard_as, heard, room, hands_over, tells, library_event, out_of}
-use Rattle.pipes.specs.Hearing.{HandsPiece, is_setup, unheard_moved, moved_by, pipe_moved, looked, pipe_looked, bare, with_bytes, responds, settles, out_bytes, Gets}
+use Rattle.pipes.specs.Hearing.{Moved, Response, HandsPiece, is_setup, unheard_moved, moved_by, pipe_moved, looked, pipe_looked, bare, with_bytes, responds, settles, out_bytes, Gets}
 use Rattle.pipes.proofs.Looking.{looked-moves, pipe-looked-moves}
 use Rattle.pipes.proofs.Ending.{turned-rests}
-use Rattle.pipes.proofs.Replies.{short-set, reply-length, reply-place}
 use Rattle.board.specs.Exports.{Spot, spot_of, spots_two}
 use Rattle.board.specs.Pipes.{AnswersPipe}
-
--- ---- an answer's reply: its place and length are numbers of two bytes, and it is no longer than wLength
-pub place-small : (b : Board) (image : List ℕ) (e : Event) → (reply_at (event b image e).answer).offset < 65536
-place-small b image e = reply-place b (device_of image).speed (event b image e).answer (event_inside b image e) (λ z. short-set b (device_of image).speed (done_accepted b image e z))
-
-length-within : (b : Board) (image setup : List ℕ) → (reply_at (event b image (setup_event setup)).answer).length ≤ (setup_of setup).wLength
-length-within b image setup = rw (reply-length (event b image (setup_event setup)).answer) (event_within b image setup)
-
--- a setup that is not 8 bytes has no reply
-malformed-within : (b : Board) (image setup : List ℕ) → (reply_at (event b image Malformed).answer).length ≤ (setup_of setup).wLength
-malformed-within b image setup = let h : (reply_at (event b image Malformed).answer).length ≤ 0 = length-within b image [] in omega arith
-
-pub within : (b : Board) (image setup : List ℕ) (w : Wire) → is_setup w ≡ true → (reply_at (event b image (library_event w setup)).answer).length ≤ (setup_of setup).wLength
-within b image setup ASetup p = length-within b image setup
-within b image setup Unknown p = malformed-within b image setup
-within b image setup Taken p = absurd (false≢true p)
-within b image setup (Received n) p = absurd (false≢true p)
-within b image setup (Reset speed) p = absurd (false≢true p)
-within b image setup Replies p = absurd (false≢true p)
-within b image setup (Room n) p = absurd (false≢true p)
-within b image setup Accept p = absurd (false≢true p)
-within b image setup Refuse p = absurd (false≢true p)
 
 -- ---- what a setup and a reset get
 as-heard : {h g : Heard} {r : Response} {image pipe : List ℕ} → h ≡ g → Gets g r image pipe → Gets h r image pipe
@@ -284,15 +255,6 @@ lies-piece first used serial reply p k offset e f = rw (e, f) (go (eqb k 0) (eqb
     go false true v = refl
     go false false true = refl
     go false false false = refl
-
--- of two places, the same by its two numbers
-pub first_of : (t : Bool) (full high : ℕ × ℕ) → pick t full.0 high.0 ≡ (pick t full high).0
-first_of true full high = refl
-first_of false full high = refl
-
-pub second-of : (t : Bool) (full high : ℕ × ℕ) → pick t full.1 high.1 ≡ (pick t full high).1
-second-of true full high = refl
-second-of false full high = refl
 
 module _ (b : Board) (image pipe setup reply : List ℕ) (first_at used_at serial_at reply_at : ℕ × ℕ) (high : Spot) (used : List ℕ) (u : used ≡ set_for b (device_of image).speed)
     (us : spot_of used_at ≡ in_use b.high (device_of image).speed (spot_of first_at) high) where

@@ -12,8 +12,7 @@ use Rattle.records.specs.declared.Device.{Device}
 use Rattle.records.specs.Device.{fresh, Sized}
 use Rattle.records.specs.Fits.{fits_on}
 use Rattle.records.specs.Image.{device_of, image_of}
-use Rattle.events.specs.declared.Answer.{Answer}
-use Rattle.events.specs.declared.Answer.TheVariants.{Refused}
+use Rattle.events.specs.Answer.{Answer, Refused}
 use Rattle.events.specs.declared.Event.{Event}
 use Rattle.events.specs.Step.{step}
 use Rattle.order.specs.Run.{answers, log, All, own}

@@ -33,7 +33,7 @@ use Rattle.records.specs.Image.{device_of}
 use Rattle.records.specs.Current.{in_use, set_for, set_at, board_for, view_at, selected, current_endpoints}
 use Rattle.records.proofs.InUse.{row_for, opens_for, bytes_for}
 use Rattle.records.specs.Fits.{fits_on}
-use Rattle.events.specs.declared.Answer.TheVariants.{SetPart, Refused}
+use Rattle.events.specs.Answer.{SetPart, Refused}
 use Rattle.steps.specs.Endpoint.{selected_entry, in_set, endpoints_in, endpoint_descriptors, endpoint_part, endpoint, endpoint_on}
 use Rattle.steps.specs.Gathering.{selected_body}
 use Rattle.steps.proofs.Configurations.{usable}

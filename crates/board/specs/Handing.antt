@@ -1,7 +1,6 @@
 -- Working definitions for the contract of an answer that is handed out, with the set in use by itself; no promise cites them.
 use Rattle.std.specs.Prelude.{ℕ, ◌+◌, ◌≡◌, List, length}
-use Rattle.events.specs.declared.Answer.{Answer}
-use Rattle.events.specs.Answer.{Part, number_of, bytes_of, part_of, in_block, bytes_in}
+use Rattle.events.specs.Answer.{Answer, Part, number_of, bytes_of, part_of, in_block, bytes_in}
 use Rattle.board.specs.Exports.{Spot, padded}
 
 -- a part's place, given where the first set, the set in use and the serial block lie

@@ -12,8 +12,7 @@ use Rattle.records.specs.declared.Device.{Device}
 use Rattle.records.specs.Device.{fresh}
 use Rattle.events.specs.declared.Event.{Event}
 use Rattle.events.specs.declared.Event.TheVariants.{BusReset}
-use Rattle.events.specs.declared.Outcome.{Outcome}
-use Rattle.events.specs.Answer.{number_of}
+use Rattle.events.specs.Answer.{Outcome, number_of}
 use Rattle.events.specs.Step.{opened, setup_event}
 use Rattle.promises.specs.Examples.{computed}
 use Rattle.promises.specs.Opening.{groups, AllHold, FirstBroken, accepts_exactly, refuses_exactly}

@@ -10,11 +10,10 @@ use Rattle.events.specs.declared.Event.{Event}
 use Rattle.events.specs.declared.Event.TheVariants.{StatusEnd}
 use Rattle.events.specs.Step.{event}
 use Rattle.order.specs.Run.{run, answers}
-use Rattle.pipes.specs.declared.Turn.{Turn}
 use Rattle.pipes.specs.declared.Wire.{Wire}
 use Rattle.pipes.specs.declared.Wire.TheVariants.{Setup, Taken, Received, Reset, Reply, Room, Accept, Refuse, Unknown}
 use Rattle.pipes.specs.Image.{transfer_of, fits_in}
-use Rattle.pipes.specs.Turns.{turned}
+use Rattle.pipes.specs.Turns.{Turn, turned}
 use Rattle.pipes.specs.Pipe.{Told, Records, lengths_of, unheard, moves, on_transfer, heard_as, heard, hands_over, wire_of, tells, library_event, out_of}
 use Rattle.board.specs.Exports.{Spot, Spots}
 use Rattle.board.specs.Pipes.{AnswersPipe, piece_bytes, spot_of_piece}

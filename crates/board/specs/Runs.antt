@@ -6,10 +6,9 @@ use Rattle.sets.specs.Opening.{Board, BytesOf}
 use Rattle.sets.specs.View.{accepted}
 use Rattle.octets.specs.Octets.{Bytes}
 use Rattle.records.specs.Image.{bytes_of_four, device_of, image_of}
-use Rattle.events.specs.declared.Answer.{Answer}
 use Rattle.events.specs.declared.Event.{Event}
 use Rattle.events.specs.declared.Event.TheVariants.{StatusEnd, BusReset, Halt, PacketPassed, Power, Suspend, Resume, Wake}
-use Rattle.events.specs.Answer.{Part, number_of, part_of, InsideAt, bytes_at}
+use Rattle.events.specs.Answer.{Answer, Part, number_of, part_of, InsideAt, bytes_at}
 use Rattle.events.specs.Step.{setup_event, event, opened}
 use Rattle.order.specs.Run.{run, answers}
 use Rattle.promises.specs.Rearranged.{Values, values_of, image_answer, image_next}

@@ -22,12 +22,9 @@ use Rattle.records.specs.Current.{set_for, view_at}
 use Rattle.records.specs.Fits.{fits_on}
 use Rattle.requests.specs.declared.Setup.{Setup}
 use Rattle.requests.specs.Table.{setup_of, largest_index, refusal}
-use Rattle.events.specs.declared.Answer.{Answer}
-use Rattle.events.specs.declared.Answer.TheVariants.{Done, OneByte, TwoBytes, SetPart, SerialPart, Refused}
 use Rattle.events.specs.declared.Event.{Event}
 use Rattle.events.specs.declared.Event.TheVariants.{Request, Malformed}
-use Rattle.events.specs.declared.Outcome.{Outcome}
-use Rattle.events.specs.Answer.{number_of, bytes_of, part_of, in_block, bytes_at}
+use Rattle.events.specs.Answer.{Answer, Done, OneByte, TwoBytes, SetPart, SerialPart, Refused, Outcome, number_of, bytes_of, part_of, in_block, bytes_at}
 use Rattle.events.specs.Step.{asks_test_mode, test_mode_in_state, test_mode_fits, test_mode_refusal, refusal_for, answer_setup, respond, step, Reply, event, setup_event}
 use Rattle.laws.proofs.Outcomes.{chosen, ruled}
 use Rattle.packets.specs.Packets.{packet_count, can_cut, packet_where, packet}

@@ -1,33 +1,35 @@
 // The endpoints of the current settings, for a board that opens them.
-ghost use Rattle.std.specs.Prelude.{◌≡◌};
+// Kept: the C interface names the parameters of the hk_ functions; inner ones are lent them side by side, since a struct would lend slices by address.
+ghost use Rattle.std.specs.Prelude.{◌≡◌, true};
 ghost use Rattle.sets.specs.Opening.{lent};
+ghost use Rattle.events.specs.Coded.{answer_in};
 ghost use Rattle.steps.specs.Gathering.{Openable, view_in, endpoint_on_in};
 ghost use Rattle.board.specs.Exports.{spot_of, spots, GivesEndpoint};
 
-use events::refusals::{RECORD_DOES_NOT_FIT, SET_NOT_ACCEPTABLE};
-use events::{Answer, reply};
+use events::{Answer, Refusal, reply};
 use records::IMAGE_LENGTH;
 
-// The answer, on an image of any length. `opening` is what opening gives: it is asked before this frame stands, to spare the stack. `set` is the set
+// The answer, on an image of any length. `accepted`: what is lent opens, which is asked before this frame stands, to spare the stack. `set` is the set
 // in use, one of two if `paired`.
+// Kept: that the slices open goes beside them as `accepted`: a struct lends slices by address, 16 bytes of stack at each level.
 pub fn answer_on(
-    opening: u8,
+    accepted: bool,
     paired: bool,
     set: &[u8],
     serial: &[u8],
     image: &[u8],
     number: u8,
 ) -> Answer
-    requires { opening ≡ 0 → Openable set.now serial.now }
-    ensures { result ≡ endpoint_on_in opening (view_in paired set.now serial.now) set.now image.now number }
+    requires { accepted ≡ true → Openable set.now serial.now }
+    ensures { answer_in result ≡ endpoint_on_in accepted (view_in paired set.now serial.now) set.now image.now number }
 {
     if image.len() != IMAGE_LENGTH {
-        if opening == 0 {
-            return Answer::Refused(RECORD_DOES_NOT_FIT);
+        if accepted {
+            return Answer::Refused(Refusal::RecordDoesNotFit);
         }
-        return Answer::Refused(SET_NOT_ACCEPTABLE);
+        return Answer::Refused(Refusal::SetNotAcceptable);
     }
-    steps::current::endpoint(opening, paired, set, serial, records::load(image), number)
+    steps::current::endpoint(accepted, paired, set, serial, records::load(image), number)
 }
 
 // Endpoint descriptor `number` of the current settings, from 0 on: a part of the set, and no copy.
@@ -42,8 +44,8 @@ pub extern "C" fn hk_endpoint<'a>(
     ensures { GivesEndpoint (lent set.now serial.now) (spots (spot_of set.entry.ref_ptr) (spot_of serial.entry.ref_ptr)) image.now number
         result descriptor.new.now (spot_of descriptor.new.ref_ptr) }
 {
-    let opening = steps::opening(set, serial);
-    let answer = answer_on(opening, false, set, serial, image, number);
+    let accepted = crate::opened(set, serial);
+    let answer = answer_on(accepted, false, set, serial, image, number);
     *descriptor = reply::part(set, set, serial, answer);
     reply::number(answer)
 }

@@ -1,34 +1,9 @@
 // The second way to answer an event, for boards with large sets: what the event asks of the selected configuration is collected while the set is checked. The answers are those of the first way.
-ghost use Rattle.std.specs.Prelude.{◌≡◌};
+// Kept: the C interface names the parameters of the hk_ functions.
 ghost use Rattle.sets.specs.Opening.{lent, lent_two};
-ghost use Rattle.events.specs.Step.{event};
 ghost use Rattle.board.specs.Exports.{spot_of, spots, spots_two, numbered, AnswersImage};
 
 use crate::numbers;
-use events::{Answer, Event};
-
-// An event on a board that lends one set, on an image of any length.
-fn happen(set: &[u8], serial: &[u8], image: &mut [u8], what: Event) -> Answer
-    ensures answer { result ≡ (event (lent set.now serial.now) image.old what).answer }
-    ensures image { image.new ≡ (event (lent set.now serial.now) image.old what).image }
-{
-    single_walk::react(set, serial, image, what)
-}
-
-// The same on a board that lends two.
-fn happen_two<'a>(
-    full: &'a [u8],
-    high: &'a [u8],
-    serial: &[u8],
-    image: &mut [u8],
-    what: Event,
-) -> Answer
-    ensures answer { result ≡ (event (lent_two full.now high.now serial.now) image.old what).answer }
-    ensures image { image.new ≡ (event (lent_two full.now high.now serial.now) image.old what).image }
-{
-    let speed = octets::peek(image, 7);
-    single_walk::react_two(full, high, serial, speed, image, what)
-}
 
 // Any event, by its number: its number; the bytes handed back and how many count; the part of the set or the serial block.
 #[unsafe(no_mangle)]
@@ -47,7 +22,7 @@ pub extern "C" fn hk_table_event<'a>(
         result image.new bytes.new count.new part.new.now (spot_of part.new.ref_ptr) }
 {
     let what = numbers::event_of(kind, value, setup);
-    let answer = happen(set, serial, image, what);
+    let answer = single_walk::react(set, serial, image, what);
     numbers::hand_out(set, serial, answer, bytes, count, part)
 }
 
@@ -69,8 +44,9 @@ pub extern "C" fn hk_two_table_event<'a>(
         (spots_two (spot_of full.entry.ref_ptr) (spot_of high.entry.ref_ptr) (spot_of serial.entry.ref_ptr)) image.old (numbered kind value setup.now)
         result image.new bytes.new count.new part.new.now (spot_of part.new.ref_ptr) }
 {
-    let set = steps::in_use(full, high, octets::peek(image, 7));
+    let speed = octets::peek(image, 7);
+    let set = steps::in_use(full, high, speed);
     let what = numbers::event_of(kind, value, setup);
-    let answer = happen_two(full, high, serial, image, what);
+    let answer = single_walk::react_two(full, high, serial, speed, image, what);
     numbers::hand_out_of(full, set, serial, answer, bytes, count, part)
 }

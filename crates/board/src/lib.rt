@@ -1,17 +1,18 @@
 // The C interface: every function of include/heideklonk.h, and nothing else.
+// Kept: the C interface names the parameters of the hk_ functions; inner ones are lent them side by side, since a struct would lend slices by address.
 #![tactic(auto)]
 
-ghost use Rattle.std.specs.Prelude.{◌≡◌};
+ghost use Rattle.std.specs.Prelude.{◌≡◌, true};
 ghost use Rattle.sets.specs.Opening.{lent};
-ghost use Rattle.sets.specs.View.{opening_of};
+ghost use Rattle.sets.specs.View.{accepted as opens};
+ghost use Rattle.events.specs.Coded.{answer_in};
 ghost use Rattle.events.specs.Step.{event};
 ghost use Rattle.events.specs.declared.Event.TheVariants.{StatusEnd, BusReset, Halt, PacketPassed, Power, Suspend, Resume, Wake};
 ghost use Rattle.steps.specs.Gathering.{Openable, view_in, event_in};
 ghost use Rattle.board.specs.Exports.{Happens, AnswersSetup, CutsPacket, spot_of, spots, numbered, AnswersRecordEvent};
 ghost use Rattle.board.specs.Lent.{OpensBytes};
 
-use events::refusals::RECORD_DOES_NOT_FIT;
-use events::{Answer, Event};
+use events::{Answer, Event, Refusal};
 use records::{Change, Device, IMAGE_LENGTH};
 
 pub mod endpoint;
@@ -29,38 +30,46 @@ pub extern "C" fn hk_open(set: &[u8], serial: &[u8], image: &mut [u8]) -> u8
     ensures { OpensBytes (lent set.now serial.now) image.old result image.new }
 {
     if image.len() != IMAGE_LENGTH {
-        return RECORD_DOES_NOT_FIT;
+        return Refusal::RecordDoesNotFit as u8;
     }
     records::renewal::renew(image, false, Change::Fresh { power: 0, speed: 0 });
-    steps::opening(set, serial)
+    sets::opening::number(steps::opening(set, serial))
 }
 
-// An event, on an image of any length. `number` is what opening gives: it is asked before this frame stands, to spare the stack. `set` is the set in
+// Opening for an event: whether what is lent opens.
+fn opened(set: &[u8], serial: &[u8]) -> bool
+    ensures { result ≡ opens (lent set.now serial.now) }
+{
+    steps::opening(set, serial).is_ok()
+}
+
+// An event, on an image of any length. `accepted`: what is lent opens, which is asked before this frame stands, to spare the stack. `set` is the set in
 // use, one of two if `paired`. What is sought is small, and so it is asked first.
+// Kept: that the slices open goes beside them as `accepted`: a struct lends slices by address, 16 bytes of stack at each level.
 fn happen(
-    number: u8,
+    accepted: bool,
     paired: bool,
     set: &[u8],
     serial: &[u8],
     image: &mut [u8],
     what: Event,
 ) -> Answer
-    requires { number ≡ 0 → Openable set.now serial.now }
-    ensures answer { result ≡ (event_in number (view_in paired set.now serial.now) image.old what).answer }
-    ensures image { image.new ≡ (event_in number (view_in paired set.now serial.now) image.old what).image }
+    requires { accepted ≡ true → Openable set.now serial.now }
+    ensures answer { answer_in result ≡ (event_in accepted (view_in paired set.now serial.now) image.old what).answer }
+    ensures image { image.new ≡ (event_in accepted (view_in paired set.now serial.now) image.old what).image }
 {
-    let sought = steps::facts::seek(number, set, serial, what);
-    let known = steps::facts::learn(number, set, serial, image, what);
-    steps::react(number, paired, image, what, known, sought)
+    let sought = steps::facts::seek(accepted, set, serial, what);
+    let known = steps::facts::learn(accepted, set, serial, image, what);
+    steps::react(accepted, paired, image, what, known, sought)
 }
 
 // The same, of a board that lends one set.
-fn event(number: u8, set: &[u8], serial: &[u8], image: &mut [u8], what: Event) -> Answer
-    requires { number ≡ opening_of (lent set.now serial.now) }
-    ensures answer { result ≡ (event (lent set.now serial.now) image.old what).answer }
+fn event(accepted: bool, set: &[u8], serial: &[u8], image: &mut [u8], what: Event) -> Answer
+    requires { accepted ≡ opens (lent set.now serial.now) }
+    ensures answer { answer_in result ≡ (event (lent set.now serial.now) image.old what).answer }
     ensures image { image.new ≡ (event (lent set.now serial.now) image.old what).image }
 {
-    happen(number, false, set, serial, image, what)
+    happen(accepted, false, set, serial, image, what)
 }
 
 // Answers a setup: its number; the bytes handed back and how many count; the part of the set or the serial block.
@@ -77,8 +86,8 @@ pub extern "C" fn hk_setup<'a>(
     ensures { AnswersSetup (lent set.now serial.now) (spots (spot_of set.entry.ref_ptr) (spot_of serial.entry.ref_ptr)) image.old setup.now
         result image.new bytes.new count.new part.new.now (spot_of part.new.ref_ptr) }
 {
-    let number = steps::opening(set, serial);
-    let answer = event(number, set, serial, image, events::setup_event(setup));
+    let accepted = opened(set, serial);
+    let answer = event(accepted, set, serial, image, events::setup_event(setup));
     numbers::hand_out(set, serial, answer, bytes, count, part)
 }
 
@@ -86,8 +95,8 @@ pub extern "C" fn hk_setup<'a>(
 fn tell(set: &[u8], serial: &[u8], image: &mut [u8], what: Event) -> u8
     ensures { Happens (lent set.now serial.now) image.old what result image.new }
 {
-    let number = steps::opening(set, serial);
-    events::reply::number(event(number, set, serial, image, what))
+    let accepted = opened(set, serial);
+    events::reply::number(event(accepted, set, serial, image, what))
 }
 
 // The status stage has ended: a waiting address is taken.
@@ -174,8 +183,10 @@ pub extern "C" fn hk_packet<'a>(
     ensures { CutsPacket reply.now (spot_of reply.entry.ref_ptr) asked size number result cut.new.now (spot_of cut.new.ref_ptr) }
 {
     *cut = packets::cut(reply, asked, size, number);
-    let here = packets::packet_of(reply.len(), asked, size, number);
-    here.number
+    match packets::packet_of(reply.len(), asked, size, number) {
+        Some(_) => 0,
+        None => numbers::NO_SUCH_PACKET,
+    }
 }
 
 // Any event, by its number, on a record that is lent and changed where it stands: for a board that keeps its record aligned.
@@ -194,8 +205,8 @@ pub extern "C" fn hk_record_event<'a>(
     ensures { AnswersRecordEvent (lent set.now serial.now) (spots (spot_of set.entry.ref_ptr) (spot_of serial.entry.ref_ptr)) device.old (numbered kind value setup.now)
         result device.new bytes.new count.new part.new.now (spot_of part.new.ref_ptr) }
 {
-    let number = steps::opening(set, serial);
+    let accepted = opened(set, serial);
     let event = numbers::event_of(kind, value, setup);
-    let answer = steps::step_lent(number, device, set, serial, event);
+    let answer = steps::step_lent(accepted, device, set, serial, event);
     numbers::hand_out(set, serial, answer, bytes, count, part)
 }

@@ -1,16 +1,19 @@
 // The transfers of endpoint zero (docs/PIPE.md), with the library's own events. Taken, received and the application's events that end no transfer open no set.
-ghost use Rattle.std.specs.Prelude.{◌≡◌, eqb};
-ghost use Rattle.octets.specs.Sentences.{pick};
+// Kept: the C interface names the parameters of the hk_ functions; inner ones are lent them side by side, since a struct would lend slices by address.
+ghost use Rattle.std.specs.Prelude.{◌≡◌};
 ghost use Rattle.sets.specs.Opening.{lent, lent_two};
 ghost use Rattle.pipes.specs.Image.{transfer_of};
 ghost use Rattle.pipes.specs.Sending.{room_for, sent};
 ghost use Rattle.pipes.specs.Pipe.{heard, lengths_in, wire_of};
 ghost use Rattle.pipes.specs.Hearing.{HandsPiece, out_bytes, Gets};
+ghost use Rattle.pipes.specs.Coded.{response_in};
 ghost use Rattle.board.specs.Exports.{spot_of, spots, spots_two};
 ghost use Rattle.board.specs.Pipes.{AnswersPipe};
 
+use events::Refusal;
+use pipes::hearing::Moved;
 use pipes::response::Response;
-use pipes::{Wire, hearing, response};
+use pipes::{Order, Wire, hearing, response};
 
 // Any event of the pipe, on a board that lends one set. The library hears of it last, with one call for every event.
 fn hear(
@@ -23,21 +26,24 @@ fn hear(
     setup: &[u8],
 ) -> Response
     ensures { Gets (heard (lent set.now serial.now) (record { image = image.old; pipe = pipe.old }) (record { wire = wire; setup = setup.now; reply = reply.now }))
-        result image.new pipe.new }
+        (response_in result) image.new pipe.new }
 {
-    let moved = hearing::look(set, serial, reply, wire, pipe);
-    if moved.ended {
-        let number = steps::opening(set, serial);
-        let what = hearing::library_event(wire, setup);
-        let answer = crate::event(number, set, serial, image, what);
-        return response::settle(set, pipe, wire, requests::setup_of(setup), answer);
+    match hearing::look(set, serial, reply, wire, pipe) {
+        Moved::Ordered(order) => response::plain(None, order),
+        Moved::Unfit => response::plain(Some(Refusal::RecordDoesNotFit), Order::Nothing),
+        Moved::Told => {
+            let accepted = crate::opened(set, serial);
+            let what = hearing::library_event(wire, setup);
+            let answer = crate::event(accepted, set, serial, image, what);
+            response::settle(set, pipe, wire, requests::setup_of(setup), answer)
+        }
     }
-    response::plain(moved.number, moved.order)
 }
 
-// What the event gets is handed to C. A function of its own, so that what it lends has its place on the stack where the event's parts had theirs.
+// What the event gets is handed to C: the part lies in the set in use. A function of its own, so that what it lends has its place on the stack where the event's parts had theirs.
 fn finish<'a>(
-    set: &'a [u8],
+    first: &'a [u8],
+    used: &'a [u8],
     serial: &'a [u8],
     reply: &'a [u8],
     pipe: &[u8],
@@ -45,15 +51,15 @@ fn finish<'a>(
     out: &mut [u8; 6],
     part: &mut &'a [u8],
 ) -> u8
-    ensures number { result ≡ response.number }
-    ensures out { out.new ≡ out_bytes response (room_for response.order (transfer_of pipe.now)) }
-    ensures part { HandsPiece set.now set.now serial.now reply.now set.entry.ref_ptr set.entry.ref_ptr serial.entry.ref_ptr reply.entry.ref_ptr
-        (sent (lengths_in set.now serial.now reply.now) response.order (transfer_of pipe.now)) part.new.now part.new.ref_ptr }
+    ensures number { result ≡ (response_in response).number }
+    ensures out { out.new ≡ out_bytes (response_in response) (room_for (response_in response).order (transfer_of pipe.now)) }
+    ensures part { HandsPiece first.now used.now serial.now reply.now first.entry.ref_ptr used.entry.ref_ptr serial.entry.ref_ptr reply.entry.ref_ptr
+        (sent (lengths_in used.now serial.now reply.now) (response_in response).order (transfer_of pipe.now)) part.new.now part.new.ref_ptr }
 {
     let next = pipes::image::read(pipe);
     response::write_out(response, next, out);
-    *part = response::part_sent(set, set, serial, reply, response.order, next);
-    response.number
+    *part = response::part_sent(first, used, serial, reply, response.order, next);
+    response::number(response)
 }
 
 // Any event of the pipe, by its number: its number; order, count, the two bytes and the room in one block; the part that is sent.
@@ -76,7 +82,7 @@ pub extern "C" fn hk_pipe_event<'a>(
 {
     let wire = hearing::wire_of(kind, value);
     let response = hear(set, serial, image, pipe, reply, wire, setup);
-    finish(set, serial, reply, pipe, response, out, part)
+    finish(set, set, serial, reply, pipe, response, out, part)
 }
 
 // Any event of the pipe, on a board that lends two sets.
@@ -91,43 +97,19 @@ fn hear_two<'a>(
     setup: &[u8],
 ) -> Response
     ensures { Gets (heard (lent_two full.now high.now serial.now) (record { image = image.old; pipe = pipe.old }) (record { wire = wire; setup = setup.now; reply = reply.now }))
-        result image.new pipe.new }
+        (response_in result) image.new pipe.new }
 {
     let used = steps::in_use(full, high, octets::peek(image, 7));
-    let moved = hearing::look(used, serial, reply, wire, pipe);
-    if moved.ended {
-        let number = crate::two::opened(full, high, serial);
-        let what = hearing::library_event(wire, setup);
-        let answer = crate::happen(number, true, used, serial, image, what);
-        return response::settle(used, pipe, wire, requests::setup_of(setup), answer);
+    match hearing::look(used, serial, reply, wire, pipe) {
+        Moved::Ordered(order) => response::plain(None, order),
+        Moved::Unfit => response::plain(Some(Refusal::RecordDoesNotFit), Order::Nothing),
+        Moved::Told => {
+            let accepted = crate::two::opened(full, high, serial);
+            let what = hearing::library_event(wire, setup);
+            let answer = crate::happen(accepted, true, used, serial, image, what);
+            response::settle(used, pipe, wire, requests::setup_of(setup), answer)
+        }
     }
-    response::plain(moved.number, moved.order)
-}
-
-// As `finish`, where `speed` is byte 7 of the record that the event found.
-fn finish_two<'a>(
-    full: &'a [u8],
-    high: &'a [u8],
-    speed: u8,
-    serial: &'a [u8],
-    reply: &'a [u8],
-    pipe: &[u8],
-    response: Response,
-    out: &mut [u8; 6],
-    part: &mut &'a [u8],
-) -> u8
-    ensures number { result ≡ response.number }
-    ensures out { out.new ≡ out_bytes response (room_for response.order (transfer_of pipe.now)) }
-    ensures part { HandsPiece full.now (pick (eqb speed 0) full.now high.now) serial.now reply.now
-        full.entry.ref_ptr (pick (eqb speed 0) full.entry.ref_ptr high.entry.ref_ptr) serial.entry.ref_ptr reply.entry.ref_ptr
-        (sent (lengths_in (pick (eqb speed 0) full.now high.now) serial.now reply.now) response.order (transfer_of pipe.now))
-        part.new.now part.new.ref_ptr }
-{
-    let used = steps::in_use(full, high, speed);
-    let next = pipes::image::read(pipe);
-    response::write_out(response, next, out);
-    *part = response::part_sent(full, used, serial, reply, response.order, next);
-    response.number
 }
 
 // Any event of the pipe, by its number, on a board that lends two sets: the part is one of the set in use, the serial block or the reply.
@@ -152,5 +134,6 @@ pub extern "C" fn hk_two_pipe_event<'a>(
     let speed = octets::peek(image, 7);
     let wire = hearing::wire_of(kind, value);
     let response = hear_two(full, high, serial, image, pipe, reply, wire, setup);
-    finish_two(full, high, speed, serial, reply, pipe, response, out, part)
+    let used = steps::in_use(full, high, speed);
+    finish(full, used, serial, reply, pipe, response, out, part)
 }

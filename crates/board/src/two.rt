@@ -1,5 +1,6 @@
 // A board that lends two sets, one for each speed, and one serial block. Both sets are opened, one after the other, before the event's frame stands.
-ghost use Rattle.std.specs.Prelude.{◌≡◌, length};
+// Kept: the C interface names the parameters of the hk_ functions; inner ones are lent them side by side, since a struct would lend slices by address.
+ghost use Rattle.std.specs.Prelude.{◌≡◌, eqb};
 ghost use Rattle.sets.specs.Opening.{lent_two};
 ghost use Rattle.sets.specs.Pair.{opening_two};
 ghost use Rattle.records.specs.Image.{device_of};
@@ -7,8 +8,7 @@ ghost use Rattle.board.specs.Exports.{spot_of, spots_two, numbered, AnswersRecor
 ghost use Rattle.board.specs.Lent.{OpensBytes};
 
 use crate::{endpoint, numbers};
-use events::refusals::RECORD_DOES_NOT_FIT;
-use events::reply;
+use events::{Event, Refusal, reply};
 use records::{Change, Device, IMAGE_LENGTH};
 
 // Opens two sets with their serial block: the image becomes the fresh record, whether they are accepted or not.
@@ -17,17 +17,17 @@ pub extern "C" fn hk_two_open(full: &[u8], high: &[u8], serial: &[u8], image: &m
     ensures { OpensBytes (lent_two full.now high.now serial.now) image.old result image.new }
 {
     if image.len() != IMAGE_LENGTH {
-        return RECORD_DOES_NOT_FIT;
+        return Refusal::RecordDoesNotFit as u8;
     }
     records::renewal::renew(image, false, Change::Fresh { power: 0, speed: 0 });
-    pairs::opening_two(full, high, serial)
+    sets::opening::number(pairs::opening_two(full, high, serial))
 }
 
-// Opening for an event. A function of its own, so that what it lends has given up its place on the stack when the event's parts are lent theirs.
-pub fn opened(full: &[u8], high: &[u8], serial: &[u8]) -> u8
-    ensures { result ≡ opening_two full.now high.now serial.now }
+// Opening for an event: whether it opens. A function of its own, so that what it lends has given up its place on the stack when the event's parts are lent theirs.
+pub fn opened(full: &[u8], high: &[u8], serial: &[u8]) -> bool
+    ensures { result ≡ eqb (opening_two full.now high.now serial.now) 0 }
 {
-    pairs::opening_two(full, high, serial)
+    pairs::opening_two(full, high, serial).is_ok()
 }
 
 // Any event, by its number: its number; the bytes handed back and how many count; the part of the set in use or the serial block.
@@ -48,69 +48,52 @@ pub extern "C" fn hk_two_event<'a>(
         (spots_two (spot_of full.entry.ref_ptr) (spot_of high.entry.ref_ptr) (spot_of serial.entry.ref_ptr)) image.old (numbered kind value setup.now)
         result image.new bytes.new count.new part.new.now (spot_of part.new.ref_ptr) }
 {
-    let number = opened(full, high, serial);
+    let accepted = opened(full, high, serial);
     let set = steps::in_use(full, high, octets::peek(image, 7));
     let what = numbers::event_of(kind, value, setup);
-    let answer = crate::happen(number, true, set, serial, image, what);
+    let answer = crate::happen(accepted, true, set, serial, image, what);
     numbers::hand_out_of(full, set, serial, answer, bytes, count, part)
 }
 
-// Any event, by its number, on the image of a record, and its answer handed out.
+// An event on the image of a record, and its answer handed out.
 fn image_event<'a>(
     full: &'a [u8],
     high: &'a [u8],
     serial: &'a [u8],
-    image: &mut [u8],
-    kind: u8,
-    value: u8,
-    setup: &[u8],
+    image: &mut [u8; 32],
+    what: Event,
     bytes: &mut [u8; 2],
     count: &mut u8,
     part: &mut &'a [u8],
 ) -> u8
-    requires { length image.old ≡ 32 }
     ensures { AnswersRecordEvent (lent_two full.now high.now serial.now)
-        (spots_two (spot_of full.entry.ref_ptr) (spot_of high.entry.ref_ptr) (spot_of serial.entry.ref_ptr)) (device_of image.old) (numbered kind value setup.now)
+        (spots_two (spot_of full.entry.ref_ptr) (spot_of high.entry.ref_ptr) (spot_of serial.entry.ref_ptr)) (device_of image.old) what
         result (device_of image.new) bytes.new count.new part.new.now (spot_of part.new.ref_ptr) }
 {
-    let number = opened(full, high, serial);
+    let accepted = opened(full, high, serial);
     let set = steps::in_use(full, high, octets::peek(image, 7));
-    let event = numbers::event_of(kind, value, setup);
-    let answer = steps::reply_in(number, true, set, serial, image, event);
+    let answer = steps::reply_in(accepted, true, set, serial, image, what);
     numbers::hand_out_of(full, set, serial, answer, bytes, count, part)
 }
 
-// Any event, by its number, on a record that is lent and changed where it stands.
+// An event on a record that is lent and changed where it stands.
 fn record_event<'a>(
     full: &'a [u8],
     high: &'a [u8],
     serial: &'a [u8],
     device: &mut Device,
-    kind: u8,
-    value: u8,
-    setup: &[u8],
+    what: Event,
     bytes: &mut [u8; 2],
     count: &mut u8,
     part: &mut &'a [u8],
 ) -> u8
     ensures { AnswersRecordEvent (lent_two full.now high.now serial.now)
-        (spots_two (spot_of full.entry.ref_ptr) (spot_of high.entry.ref_ptr) (spot_of serial.entry.ref_ptr)) device.old (numbered kind value setup.now)
+        (spots_two (spot_of full.entry.ref_ptr) (spot_of high.entry.ref_ptr) (spot_of serial.entry.ref_ptr)) device.old what
         result device.new bytes.new count.new part.new.now (spot_of part.new.ref_ptr) }
 {
     let mut image = [0u8; 32];
     records::store(*device, &mut image[..]);
-    let number = image_event(
-        full,
-        high,
-        serial,
-        &mut image[..],
-        kind,
-        value,
-        setup,
-        bytes,
-        count,
-        part,
-    );
+    let number = image_event(full, high, serial, &mut image, what, bytes, count, part);
     steps::keep(device, &image);
     number
 }
@@ -137,18 +120,8 @@ pub extern "C" fn hk_two_port_event<'a>(
     if row.len() <= port {
         return numbers::no_port(full, serial, bytes, count, part);
     }
-    record_event(
-        full,
-        high,
-        serial,
-        &mut row[port],
-        kind,
-        value,
-        setup,
-        bytes,
-        count,
-        part,
-    )
+    let what = numbers::event_of(kind, value, setup);
+    record_event(full, high, serial, &mut row[port], what, bytes, count, part)
 }
 
 // Endpoint descriptor `number` of the current settings, from 0 on: a part of the set in use, and no copy.
@@ -165,9 +138,9 @@ pub extern "C" fn hk_two_endpoint<'a>(
         (spots_two (spot_of full.entry.ref_ptr) (spot_of high.entry.ref_ptr) (spot_of serial.entry.ref_ptr)) image.now number
         result descriptor.new.now (spot_of descriptor.new.ref_ptr) }
 {
-    let opening = pairs::opening_two(full, high, serial);
+    let accepted = opened(full, high, serial);
     let set = steps::in_use(full, high, octets::peek(image, 7));
-    let answer = endpoint::answer_on(opening, true, set, serial, image, number);
+    let answer = endpoint::answer_on(accepted, true, set, serial, image, number);
     *descriptor = reply::part(full, set, serial, answer);
     reply::number(answer)
 }

@@ -1,4 +1,5 @@
 // The endpoints of the current settings, for a board that opens them.
+// Kept: the C interface names the parameters of these functions.
 ghost use Rattle.sets.specs.Opening.{lent};
 ghost use Rattle.board.specs.Exports.{spot_of, spots, GivesEndpoint};
 

@@ -1,4 +1,5 @@
 // The second way to answer an event, for boards with large sets: what the event asks of the selected configuration is collected while the set is checked. The answers are those of the first way.
+// Kept: the C interface names the parameters of these functions.
 ghost use Rattle.sets.specs.Opening.{lent, lent_two};
 ghost use Rattle.board.specs.Exports.{spot_of, spots, spots_two, numbered, AnswersImage};
 

@@ -1,4 +1,5 @@
 // The C interface as a static library: every function of include/heideklonk.h, each the function of the crate `board` that has its name.
+// Kept: the C interface names the parameters of these functions.
 #![tactic(auto)]
 
 ghost use Rattle.sets.specs.Opening.{lent};

@@ -1,4 +1,5 @@
 // The calls for makers, on a bench computer: these may use an array of a set's length in their frame.
+// Kept: the C interface names the parameters of these functions.
 ghost use Rattle.sets.specs.Opening.{lent};
 ghost use Rattle.descriptors.specs.Limits.{full_speed, super_speed};
 ghost use Rattle.board.specs.Makers.{OpensAs, Writes, Takes, Dumps, Shortens, Tells, TellsTwo};

@@ -1,4 +1,5 @@
 // The transfers of endpoint zero (docs/PIPE.md), with the library's own events. Taken, received and the application's events that end no transfer open no set.
+// Kept: the C interface names the parameters of these functions.
 ghost use Rattle.sets.specs.Opening.{lent, lent_two};
 ghost use Rattle.pipes.specs.Pipe.{wire_of};
 ghost use Rattle.board.specs.Exports.{spot_of, spots, spots_two};

@@ -1,4 +1,5 @@
 // A board with a row of records, one for each port: the same set or sets at all of them, a serial block at each.
+// Kept: the C interface names the parameters of these functions.
 ghost use Rattle.sets.specs.Opening.{lent};
 ghost use Rattle.board.specs.Exports.{spot_of, spots, numbered, AnswersPortEvent};
 

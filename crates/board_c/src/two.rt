@@ -1,4 +1,5 @@
 // A board that lends two sets, one for each speed, and one serial block. Both sets are opened, one after the other, before the event's frame stands.
+// Kept: the C interface names the parameters of these functions.
 ghost use Rattle.sets.specs.Opening.{lent_two};
 ghost use Rattle.board.specs.Exports.{spot_of, spots_two, numbered, AnswersImage, AnswersPortEvent, GivesEndpoint};
 ghost use Rattle.board.specs.Lent.{OpensBytes};

@@ -1,12 +1,14 @@
 -- Working definitions for the contracts of what writes into a lent buffer; no promise cites them.
 use Rattle.std.specs.Prelude.{ℕ, ◌+◌, ◌≤◌, ◌≡◌, List, length}
 use Rattle.std.proofs.lemmas.List.Edits.{sets}
+use Rattle.buffers.specs.declared.Writer.{Writer}
 
--- a buffer has room for a text at a place
-abbrev pub Room : List ℕ → ℕ → List ℕ → Type 0
-Room out at text = at + length text ≤ length out
+-- a buffer has room for a text at the writer's place
+abbrev pub Room : Writer → List ℕ → Type 0
+Room w text = w.at + length text ≤ length w.out.now
 
--- a text was written at a place: the buffer after it, every other byte as it was, and where the text ends
-pub record Wrote (out : List ℕ) (at : ℕ) (text : List ℕ) (after : List ℕ) (end : ℕ) : Type 0 where
-  pub bytes : after ≡ sets out at text
-  pub place : end ≡ at + length text
+-- a text was written at a writer's place: its buffer after it, every other byte as it was, and its place, where the text ends
+pub record Wrote (was : Writer) (text : List ℕ) (is : Writer) : Type 0 where
+  pub bytes : is.out.now ≡ sets was.out.now was.at text
+  pub place : is.at ≡ was.at + length text
+  pub same : is.out.ghost_name ≡ was.out.ghost_name

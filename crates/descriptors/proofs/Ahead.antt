@@ -7,11 +7,12 @@ use Rattle.octets.proofs.Sentences.{cases, never, any-map, any-only}
 use Rattle.descriptors.specs.declared.Setting.{Setting}
 use Rattle.descriptors.specs.declared.Endpoint.{Endpoint}
 use Rattle.descriptors.specs.declared.walk.Stand.{Stand}
+use Rattle.descriptors.specs.declared.walk.Step.{Step}
 use Rattle.descriptors.specs.Cut.{Cutting, whole, descriptor, cut, cut_after, descriptors_of, well_cut}
 use Rattle.descriptors.specs.Descriptor.{is_interface, is_endpoint}
 use Rattle.descriptors.specs.Interfaces.{grouped, begun_by, setting_of, endpoint_of, endpoints_of}
 use Rattle.descriptors.specs.Configuration.{behind, groups_of, configuration_of}
-use Rattle.descriptors.specs.Walk.{Pace, setting_at, before, stand_of, steps_on, step_of}
+use Rattle.descriptors.specs.Walk.{Pace, setting_at, before, stand_of, stand_in, steps_on, step_of, pace_of, Steps}
 use Rattle.descriptors.specs.Lookup.{lists, listed}
 use Rattle.descriptors.proofs.Walks.{spanned, moved, stuck, well-on, cut-end}
 
@@ -65,6 +66,10 @@ module _ (body : List ℕ) (at : ℕ) (stand : Stand) (p : Place body at) (h : a
 
   pub turn : (step : Pace) → step ≡ step_of body at stand → Turn body at stand step
   turn step e = rw e turned
+
+-- by a step as the code takes it
+pub turned_by : {body : List ℕ} {at last : ℕ} {step : Step} → Place body at → at < length body → Steps body at last step → Turn body at (stand_in last) (pace_of step)
+turned_by p h s = turn _ _ _ p h _ s.steps
 
 module _ (body : List ℕ) where
   pub ahead-end : (at : ℕ) → length body ≤ at → ahead body at ≡ []

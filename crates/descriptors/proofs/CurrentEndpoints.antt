@@ -1,12 +1,12 @@
 -- The endpoint descriptors of the current settings: the walk that looks for one finds it; they are those of the configuration's current endpoints,
 -- one for one; and each lies in the body where it is said to lie. No axiom.
+use Rattle.std.specs.Prelude.{Some}
 use Rattle.octets.proofs.Vocabulary.{◌≡◌, refl, sym, ap, ◌∙◌, ℕ, zero, suc, ◌+◌, ◌-◌, ◌≤◌, ◌<◌, List, [], ◌∷◌, map, List-as-Memᴰ, List·Memᴰ·head, List·Memᴰ·tail, List·Memᴰ·not-nil, List·Memᴰ·cases-cons, Bool, true, false, ◌&&◌, some, none, ◌⊎◌, inl, inr, length, drop, get_or, get_elem?, eqb, leb, ltb, get_or-take, get_or-drop, arith, add-zero, ne_eqb, le-leb, ltb-true, ltb-false}
 use Rattle.octets.specs.Octets.{byte, part}
 use Rattle.octets.specs.Sentences.{pick, only, pairs}
 use Rattle.octets.proofs.Sentences.{cases, both, joined, member-every}
 use Rattle.descriptors.specs.declared.Endpoint.{Endpoint}
 use Rattle.descriptors.specs.declared.walk.Stand.{Stand}
-use Rattle.descriptors.specs.declared.endpoints.DescriptorFound.TheVariants.{At}
 use Rattle.descriptors.specs.Cut.{Cutting, whole, broken, descriptor, cut, descriptors_of, well_cut}
 use Rattle.descriptors.specs.Descriptor.{is_interface, is_endpoint, bEndpointAddress, bmAttributes}
 use Rattle.descriptors.specs.Configuration.{configuration_of, is_current, current_of}
@@ -45,7 +45,7 @@ module _ (alternates : List ℕ) where
 
   -- ---- the walk finds it
   found-step : (counted : Bool) (left at : ℕ) (d : List ℕ) (rest : List DescriptorAt)
-      → or_else (pick (counted && eqb left 0) (some (At at (length d))) none) (found_at (get_elem? rest (passing counted left))) ≡ found_at (get_elem? (counting counted at d rest) left)
+      → or_else (pick (counted && eqb left 0) (some (Some (record { offset = at; length = length d }))) none) (found_at (get_elem? rest (passing counted left))) ≡ found_at (get_elem? (counting counted at d rest) left)
   found-step true zero at d rest = refl
   found-step true (suc left) at d rest = let e : suc left - 1 ≡ left = omega arith in rw (ne_eqb (suc left) 0 (λ p. omega (arith, p)), e)
   found-step false left at d rest = refl
@@ -64,7 +64,7 @@ module _ (alternates : List ℕ) where
 
   -- one step of the loop: it stops there, or goes on
   module _ (w : Seek) (last stand : Stand) (d : List ℕ) {counted : Bool} (e : counted ≡ lists_one (is_current alternates) stand d) where
-    pub stops : {n : ℕ} → (counted && eqb w.left 0) ≡ true → length d ≡ n → (seeking alternates).stop w last stand d ≡ some (At w.offset n)
+    pub stops : {n : ℕ} → (counted && eqb w.left 0) ≡ true → length d ≡ n → (seeking alternates).stop w last stand d ≡ some (Some (record { offset = w.offset; length = n }))
     stops t l = rw (sym e, t, l)
 
     pub passes : (counted && eqb w.left 0) ≡ false → (seeking alternates).stop w last stand d ≡ none

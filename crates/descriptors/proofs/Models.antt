@@ -1,5 +1,5 @@
 -- A few numbers stand for the check's progress and for where the last descriptor stands. No axiom.
-use Rattle.octets.proofs.Vocabulary.{◌≡◌, refl, sym, ap, ◌∙◌, ℕ, ◌+◌, ◌*◌, ◌%◌, ◌≤◌, ◌<◌, List, [], ◌∷◌, Bool, true, false, ◌&&◌, ◌||◌, not, and-true, and-false, or-false, length, eqb, leb, ltb, arith, eq-eqb, ne_eqb, lt-ltb, le-ltb, eqb-true, eqb-false, ltb-true, ltb-false, leb-true, leb-false}
+use Rattle.octets.proofs.Vocabulary.{◌≡◌, refl, sym, ap, ◌∙◌, ℕ, ◌+◌, ◌*◌, ◌≤◌, ◌<◌, List, [], ◌∷◌, Bool, true, false, ◌&&◌, ◌||◌, not, and-true, and-false, or-false, length, eqb, leb, ltb, arith, eq-eqb, ne_eqb, lt-ltb, le-ltb, eqb-true, eqb-false, ltb-true, ltb-false, leb-true, leb-false}
 use Rattle.octets.specs.Bit.{bit}
 use Rattle.octets.specs.Octets.{word}
 use Rattle.octets.specs.Sentences.{pick, ◌⇒◌}
@@ -15,7 +15,7 @@ use Rattle.descriptors.specs.Configuration.{bit_of}
 use Rattle.descriptors.specs.Walk.{before, before_first, stand_of}
 use Rattle.descriptors.specs.Check.{Progress, placed, fresh, may_begin, may_list, allowed, at_interface, at_endpoint, ended, beginning}
 use Rattle.descriptors.specs.declared.sequence.Order.{Order}
-use Rattle.descriptors.specs.Sequence.{next_of, settles, Low, begins, BegunBy, free, listable, listed_in, setting_out}
+use Rattle.descriptors.specs.Sequence.{next_of, settles, begins, BegunBy, free, listable, listed_in, setting_out}
 
 pub record Models (o : Order) (w : Progress) (last : Stand) : Type 0 where
   pub comes : o.coming ≡ w.coming
@@ -38,17 +38,6 @@ models-begin = record {
   inside = λ p. never p refl;
   outside = λ _. (refl, refl, refl, refl);
 }
-
-pub models-low : {o : Order} {w : Progress} {last : Stand} → Models o w last → Low o.last
-models-low {o} {w} {last} m = cases last.inside
-    (λ p. let x = m.inside p in record { small = omega (arith, x.0, x.1, x.2); low = λ _. omega (arith, x.0, x.1, x.2) })
-    (λ p. let x = m.outside p in record { small = omega (arith, x.2); low = λ l. absurd (omega (arith, x.2)) })
-
--- the number of a setting that may come
-pub low-number : (last setting : ℕ) → Low last → settles last setting ≡ true → setting % 256 < 16
-low-number last setting l p = cases (eqb setting (last + 256))
-    (λ q. let r = eqb-true setting (last + 256) q in let m = ltb-true setting 4096 (rw q at p) in omega (arith, l.low (omega arith)))
-    (λ q. let m = ltb-true setting 16 (both (eqb setting (next_of last)) (ltb setting 16) (rw q at p)).1 in omega arith)
 
 -- ---- where an interface descriptor may come
 module _ (last : Stand) (t : Setting) where

@@ -1,5 +1,5 @@
 -- Descriptors of types that no walk looks at: what a walk knows before one of them, it knows behind it. No axiom.
-use Rattle.octets.proofs.Vocabulary.{◌≡◌, refl, ap, ◌∙◌, ℕ, ◌+◌, ◌-◌, ◌≤◌, ◌<◌, List, false, length, take, drop, length-take, length-drop, get_or-take, get_or-drop, arith, add_comm, ne_eqb}
+use Rattle.octets.proofs.Vocabulary.{◌≡◌, refl, ap, ◌∙◌, ℕ, ◌+◌, ◌-◌, ◌≤◌, ◌<◌, List, false, length, take, drop, get_or-take, get_or-drop, arith, add_comm, ne_eqb}
 use Rattle.octets.specs.Octets.{byte}
 use Rattle.descriptors.specs.Descriptor.{is_interface, is_endpoint}
 use Rattle.descriptors.specs.Walk.{Plain, Plains, nothing, onward}
@@ -22,8 +22,9 @@ module _ {body : List ℕ} {from : ℕ} where
 pub kind-behind : (body : List ℕ) (k : ℕ) → k + 1 < length body → byte (take (length body - 1) (drop 1 body)) k ≡ byte body (k + 1)
 kind-behind body k l = get_or-take (length body - 1) (drop 1 body) k 0 (omega arith) ∙ get_or-drop 1 body k 0 ∙ ap (byte body) (add_comm 1 k)
 
-pub kinds-length : (body : List ℕ) → length (take (length body - 1) (drop 1 body)) ≡ length body - 1
-kinds-length body = rw (length-take, length-drop) (omega arith)
+-- one whose length and type were read
+pub plain-at : (body : List ℕ) {at : ℕ} → at < length body - 1 → 2 ≤ byte body at → 8 ≤ byte (take (length body - 1) (drop 1 body)) at → Plain body at
+plain-at body {at} l two plain = let inside : at + 1 < length body = omega arith in record { inside = inside; two = two; plain = rw (← kind-behind body at inside) plain }
 
 -- ---- the type of a descriptor
 type-here : (body : List ℕ) (at end : ℕ) → end ≡ at + byte body at → 2 ≤ byte body at → byte (spanned body at end) 1 ≡ byte body (at + 1)

@@ -1,5 +1,6 @@
 -- The check in few numbers: what the whole walk says, the walk from each place says, in the state that the order stands for. No axiom.
-use Rattle.octets.proofs.Vocabulary.{◌≡◌, refl, sym, ap, ◌∙◌, ℕ, ◌+◌, ◌-◌, ◌≤◌, ◌<◌, List, Bool, true, false, ◌&&◌, not, and-true, and-false, some, none, length, drop, eqb, leb, ltb, arith, lt_of_not-le, add-sub_cancel_left, ne_eqb, le-leb, lt-leb, lt-ltb, eqb-true, eqb-false, leb-true, leb-false, ltb-true, ltb-false}
+use Rattle.std.specs.Prelude.{Option, Some, IsTrue}
+use Rattle.octets.proofs.Vocabulary.{◌≡◌, refl, sym, ap, ◌∙◌, ℕ, ◌+◌, ◌-◌, ◌≤◌, ◌<◌, List, Bool, true, false, ◌&&◌, not, not-true, and-true, and-false, or-true, some, none, length, drop, eqb, leb, ltb, arith, lt_of_not-le, add-sub_cancel_left, ne_eqb, le-leb, lt-leb, lt-ltb, eqb-true, eqb-false, leb-true, leb-false, ltb-true, ltb-false}
 use Rattle.octets.specs.Octets.{byte, word, Bytes}
 use Rattle.octets.specs.Sentences.{pick, ◌⇒◌, every}
 use Rattle.octets.specs.Table.{has}
@@ -7,7 +8,7 @@ use Rattle.octets.proofs.Sentences.{cases, never, both}
 use Rattle.descriptors.specs.declared.limits.Limits.{Limits}
 use Rattle.descriptors.specs.declared.Setting.{Setting}
 use Rattle.descriptors.specs.declared.walk.Stand.{Stand}
-use Rattle.descriptors.specs.declared.check.Turned.{Turned}
+use Rattle.descriptors.specs.declared.checked.Checked.{Checked}
 use Rattle.descriptors.specs.declared.check.Verdict.{Verdict}
 use Rattle.descriptors.specs.declared.sequence.Order.{Order}
 use Rattle.descriptors.specs.Limits.{refused_types, named}
@@ -16,6 +17,7 @@ use Rattle.descriptors.specs.Interfaces.{begun_by}
 use Rattle.descriptors.specs.Cut.{Cutting, whole, broken, descriptor, cut}
 use Rattle.descriptors.specs.Configuration.{bit_of}
 use Rattle.descriptors.specs.Walk.{Pace, setting_at, before, stand_of, setting_after, steps_on, step_of, Plain, Plains, or_else, walked, collected}
+use Rattle.descriptors.specs.Low.{low as is_low}
 use Rattle.descriptors.specs.Check.{Progress, placed, in_order, unshared, allowed, accompanied, at_endpoint, onward, ended, beginning, Course, starting, passing, checking, reference_of, referring, verdict}
 use Rattle.descriptors.specs.Sequence.{next_of, settles, begins, BegunBy, listable, listed_in, proceeds, setting_out, Turns, unaccompanied}
 use Rattle.descriptors.proofs.Walks.{Walking, spanned, walk-stop, walk-on, walk_end}
@@ -221,18 +223,14 @@ module _ {limits : Limits} {n : ℕ} {names body : List ℕ} {from : ℕ} {o : O
               too-high a = sym (rw a) ∙ sym (begins-allowed limits r.models d b2 b3 i) ∙ p
 
         -- any descriptor that may come
-        pub reached-turn : {setting : ℕ} {turned : Turned} → setting ≡ setting_after o.last d → Turns limits names o setting refers d turned → turned.good ≡ true
+        pub reached-turn : {setting : ℕ} {turned : Checked} {l : IsTrue (is_low o.last)} → setting ≡ setting_after o.last d → Turns limits names (record { order = o; refers = refers; low = l }) setting d (Some turned)
             → Stood limits n names body from turned.order turned.refers end
-        reached-turn {setting} {turned} told t g =
-            let p = sym t.may ∙ g in
+        reached-turn {setting} {turned} {l} told t =
+            let p = sym t.may in
             kinds d
-            (λ i k. let s = t.starts i g in let n : setting ≡ word d 2 = told ∙ rw i in record { w = onward w last stand d; last = stand; reached = rw s.1 (reached-interface i (rw (k, i, n) at p) turned.order (rw n at s.0)) })
-            (λ i k. let s = t.lists k g in record { w = at_endpoint w d; last = last; reached = rw (s.0, s.1) (reached-endpoint i k (rw k at p)) })
-            (λ i k. let s = t.passes i k in record { w = w; last = last; reached = rw (s.0, s.1) (reached-other i k (unnamed (named refused_types (bDescriptorType d)) (rw (k, i) at p))) })
-          where
-            unnamed : (b : Bool) → not b ≡ true → b ≡ false
-            unnamed true e = sym e
-            unnamed false e = refl
+            (λ i k. let s = t.on.starts i in let n : setting ≡ word d 2 = told ∙ rw i in record { w = onward w last stand d; last = stand; reached = rw s.1 (reached-interface i (rw (k, i, n) at p) turned.order (rw n at s.0)) })
+            (λ i k. let s = t.on.lists k in record { w = at_endpoint w d; last = last; reached = rw (s.0, s.1) (reached-endpoint i k (rw k at p)) })
+            (λ i k. record { w = w; last = last; reached = rw (t.on.passes i k) (reached-other i k (not-true (named refused_types (bDescriptorType d)) (rw (k, i) at p))) })
 
         -- any descriptor that may not come
         pub reached-refused : n ≤ 16 → {setting : ℕ} → setting ≡ setting_after o.last d → proceeds limits o setting d ≡ false → total ≡ false
@@ -246,8 +244,8 @@ module _ {limits : Limits} {n : ℕ} {names body : List ℕ} {from : ℕ} {o : O
             another i k = simp (i, k, and-true)
 
 -- of companions a turn says nothing
-pub turns_alone : {limits : Limits} {names : List ℕ} {o : Order} {setting : ℕ} {refers : Bool} {d : List ℕ} {r : Turned} → Turns limits names o setting refers d r → Turns (unaccompanied limits) names o setting refers d r
-turns_alone t = record { may = t.may; lists = t.lists; starts = t.starts; passes = t.passes }
+pub turns_alone : {limits : Limits} {names : List ℕ} {w : Checked} {setting : ℕ} {d : List ℕ} {r : Option Checked} → Turns limits names w setting d r → Turns (unaccompanied limits) names w setting d r
+turns_alone t = record { may = t.may; on = t.on }
 
 -- ---- a descriptor that is stepped over, by its type alone; where it ends past the body, the body is not good
 module _ {limits : Limits} {n : ℕ} {names body : List ℕ} {from : ℕ} {o : Order} {refers : Bool} {w : Progress} {last : Stand} (alone : limits.companions ≡ false) where
@@ -300,11 +298,7 @@ module _ {limits : Limits} {n : ℕ} {names body : List ℕ} {from : ℕ} {o : O
     ends = walk_end (r.checks l) m
 
     ends_so : 1 ≤ n → (eqb (next_of o.last) n && eqb o.coming 0) ≡ verdict_of limits n body from
-    ends_so one = models-ended r.models n one ∙ sym (ap (λ (b : Bool). ended n w last && b) (asks_nothing limits.companions) ∙ and-true (ended n w last)) ∙ ends
-      where
-        asks_nothing : (b : Bool) → (b ⇒ true) ≡ true
-        asks_nothing true = refl
-        asks_nothing false = refl
+    ends_so one = models-ended r.models n one ∙ sym (ap (λ (b : Bool). ended n w last && b) (or-true (not limits.companions)) ∙ and-true (ended n w last)) ∙ ends
 
     pub refers-so : references_in names body from ≡ refers
     refers-so = asked-all (has names) body last at refers (references_in names body from) (r.asks l) m

@@ -1,13 +1,13 @@
 -- Each test of the walk, by its shortest way, says what the rules say; and bits of words that are made of others. No axiom.
-use Rattle.octets.proofs.Vocabulary.{◌≡◌, refl, sym, ap, ◌∙◌, ℕ, zero, suc, ◌+◌, ◌/◌, ◌%◌, ◌^◌, ◌≤◌, ◌<◌, List, Bool, true, false, ◌&&◌, ◌||◌, and-true, and-false, or-false, length, take, drop, length-take, List·get_d-eq-default, eqb, leb, ltb, get_or-take, get_or-drop, arith, lt_of_not-le, ne_eqb, lt-leb, leb-true, ltb-true, ltb-false}
+use Rattle.octets.proofs.Vocabulary.{◌≡◌, refl, sym, ap, ◌∙◌, ℕ, zero, suc, ◌+◌, ◌/◌, ◌%◌, ◌^◌, ◌≤◌, ◌<◌, List, Bool, true, false, ◌&&◌, ◌||◌, and-true, and-false, length, take, drop, length-take, List·get_d-eq-default, eqb, leb, ltb, get_or-take, get_or-drop, arith, ltb-true, ltb-false}
 use lib.Bits.{bit_or, or_shr, or_mod}
 use Rattle.octets.specs.Bit.{bit}
 use Rattle.octets.specs.Octets.{byte}
 use Rattle.octets.proofs.Sentences.{cases}
 use Rattle.octets.proofs.Bits.{bit_past}
 use Rattle.descriptors.specs.declared.limits.Limits.{Limits}
-use Rattle.descriptors.specs.Limits.{refused_types, named, within, doubled}
-use Rattle.descriptors.specs.Descriptor.{bEndpointAddress, bmAttributes, wMaxPacketSize, bInterval, transfer_type, good_address, good_attributes, good_size, good_interval, ranges, sized, type_allowed}
+use Rattle.descriptors.specs.Limits.{refused_types, named}
+use Rattle.descriptors.specs.Descriptor.{bEndpointAddress, bmAttributes, wMaxPacketSize, bInterval, transfer_type, good_address, good_attributes, good_size, good_interval, type_allowed}
 use Rattle.descriptors.specs.declared.sequence.Order.{Order}
 use Rattle.descriptors.specs.Sequence.{good_kind, free, comes, listable}
 
@@ -16,29 +16,6 @@ pub others-allowed : (t : ℕ) → 8 ≤ t → named refused_types t ≡ false
 others-allowed t l = bit_past 8 206 t (omega arith) l
 
 -- ---- an endpoint descriptor
-or-true : (b : Bool) → (b || true) ≡ true
-or-true true = refl
-or-true false = refl
-
-module _ (limits : Limits) (a size interval : ℕ) where
-  pub kind-interrupt : a ≡ 3 → (sized (ranges limits).bursts (ranges limits).interrupt size && within (ranges limits).polling interval) ≡ good_kind limits a size interval
-  kind-interrupt p = simp (p, and-true)
-
-  pub kind-bulk : a ≡ 2 → doubled (ranges limits).bulk size ≡ good_kind limits a size interval
-  kind-bulk p = simp (p, and-true)
-
-  pub kind-isochronous : a % 4 ≡ 1
-      → (leb a 63 && sized (ranges limits).bursts (ranges limits).isochronous size && within (ranges limits).period interval) ≡ good_kind limits a size interval
-  kind-isochronous p = simp (p, and-true, or-true)
-
-  no-attributes : (a ≡ 3 → ⊥) → (a ≡ 2 → ⊥) → (a % 4 ≡ 1 → ⊥) → good_attributes a ≡ false
-  no-attributes x y z = cases (leb 1 (a % 4))
-      (λ p. let l = leb-true 1 (a % 4) p in simp (ne_eqb (a % 4) 1 z, or-false, lt-leb a 3 (lt_of_not-le (λ m. omega arith)), and-false))
-      (λ p. simp (p, and-false))
-
-  pub kind-none : (a ≡ 3 → ⊥) → (a ≡ 2 → ⊥) → (a % 4 ≡ 1 → ⊥) → false ≡ good_kind limits a size interval
-  kind-none x y z = rw (no-attributes x y z)
-
 regroup : (l a t s i : Bool) → (l && a && t && s && i) ≡ (l && a && (t && s && i))
 regroup true true true s i = refl
 regroup true true false s i = refl

@@ -1,5 +1,6 @@
 -- A survey of a body: what each descriptor adds to it, and what it tells once the walk is over. No axiom.
-use Rattle.octets.proofs.Vocabulary.{◌≡◌, refl, sym, ap, ◌∙◌, ℕ, ◌+◌, ◌<◌, List, ◌∷◌, Bool, true, false, ◌&&◌, ◌||◌, or_assoc, or-false, and-true, and-false, Option, some, length, get_or, drop, eqb, ltb, arith, add-sub_cancel_left, eqb-true, ne_eqb, ltb-false}
+use Rattle.std.specs.Prelude.{Option, Some, None}
+use Rattle.octets.proofs.Vocabulary.{◌≡◌, refl, sym, ap, ◌∙◌, ℕ, ◌+◌, ◌<◌, List, ◌∷◌, Bool, true, false, ◌&&◌, ◌||◌, or_assoc, or-false, and-true, and-false, Option as Maybe, some, length, get_or, drop, eqb, ltb, arith, add-sub_cancel_left, eqb-true, ne_eqb, ltb-false}
 use Rattle.octets.specs.Bit.{bit}
 use Rattle.octets.specs.Octets.{byte}
 use Rattle.octets.specs.Sentences.{pick, any, only, first}
@@ -9,8 +10,6 @@ use Rattle.octets.proofs.Words.{set-digit}
 use Rattle.descriptors.specs.declared.Setting.{Setting}
 use Rattle.descriptors.specs.declared.Endpoint.{Endpoint}
 use Rattle.descriptors.specs.declared.walk.Stand.{Stand}
-use Rattle.descriptors.specs.declared.lookup.EndpointFound.{EndpointFound}
-use Rattle.descriptors.specs.declared.lookup.EndpointFound.TheVariants.{At, Nothing}
 use Rattle.descriptors.specs.declared.survey.Asked.{Asked}
 use Rattle.descriptors.specs.declared.survey.Survey.{Survey}
 use Rattle.descriptors.specs.Cut.{Cutting, cut, descriptors_of}
@@ -70,15 +69,15 @@ unfolding first
 first_step t true e es = refl
 first_step t false e es = refl
 
-pub earlier-none : (f : EndpointFound) → earlier f Nothing ≡ f
-earlier-none (At e) = refl
-earlier-none Nothing = refl
+pub earlier-none : (f : Option Endpoint) → earlier f None ≡ f
+earlier-none (Some e) = refl
+earlier-none None = refl
 
-earlier_step : (f : EndpointFound) (b : Bool) (stand : Stand) (d : List ℕ) (o : Option Endpoint)
+earlier_step : (f : Option Endpoint) (b : Bool) (stand : Stand) (d : List ℕ) (o : Maybe Endpoint)
     → earlier f (found (pick b (some (listed stand d)) o)) ≡ earlier (earlier f (found_here b stand d)) (found o)
-earlier_step (At x) b stand d o = refl
-earlier_step Nothing true stand d o = refl
-earlier_step Nothing false stand d o = refl
+earlier_step (Some x) b stand d o = refl
+earlier_step None true stand d o = refl
+earlier_step None false stand d o = refl
 
 -- what an endpoint descriptor adds: one of a current setting, of another, and one before the first interface
 module _ (alternates : List ℕ) (asked : Asked) (s : Survey) (stand : Stand) (d : List ℕ) (p : is_endpoint d ≡ true) where
@@ -125,7 +124,7 @@ module _ (alternates : List ℕ) (asked : Asked) where
       ap (bits_from (q s)) (only_step t (lists here d) (listed here d) es) ∙ bits-step (q s) (lists_one t here d) d here (only t es) ∙ rw (adds s stand d))
 
   -- the first of some endpoints
-  tells_first : (t : Endpoint → Bool) (q : Survey → EndpointFound)
+  tells_first : (t : Endpoint → Bool) (q : Survey → Option Endpoint)
       → ((s : Survey) (stand : Stand) (d : List ℕ) → q (after s stand d) ≡ earlier (q s) (found_here (lists_one t (stand_of stand d) d) (stand_of stand d) d))
       → (s : Survey) (last : Stand) (cs : Cutting) → q (seen s last cs) ≡ earlier (q s) (found (first t (endpoints_under last (descriptors_of cs))))
   unfolding endpoints_under first
@@ -133,7 +132,7 @@ module _ (alternates : List ℕ) (asked : Asked) where
       (λ s stand d ds.
       let here = stand_of stand d in
       let es = endpoints_under here ds in
-      ap (λ (o : Option Endpoint). earlier (q s) (found o)) (first_step t (lists here d) (listed here d) es) ∙
+      ap (λ (o : Maybe Endpoint). earlier (q s) (found o)) (first_step t (lists here d) (listed here d) es) ∙
       earlier_step (q s) (lists_one t here d) here d (first t es) ∙ rw (adds s stand d))
 
   -- ---- what a descriptor adds to the words of interfaces
@@ -167,6 +166,10 @@ module _ (alternates : List ℕ) (asked : Asked) where
         bits = tells-bits (changing alternates asked) (λ s. s.bits) (λ s stand d. refl) nothing_seen before cs
             ∙ sym (ap bits_of (ap (only (changing alternates asked)) (endpoints-begin b)));
       })
+
+-- a survey of zeros is one of nothing
+pub nothing-yet : {s : Survey} → (s.existing ≡ 0) × ((s.current ≡ 0) × ((s.halting ≡ 0) × ((s.endpoint ≡ None) × ((s.there ≡ false) × (s.bits ≡ 0))))) → s ≡ nothing_seen
+nothing-yet (a, (b, (c, (d, (e, f))))) = λ i. record { existing = a i; current = b i; halting = c i; endpoint = d i; there = e i; bits = f i }
 
 -- ---- descriptors of types that no walk looks at: a survey stays as it is behind them
 pub adds-nothing : (alternates : List ℕ) (asked : Asked) (s : Survey) (stand : Stand) (d : List ℕ) → is_interface d ≡ false → is_endpoint d ≡ false → onward alternates asked s stand d ≡ s

@@ -1,13 +1,13 @@
 -- A walk over the descriptors of a body, a descriptor at a time: its laws, once for every walk. No axiom.
-use Rattle.octets.proofs.Vocabulary.{◌≡◌, refl, sym, ap, ◌∙◌, ℕ, zero, suc, ◌+◌, ◌*◌, ◌-◌, ◌/◌, ◌%◌, ◌≤◌, ◌<◌, List, [], ◌∷◌, ◌++◌, flat_map, append-nil, append_assoc, Bool, true, false, ◌&&◌, and-false, some, none, ◌⊎◌, inl, inr, ⊎_elim, length, take, drop, length-take, length-drop, drop_of_length-le, leb, ltb, drop-cons, drop-drop, get_or-take, get_or-drop, arith, not-suc-le-zero, le_of_suc-le-suc, add-sub_cancel_left, add-zero, lt-leb, le-leb, lt-ltb, leb-true, leb-false, ltb-true}
+use Rattle.octets.proofs.Vocabulary.{◌≡◌, refl, sym, ap, ◌∙◌, ℕ, zero, suc, ◌+◌, ◌*◌, ◌-◌, ◌/◌, ◌%◌, ◌≤◌, ◌<◌, List, [], ◌∷◌, ◌++◌, flat_map, append-nil, append_assoc, Bool, true, false, ◌&&◌, and-false, some, none, ◌⊎◌, inl, inr, ⊎_elim, length, take, drop, length-take, length-drop, drop_of_length-le, leb, drop-cons, drop-drop, get_or-take, get_or-drop, arith, not-suc-le-zero, le_of_suc-le-suc, add-sub_cancel_left, add-zero, lt-leb, le-leb, lt-ltb, leb-true, leb-false}
 use native.Mathlib.Numerals.{add-one}
 use Rattle.octets.specs.Octets.{byte, part}
 use Rattle.octets.specs.Sentences.{pick}
-use Rattle.octets.proofs.Sentences.{cases, both}
+use Rattle.octets.proofs.Sentences.{cases}
 use Rattle.descriptors.specs.declared.walk.Stand.{Stand}
 use Rattle.descriptors.specs.declared.walk.Step.{Step}
 use Rattle.descriptors.specs.Cut.{Cutting, whole, broken, descriptor, cut, cut_after, descriptors_of, well_cut}
-use Rattle.descriptors.specs.Walk.{Pace, stand_in, setting_after, Steps, staying, stand_of, steps_on, step_of, Walk, or_else, walked, gathering, Collection, collecting, collected}
+use Rattle.descriptors.specs.Walk.{Pace, stand_in, setting_after, Steps, stand_of, steps_on, step_of, Walk, or_else, walked, gathering, Collection, collecting, collected}
 
 -- ---- a setting in one number
 pub stands-in : (interface alternate : ℕ) → interface < 256 → alternate < 256 → stand_in (interface + 256 * alternate) ≡ record { inside = true; interface = interface; alternate = alternate }
@@ -74,17 +74,6 @@ spanned body at end = take (end - at) (drop at body)
 pub span-length : (body : List ℕ) {at end : ℕ} → at < end → end ≤ length body → length (spanned body at end) ≡ end - at
 span-length body h l = rw (length-take, length-drop) (omega arith)
 
--- a descriptor that is whole: it begins inside the body and ends there
-pub record Whole (body : List ℕ) (at : ℕ) : Type 0 where
-  pub begins : at < length body
-  pub ends : at + byte body at ≤ length body
-
-pub steps-whole : (body : List ℕ) (at : ℕ) → steps_on body at ≡ true → Whole body at
-steps-whole body at p =
-    let (q, r) = both (leb 2 (byte body at) && ltb at (length body)) (leb (byte body at) (length body - at)) p in
-    let l : at < length body = ltb-true at (length body) (both (leb 2 (byte body at)) (ltb at (length body)) q).1 in
-    record { begins = l; ends = omega (arith, l, leb-true (byte body at) (length body - at) r) }
-
 pub record Moved (body : List ℕ) (at : ℕ) (stand : Stand) (step : Pace) : Type 0 where
   pub inside : step.end ≤ length body
   pub cuts : cut (drop at body) ≡ descriptor (spanned body at step.end) (cut (drop step.end body))
@@ -135,9 +124,6 @@ module _ (body : List ℕ) (at : ℕ) (stand : Stand) (h : at < length body) (m 
 
 -- ---- what the code's steps tell
 module _ (body : List ℕ) (at last : ℕ) where
-  pub stands-still : steps_on body at ≡ false → Steps body at last (staying at last)
-  stands-still p = record { steps = rw p; apart = refl; sets = rw p }
-
   pub whole-steps : at < length body → 2 ≤ byte body at → at + byte body at ≤ length body → steps_on body at ≡ true
   whole-steps h l m = rw (le-leb 2 (byte body at) l, lt-ltb at (length body) h, le-leb (byte body at) (length body - at) (omega arith))
 

@@ -5,6 +5,7 @@ pub mod Interfaces
 pub mod Companion
 pub mod Configuration
 pub mod Walk
+pub mod Low
 pub mod Check
 pub mod Sequence
 pub mod Lookup

@@ -1,22 +1,15 @@
 -- Working definitions for the contracts of what is looked up in a body; no promise cites them.
 use Rattle.std.specs.Prelude.{Bool, ◌&&◌, List, [], ◌∷◌, ℕ}
-use Rattle.std.proofs.Math.Option.{Option, some, none}
+pub use Rattle.octets.specs.Found.{found}
 use Rattle.octets.specs.Bit.{set_bit}
 use Rattle.octets.specs.Sentences.{pick}
 use Rattle.descriptors.specs.declared.Setting.{Setting}
 use Rattle.descriptors.specs.declared.Endpoint.{Endpoint}
 use Rattle.descriptors.specs.declared.walk.Stand.{Stand}
-use Rattle.descriptors.specs.declared.lookup.EndpointFound.{EndpointFound}
-use Rattle.descriptors.specs.declared.lookup.EndpointFound.TheVariants.{At, Nothing}
 use Rattle.descriptors.specs.Descriptor.{is_interface, is_endpoint, bEndpointAddress}
 use Rattle.descriptors.specs.Interfaces.{endpoint_of}
 use Rattle.descriptors.specs.Configuration.{bit_of}
 use Rattle.descriptors.specs.Walk.{setting_at}
-
--- an answer as the code gives it
-abbrev pub found : Option Endpoint → EndpointFound
-found none = Nothing
-found (some e) = At e
 
 -- whether a descriptor, where it stands, begins a setting for which a test holds
 abbrev pub begins_one : (Setting → Bool) → Stand → List ℕ → Bool

@@ -1,12 +1,10 @@
 -- Working definitions for the contract of the survey of a body, a descriptor at a time; no promise cites them.
-use Rattle.std.specs.Prelude.{Bool, false, ◌&&◌, ◌||◌, List, ℕ, ◌<◌, ◌≡◌, get_or, eqb, leb, ltb}
+use Rattle.std.specs.Prelude.{Bool, false, ◌&&◌, ◌||◌, List, ℕ, ◌<◌, ◌≡◌, get_or, eqb, leb, ltb, Option, Some, None}
 use Rattle.octets.specs.Bit.{bit, set_bit}
 use Rattle.octets.specs.Sentences.{pick, only}
 use Rattle.descriptors.specs.declared.Setting.{Setting}
 use Rattle.descriptors.specs.declared.Endpoint.{Endpoint}
 use Rattle.descriptors.specs.declared.walk.Stand.{Stand}
-use Rattle.descriptors.specs.declared.lookup.EndpointFound.{EndpointFound}
-use Rattle.descriptors.specs.declared.lookup.EndpointFound.TheVariants.{At, Nothing}
 use Rattle.descriptors.specs.declared.survey.Asked.{Asked}
 use Rattle.descriptors.specs.declared.survey.Survey.{Survey}
 use Rattle.descriptors.specs.Descriptor.{is_interface, bEndpointAddress, bmAttributes, transfer_type}
@@ -35,16 +33,16 @@ abbrev pub noting : ℕ → ℕ → ℕ
 noting word number = pick (ltb number 32) (set_bit word number) word
 
 -- what was found before, or else what is found now
-abbrev pub earlier : EndpointFound → EndpointFound → EndpointFound
-earlier (At e) now = At e
-earlier Nothing now = now
+abbrev pub earlier : Option Endpoint → Option Endpoint → Option Endpoint
+earlier (Some e) now = Some e
+earlier None now = now
 
-abbrev pub found_here : Bool → Stand → List ℕ → EndpointFound
-found_here wanted stand d = pick wanted (At (listed stand d)) Nothing
+abbrev pub found_here : Bool → Stand → List ℕ → Option Endpoint
+found_here wanted stand d = pick wanted (Some (listed stand d)) None
 
 -- before the first descriptor, and after one that stands at `stand`
 abbrev pub nothing_seen : Survey
-nothing_seen = record { existing = 0; current = 0; halting = 0; endpoint = Nothing; there = false; bits = 0 }
+nothing_seen = record { existing = 0; current = 0; halting = 0; endpoint = None; there = false; bits = 0 }
 
 abbrev pub onward : List ℕ → Asked → Survey → Stand → List ℕ → Survey
 onward alternates asked s stand d = record {

@@ -1,6 +1,6 @@
 -- Working definitions for the contracts of walks over a body; no promise cites them.
-use Rattle.std.specs.Prelude.{ℕ, ◌+◌, ◌-◌, ◌/◌, ◌%◌, ◌≤◌, ◌<◌, List, [], ◌++◌, Bool, true, false, ◌&&◌, ◌≡◌, length, drop, leb, ltb}
-use Rattle.std.proofs.Math.Option.{Option, some, none}
+use Rattle.std.specs.Prelude.{ℕ, ◌+◌, ◌-◌, ◌/◌, ◌%◌, ◌≤◌, ◌<◌, List, [], ◌++◌, Bool, true, false, ◌&&◌, ◌≡◌, length, drop, leb, ltb, Option, Some, None}
+use Rattle.std.proofs.Math.Option.{Option as Maybe, some, none}
 use Rattle.octets.specs.Octets.{byte, word, part}
 use Rattle.octets.specs.Sentences.{pick}
 use Rattle.descriptors.specs.declared.Setting.{Setting}
@@ -60,6 +60,15 @@ pub record Steps (body : List ℕ) (at last : ℕ) (step : Step) : Type 0 where
   pub apart : step.stand ≡ stand_in step.setting
   pub sets : step.setting ≡ pick (steps_on body at) (setting_after last (part body at (byte body at))) last
 
+-- the step where nothing is known of the body: one that goes on, or none, where the one step stays
+pub record Goes (body : List ℕ) (at last : ℕ) (step : Step) : Type 0 where
+  pub steps : Steps body at last step
+  pub onward : at < step.end
+
+abbrev pub Advances : List ℕ → ℕ → ℕ → Option Step → Type 0
+Advances body at last None = Steps body at last (staying at last)
+Advances body at last (Some step) = Goes body at last step
+
 -- a descriptor begins at `at`, of a type that no walk looks at; it may end past the body
 pub record Plain (body : List ℕ) (at : ℕ) : Type 0 where
   pub inside : at + 1 < length body
@@ -74,12 +83,12 @@ pub data Plains (body : List ℕ) (from : ℕ) : ℕ → Type 0 where
 -- a walk over a body: what is known (W) when a descriptor comes, which stands at the second stand, the one before it at the first; the answer that
 -- it may give at once, or what is known after it; the answer at the body's end, where the last descriptor stands there, and where the body is broken
 pub record Walk (W A : Type 0) : Type 0 where
-  pub stop : W → Stand → Stand → List ℕ → Option A
+  pub stop : W → Stand → Stand → List ℕ → Maybe A
   pub on : W → Stand → Stand → List ℕ → W
   pub finish : W → Stand → A
   pub astray : W → A
 
-abbrev pub or_else : {A : Type 0} → Option A → A → A
+abbrev pub or_else : {A : Type 0} → Maybe A → A → A
 or_else none b = b
 or_else (some a) b = a
 

@@ -1,19 +1,21 @@
 // The check of a configuration body, a descriptor at a time.
-ghost use Rattle.std.specs.Prelude.{◌≡◌, false, ◌&&◌, drop, ◌<◌};
+ghost use Rattle.std.specs.Prelude.{◌≡◌, false, drop};
 ghost use Rattle.descriptors.specs.Configuration.{good_head, good_configuration};
 ghost use Rattle.descriptors.specs.Cut.{cut};
 ghost use Rattle.descriptors.specs.Walk.{before, walked, collected};
 ghost use Rattle.descriptors.specs.Check.{accompanied, accompanying, starting, checking, referring, configuration_refers, verdict};
-ghost use Rattle.descriptors.specs.Sequence.{listable, Turns, Ready, unaccompanied};
+ghost use Rattle.descriptors.specs.Sequence.{listable, checking_out, Turns, Ready, unaccompanied};
 ghost use Rattle.octets.specs.Sentences.{◌⇒◌, every};
 ghost use Rattle.octets.specs.Table.{has};
 
+use crate::checked::Checked;
 use crate::limits::{Limits, is_refused};
 use crate::sequence::Order;
 use crate::{sequence, types, walk};
 use octets::table::holds;
 
 // Whether a body, or bodies, are good; and whether they are and every string reference in them is in a table.
+// Kept: an Option<bool> is no plainer, since the two are asked one after the other, for groups 4 and 5 (sets::opening::last_groups).
 #[derive(Clone, Copy)]
 pub struct Verdict {
     pub good: bool,
@@ -61,12 +63,13 @@ pub fn refuse() -> Verdict
 }
 
 // ---- the same in few numbers
-// One more descriptor: whether it may come, and if so the order and the references then.
-#[derive(Clone, Copy)]
-struct Turned {
-    good: bool,
-    order: Order,
-    refers: bool,
+fn set_out() -> Checked
+    ensures { result ≡ checking_out }
+{
+    Checked {
+        order: sequence::set_out(),
+        refers: true,
+    }
 }
 
 // An endpoint descriptor may come.
@@ -84,66 +87,38 @@ pub fn may_list(d: &[u8], order: Order, limits: Limits) -> bool
     false
 }
 
-// Whether every reference is in `names`, after one more.
-fn still_refers(refers: bool, k: u8, names: &[u32; 8]) -> bool
-    ensures { result ≡ (refers && has names.now k) }
-{
-    if holds(names, k) {
-        return refers;
-    }
-    false
-}
-
-fn stop() -> Turned
-    ensures { result.good ≡ false }
-{
-    Turned {
-        good: false,
-        order: sequence::set_out(),
-        refers: false,
-    }
-}
-
-// A descriptor of any type, whose setting the step told.
+// What is known after a descriptor of any type, whose setting the step told, if it may come.
 fn turn(
     d: &[u8],
     setting: u32,
-    order: Order,
-    refers: bool,
+    checked: Checked,
     limits: Limits,
     names: &[u32; 8],
-) -> Turned
-    requires { order.last < 131072 }
-    ensures { Turns limits names.now order setting refers d.now result }
+) -> Option<Checked>
+    ensures { Turns limits names.now checked setting d.now result }
 {
+    let order = checked.order;
     let t = octets::peek(d, 1);
     if t == types::ENDPOINT {
         if may_list(d, order, limits) {
-            return Turned {
-                good: true,
+            return Some(Checked {
                 order: sequence::list(d, order),
-                refers,
-            };
+                refers: checked.refers,
+            });
         }
-        return stop();
+        return None;
     }
     if t == types::INTERFACE {
-        let begun = sequence::begin(d, setting, order);
-        if begun.good {
-            let next = begun.order;
-            return Turned {
-                good: true,
-                order: next,
-                refers: still_refers(refers, octets::peek(d, 8), names),
-            };
-        }
-        return stop();
+        let next = sequence::begin(d, setting, order)?;
+        return Some(Checked {
+            order: next,
+            refers: checked.refers & holds(names, octets::peek(d, 8)),
+        });
     }
-    Turned {
-        good: !is_refused(t),
-        order,
-        refers,
+    if is_refused(t) {
+        return None;
     }
+    Some(checked)
 }
 
 // The descriptors from `from` on, for so many interfaces, but for companions. A refusal is told by the place alone, which then is no body's end.
@@ -151,8 +126,7 @@ fn good_rest(body: &[u8], from: usize, interfaces: u8, limits: Limits, names: &[
     requires { Ready body.now interfaces from }
     ensures { result ≡ verdict (walked (checking (unaccompanied limits) interfaces) starting before (cut (drop from body.now))) (every (has names.now) (collected referring body.now before from)) }
 {
-    let mut order = sequence::set_out();
-    let mut refers = true;
+    let mut checked = set_out();
     let mut at = from;
     let last = body.len() - 1;
     while at < last {
@@ -171,23 +145,22 @@ fn good_rest(body: &[u8], from: usize, interfaces: u8, limits: Limits, names: &[
             at = last;
             break;
         }
-        let step = walk::step_over(body, at, order.last);
+        let step = walk::step_over(body, at, checked.order.last);
         let next = step.end;
-        let turned = turn(&body[at..next], step.setting, order, refers, limits, names);
-        if !turned.good {
+        let Some(turned) = turn(&body[at..next], step.setting, checked, limits, names) else {
             at = last;
             break;
-        }
-        order = turned.order;
-        refers = turned.refers;
+        };
+        checked = turned;
         at = next;
     }
+    let order = checked.order;
     let good = (at == body.len())
         & (sequence::next_of(order.last) == interfaces as u32)
         & (order.coming == 0);
     Verdict {
         good,
-        refers: good & refers,
+        refers: good & checked.refers,
     }
 }
 
@@ -202,11 +175,10 @@ fn good_companions(body: &[u8], from: usize, limits: Limits) -> bool
     let mut last = walk::BEFORE_FIRST;
     let mut at = from;
     while at < body.len() {
-        let step = walk::advance(body, at, last);
-        let end = step.end;
-        if end <= at {
+        let Some(step) = walk::advance(body, at, last) else {
             return false;
-        }
+        };
+        let end = step.end;
         if !is_accompanied(&body[at..end], due) {
             return false;
         }
@@ -221,11 +193,10 @@ fn good_companions(body: &[u8], from: usize, limits: Limits) -> bool
 pub fn good_configuration(body: &[u8], limits: Limits, names: &[u32; 8]) -> Verdict
     ensures { result ≡ verdict (good_configuration limits body.now) (configuration_refers names.now body.now) }
 {
-    let step = walk::advance(body, 0, walk::BEFORE_FIRST);
-    let end = step.end;
-    if end == 0 {
+    let Some(step) = walk::advance(body, 0, walk::BEFORE_FIRST) else {
         return refuse();
-    }
+    };
+    let end = step.end;
     let head = &body[..end];
     if !good_head(head, body.len()) {
         return refuse();

@@ -13,9 +13,9 @@ use crate::walk::Stand;
 
 // Where a descriptor lies in a body.
 #[derive(Clone, Copy)]
-pub enum DescriptorFound {
-    At { offset: usize, length: usize },
-    Nothing,
+pub struct DescriptorPlace {
+    pub offset: usize,
+    pub length: usize,
 }
 
 // Whether a descriptor, which stands at `stand`, lists an endpoint of a current setting.
@@ -32,16 +32,13 @@ fn pass(counts: bool, left: u8) -> u8
     ensures { result ≡ passing counts left }
 {
     if counts {
-        if 1 <= left {
-            return left - 1;
-        }
-        return 0;
+        return left.saturating_sub(1);
     }
     left
 }
 
 // The endpoint descriptor of the current settings that has a number, from 0 on.
-pub fn find(body: &[u8], alternates: [u8; 16], number: u8) -> DescriptorFound
+pub fn find(body: &[u8], alternates: [u8; 16], number: u8) -> Option<DescriptorPlace>
     requires { well_cut (cut body.now) ≡ true }
     ensures { result ≡ found_at (get_elem? (current_descriptors alternates body.now) number) }
 {
@@ -55,13 +52,13 @@ pub fn find(body: &[u8], alternates: [u8; 16], number: u8) -> DescriptorFound
         last = step.setting;
         let counts = lists_current(&body[at..end], stand, &alternates[..]);
         if counts & (left == 0) {
-            return DescriptorFound::At {
+            return Some(DescriptorPlace {
                 offset: at,
                 length: end - at,
-            };
+            });
         }
         left = pass(counts, left);
         at = end;
     }
-    DescriptorFound::Nothing
+    None
 }

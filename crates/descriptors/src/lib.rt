@@ -2,6 +2,7 @@
 #![tactic(auto)]
 
 pub mod check;
+mod checked;
 pub mod endpoints;
 pub mod limits;
 pub mod lookup;

@@ -1,9 +1,10 @@
 // What a speed and a kind of set allow, and whether a number is allowed.
 ghost use Rattle.std.specs.Prelude.{◌≡◌};
-ghost use Rattle.descriptors.specs.Limits.{full_ranges, high_ranges, super_ranges, full_speed, paired_full, high_speed, super_speed, within, doubled, named, refused_types};
+ghost use Rattle.descriptors.specs.Limits.{ranges_of, full_speed, paired_full, high_speed, super_speed, within, doubled, named, refused_types};
 ghost use Rattle.descriptors.specs.Descriptor.{good_address, sized};
 
 // A range of numbers, both ends in it.
+// Kept: a RangeInclusive is not Copy.
 #[derive(Clone, Copy)]
 pub struct Range {
     pub least: u16,
@@ -40,69 +41,73 @@ pub struct Limits {
     pub companions: bool,
 }
 
-pub fn full_ranges() -> Ranges
-    ensures { result ≡ full_ranges }
-{
-    Ranges {
-        bulk: Range { least: 8, most: 64 },
-        interrupt: Range { least: 0, most: 64 },
-        polling: Range {
-            least: 1,
-            most: 255,
-        },
-        isochronous: Range {
-            least: 0,
-            most: 1023,
-        },
-        period: Range { least: 1, most: 16 },
-        bursts: 0,
+// What full speed, high speed and SuperSpeed allow of endpoints.
+const FULL_RANGES: Ranges = Ranges {
+    bulk: Range { least: 8, most: 64 },
+    interrupt: Range { least: 0, most: 64 },
+    polling: Range {
+        least: 1,
+        most: 255,
+    },
+    isochronous: Range {
+        least: 0,
+        most: 1023,
+    },
+    period: Range { least: 1, most: 16 },
+    bursts: 0,
+};
+
+const HIGH_RANGES: Ranges = Ranges {
+    bulk: Range {
+        least: 512,
+        most: 512,
+    },
+    interrupt: Range {
+        least: 0,
+        most: 1024,
+    },
+    polling: Range { least: 1, most: 16 },
+    isochronous: Range {
+        least: 0,
+        most: 1024,
+    },
+    period: Range { least: 1, most: 16 },
+    bursts: 2,
+};
+
+const SUPER_RANGES: Ranges = Ranges {
+    bulk: Range {
+        least: 1024,
+        most: 1024,
+    },
+    interrupt: Range {
+        least: 1,
+        most: 1024,
+    },
+    polling: Range { least: 1, most: 16 },
+    isochronous: Range {
+        least: 0,
+        most: 1024,
+    },
+    period: Range { least: 1, most: 16 },
+    bursts: 0,
+};
+
+impl Speed {
+    // What the speed allows of endpoints.
+    pub fn ranges(self) -> Ranges
+        ensures { result ≡ ranges_of self }
+    {
+        match self {
+            Speed::Full => FULL_RANGES,
+            Speed::High => HIGH_RANGES,
+            Speed::Super => SUPER_RANGES,
+        }
     }
 }
 
-pub fn high_ranges() -> Ranges
-    ensures { result ≡ high_ranges }
-{
-    Ranges {
-        bulk: Range {
-            least: 512,
-            most: 512,
-        },
-        interrupt: Range {
-            least: 0,
-            most: 1024,
-        },
-        polling: Range { least: 1, most: 16 },
-        isochronous: Range {
-            least: 0,
-            most: 1024,
-        },
-        period: Range { least: 1, most: 16 },
-        bursts: 2,
-    }
-}
-
-pub fn super_ranges() -> Ranges
-    ensures { result ≡ super_ranges }
-{
-    Ranges {
-        bulk: Range {
-            least: 1024,
-            most: 1024,
-        },
-        interrupt: Range {
-            least: 1,
-            most: 1024,
-        },
-        polling: Range { least: 1, most: 16 },
-        isochronous: Range {
-            least: 0,
-            most: 1024,
-        },
-        period: Range { least: 1, most: 16 },
-        bursts: 0,
-    }
-}
-
+// ---- the limits of each kind of set
+// Kept: docs/TRACE.md names these four by what they promise, and a constant would have no contract.
 // The limits of full speed.
 pub fn full_speed() -> Limits
     ensures { result ≡ full_speed }

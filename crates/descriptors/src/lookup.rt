@@ -3,15 +3,6 @@ ghost use Rattle.std.specs.Prelude.{◌≡◌, ◌<◌};
 ghost use Rattle.descriptors.specs.Configuration.{bit_of};
 ghost use Rattle.descriptors.specs.Lookup.{with_bit};
 
-use crate::Endpoint;
-
-// The endpoint that was looked for, or that there is none.
-#[derive(Clone, Copy)]
-pub enum EndpointFound {
-    At(Endpoint),
-    Nothing,
-}
-
 // An address's bit in a word of the record: e for OUT number e, 16 + e for IN.
 pub fn bit_of(address: u8) -> u32
     ensures { (result ≡ bit_of address) × (result < 32) }

@@ -1,16 +1,18 @@
-// The order of settings and endpoints, as the check of a body keeps it: numbers of one width, so that a compiler keeps them in registers.
-ghost use Rattle.std.specs.Prelude.{◌≡◌, false, ◌≤◌, ◌<◌};
+// The order of settings and endpoints: which descriptor may come next, and the order after it.
+ghost use Rattle.std.specs.Prelude.{◌≡◌, ◌≤◌, ◌<◌};
 ghost use Rattle.descriptors.specs.declared.limits.Limits.{Limits};
 ghost use Rattle.descriptors.specs.Limits.{ranges_of};
 ghost use Rattle.descriptors.specs.Sequence.{next_of, Places, Begins, good_kind, comes, listed_in, setting_out};
 
 use crate::limits;
-use crate::limits::{Limits, Ranges, Speed};
+use crate::limits::{Limits, Ranges};
 use crate::lookup::bit_of;
 use crate::walk::BEFORE_FIRST;
 
+// How far the check of a body is with its settings and endpoints: numbers of one width, so that a compiler keeps them in registers.
 // `last` is the setting of the descriptor before, as the step gives it. `coming` endpoints are still to come. A bit for each address: `others` are
 // those of the interfaces before, `own` those of this interface's settings, `setting` those of this setting.
+// Kept: docs/TRACE.md names begin and may_come, so their argument's type asks nothing more.
 #[derive(Clone, Copy)]
 pub struct Order {
     pub last: u32,
@@ -20,19 +22,11 @@ pub struct Order {
     pub setting: u32,
 }
 
-// A setting that comes: whether it may, and the addresses then.
+// The addresses once a setting is begun, as the order keeps them.
 #[derive(Clone, Copy)]
 struct Placing {
-    good: bool,
     others: u32,
     own: u32,
-}
-
-// An interface descriptor: whether it may come, and the order then.
-#[derive(Clone, Copy)]
-pub struct Begun {
-    pub good: bool,
-    pub order: Order,
 }
 
 pub fn set_out() -> Order
@@ -54,68 +48,50 @@ pub fn next_of(last: u32) -> u32
     (last % 256 + 1) % 256
 }
 
-fn refused() -> Placing
-    ensures { result.good ≡ false }
-{
-    Placing {
-        good: false,
-        others: 0,
-        own: 0,
-    }
-}
-
-// A setting that comes, by its number. What is good is told by constants, so that a compiler makes branches of it.
-fn place(order: Order, setting: u32) -> Placing
+// The addresses once a setting is begun, by its number, if it may come.
+fn place(order: Order, setting: u32) -> Option<Placing>
     requires { order.last < 131072 }
     ensures { Places order setting result }
 {
     if setting == order.last + 256 {
         if setting < 4096 {
-            return Placing {
-                good: true,
+            return Some(Placing {
                 others: order.others,
                 own: order.own,
-            };
+            });
         }
-        return refused();
+        return None;
     }
     if setting == next_of(order.last) {
         if setting < 16 {
-            return Placing {
-                good: true,
+            return Some(Placing {
                 others: order.others | order.own,
                 own: 0,
-            };
+            });
         }
     }
-    refused()
+    None
 }
 
-// An interface descriptor, whose setting the step told.
-pub fn begin(d: &[u8], setting: u32, order: Order) -> Begun
+// The order after an interface descriptor, whose setting the step told, if it may come.
+pub fn begin(d: &[u8], setting: u32, order: Order) -> Option<Order>
     requires { order.last < 131072 }
     ensures { Begins order setting d.now result }
 {
     if d.len() < 9 {
-        return Begun { good: false, order };
+        return None;
     }
     if order.coming != 0 {
-        return Begun { good: false, order };
+        return None;
     }
-    let placed = place(order, setting);
-    if placed.good {
-        return Begun {
-            good: true,
-            order: Order {
-                last: setting,
-                coming: octets::peek(d, 4) as u32,
-                others: placed.others,
-                own: placed.own,
-                setting: 0,
-            },
-        };
-    }
-    Begun { good: false, order }
+    let placed = place(order, setting)?;
+    Some(Order {
+        last: setting,
+        coming: octets::peek(d, 4) as u32,
+        others: placed.others,
+        own: placed.own,
+        setting: 0,
+    })
 }
 
 // An endpoint's attributes, size and interval, by a speed's ranges.
@@ -137,16 +113,12 @@ pub fn good_kind_in(ranges: Ranges, attributes: u8, size: u16, interval: u8) -> 
     false
 }
 
-// The same by a row of limits. A speed's ranges are known here: a compiler then compares with constants.
+// The same by a row of limits.
 pub fn good_kind(limits: Limits, attributes: u8, size: u16, interval: u8) -> bool
     ensures { result ≡ good_kind limits attributes size interval }
 {
     let speed = limits.speed;
-    match speed {
-        Speed::Full => good_kind_in(limits::full_ranges(), attributes, size, interval),
-        Speed::High => good_kind_in(limits::high_ranges(), attributes, size, interval),
-        Speed::Super => good_kind_in(limits::super_ranges(), attributes, size, interval),
-    }
+    good_kind_in(speed.ranges(), attributes, size, interval)
 }
 
 // An endpoint descriptor may come, whatever its attributes, size and interval.

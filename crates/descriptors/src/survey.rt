@@ -1,5 +1,6 @@
 // What a record and an event ask of the selected configuration, gathered in one walk. The body is well cut, as in every accepted set, so
 // each descriptor is whole. A descriptor's type is read first: most descriptors are only stepped over.
+// Kept: a descriptor and its stand are handed on side by side, since a struct of the two would be one more copy on a small board's stack.
 ghost use Rattle.std.specs.Prelude.{◌≡◌, ℕ, true, ◌&&◌, not, eqb, ltb, get_or};
 ghost use Rattle.octets.specs.Bit.{bit};
 ghost use Rattle.octets.specs.Sentences.{pick, below};
@@ -7,9 +8,9 @@ ghost use Rattle.descriptors.specs.Cut.{cut, well_cut};
 ghost use Rattle.descriptors.specs.Descriptor.{is_interface, is_endpoint};
 ghost use Rattle.descriptors.specs.Configuration.{Configuration, configuration_of};
 ghost use Rattle.descriptors.specs.Lookup.{listed};
-ghost use Rattle.descriptors.specs.Survey.{noting, earlier, found_here, onward, at_current, at_other, nothing_seen, TellsInterfaces, Surveys, good_alternate};
+ghost use Rattle.descriptors.specs.Survey.{noting, earlier, found_here, onward, at_current, at_other, TellsInterfaces, Surveys, good_alternate};
 
-use crate::lookup::{EndpointFound, with_bit};
+use crate::lookup::with_bit;
 use crate::walk::Stand;
 use crate::{Endpoint, types, walk};
 
@@ -27,28 +28,14 @@ pub struct Asked {
 // Bit k of `existing` and `current`: whether interface k exists, and whether its current setting does. Of the endpoints of the current settings,
 // `halting` has the bits of the bulk and interrupt ones, and `endpoint` is the one that is asked for. `there`: the setting that is asked for
 // exists; `bits` has those of its endpoints and of the endpoints of the interface's current setting.
-#[derive(Clone, Copy)]
+#[derive(Clone, Copy, Default)]
 pub struct Survey {
     pub existing: u32,
     pub current: u32,
     pub halting: u32,
-    pub endpoint: EndpointFound,
+    pub endpoint: Option<Endpoint>,
     pub there: bool,
     pub bits: u32,
-}
-
-// Before the first descriptor.
-fn nothing_seen() -> Survey
-    ensures { result ≡ nothing_seen }
-{
-    Survey {
-        existing: 0,
-        current: 0,
-        halting: 0,
-        endpoint: EndpointFound::Nothing,
-        there: false,
-        bits: 0,
-    }
 }
 
 // The word with the bit of an interface; no bit stands for a number past 31.
@@ -79,14 +66,11 @@ fn at_interface(seen: Survey, d: &[u8], stand: Stand, alternates: &[u8], asked: 
     let current = stand.alternate == octets::peek(alternates, stand.interface as usize);
     let wanted = (stand.interface as u16 == asked.interface)
         & (stand.alternate as u16 == asked.alternate);
-    let endpoint = seen.endpoint;
     Survey {
         existing: with_interface(seen.existing, stand.interface),
         current: with_current(seen.current, stand.interface, current),
-        halting: seen.halting,
-        endpoint,
         there: seen.there | wanted,
-        bits: seen.bits,
+        ..seen
     }
 }
 
@@ -103,14 +87,11 @@ fn endpoint_of(d: &[u8], stand: Stand) -> Endpoint
 }
 
 // The endpoint that was found before, or else the one that a descriptor lists, if it is `wanted`.
-fn first_found(endpoint: EndpointFound, d: &[u8], stand: Stand, wanted: bool) -> EndpointFound
+fn first_found(endpoint: Option<Endpoint>, d: &[u8], stand: Stand, wanted: bool) -> Option<Endpoint>
     ensures { result ≡ earlier endpoint (found_here wanted stand d.now) }
 {
-    if wanted {
-        return match endpoint {
-            EndpointFound::At(e) => EndpointFound::At(e),
-            EndpointFound::Nothing => EndpointFound::At(endpoint_of(d, stand)),
-        };
+    if wanted & endpoint.is_none() {
+        return Some(endpoint_of(d, stand));
     }
     endpoint
 }
@@ -120,14 +101,11 @@ fn at_current(seen: Survey, d: &[u8], stand: Stand, asked: Asked) -> Survey
     ensures { result ≡ at_current asked seen stand d.now }
 {
     let wanted = octets::peek(d, 2) as u16 == asked.address;
-    let endpoint = seen.endpoint;
     Survey {
-        existing: seen.existing,
-        current: seen.current,
         halting: with_bit(seen.halting, d, 2 <= octets::peek(d, 3) % 4),
-        endpoint: first_found(endpoint, d, stand, wanted),
-        there: seen.there,
+        endpoint: first_found(seen.endpoint, d, stand, wanted),
         bits: with_bit(seen.bits, d, stand.interface as u16 == asked.interface),
+        ..seen
     }
 }
 
@@ -137,14 +115,9 @@ fn at_other(seen: Survey, d: &[u8], stand: Stand, asked: Asked) -> Survey
 {
     let wanted = (stand.interface as u16 == asked.interface)
         & (stand.alternate as u16 == asked.alternate);
-    let endpoint = seen.endpoint;
     Survey {
-        existing: seen.existing,
-        current: seen.current,
-        halting: seen.halting,
-        endpoint,
-        there: seen.there,
         bits: with_bit(seen.bits, d, wanted),
+        ..seen
     }
 }
 
@@ -183,7 +156,7 @@ pub fn walk(body: &[u8], alternates: [u8; 16], asked: Asked) -> Survey
 {
     // A slice that is named whole before it is handed on is lent in registers.
     let all = &body[..];
-    let mut seen = nothing_seen();
+    let mut seen = Survey::default();
     let mut last = walk::BEFORE_FIRST;
     let mut at = octets::peek(all, 0) as usize;
     while at < all.len() {
@@ -202,12 +175,10 @@ fn moved(alternates: [u8; 16]) -> u32
     ensures { (k : ℕ) → bit result k ≡ (ltb k 16 && not (eqb (get_or alternates k 0) 0)) }
 {
     let mut word: u32 = 0;
-    let mut j: u32 = 0;
-    while j < 16 {
-        if octets::peek(&alternates[..], j as usize) != 0 {
+    for j in 0..16 {
+        if alternates[j as usize] != 0 {
             word = octets::set_bit(word, j);
         }
-        j += 1;
     }
     word
 }

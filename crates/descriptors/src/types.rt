@@ -1,4 +1,5 @@
 // The types of descriptors, as USB 2.0's table 9-5 and USB 3.2's table 9-6 name them.
+// Kept: numbers and no enum, since a descriptor of any other type may stand in a body and is stepped over.
 pub const DEVICE: u8 = 1;
 
 pub const CONFIGURATION: u8 = 2;

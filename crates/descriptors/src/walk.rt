@@ -1,14 +1,16 @@
 // The step over one descriptor: where it ends, and under which setting it stands. Every walk over a body goes by it.
 ghost use Rattle.std.specs.Prelude.{◌≡◌, true, ◌≤◌, length};
-ghost use Rattle.descriptors.specs.Walk.{stand_in, SetAfter, staying, steps_on, Steps, Plains};
+ghost use Rattle.descriptors.specs.Walk.{stand_in, SetAfter, steps_on, Steps, Advances, Plains};
 
 use crate::types::{CLASS, INTERFACE};
 
 // A setting is one number, bInterfaceNumber + 256 * bAlternateSetting. This is no setting's: where a walk stands before the first interface, so that
 // interface 0 is the next.
+// Kept: with an Option beside a u16 the walk would keep two values in place of one, and ask at each descriptor which it is.
 pub const BEFORE_FIRST: u32 = 65791;
 
 // Where a descriptor stands: under which setting, or (not `inside`) before the first interface.
+// Kept: an Option<Setting> is no plainer, since an interface descriptor, which always stands inside, would have to be asked for the setting that it begins.
 #[derive(Clone, Copy)]
 pub struct Stand {
     pub inside: bool,
@@ -66,33 +68,21 @@ pub fn step_over(body: &[u8], at: usize, last: u32) -> Step
     }
 }
 
-// It stays where it is.
-fn stay(at: usize, last: u32) -> Step
-    ensures { result ≡ staying at last }
-{
-    Step {
-        end: at,
-        setting: last,
-        stand: stand_in(last),
-    }
-}
-
-// The same where nothing is known of the body. A bLength below 2 or past the body's end leaves it where it is, and a walk that finds
-// itself no further on must stop.
-pub fn advance(body: &[u8], at: usize, last: u32) -> Step
-    ensures { Steps body.now at last result }
+// The same where nothing is known of the body. No step is taken over a bLength below 2 or past the body's end, where a walk must stop.
+pub fn advance(body: &[u8], at: usize, last: u32) -> Option<Step>
+    ensures { Advances body.now at last result }
 {
     let size = octets::peek(body, at) as usize;
     if size < 2 {
-        return stay(at, last);
+        return None;
     }
     if body.len() <= at {
-        return stay(at, last);
+        return None;
     }
     if body.len() - at < size {
-        return stay(at, last);
+        return None;
     }
-    step_over(body, at, last)
+    Some(step_over(body, at, last))
 }
 
 // Past the descriptors from `from` on that have this length. Where the next one is looked for does not wait for a byte to be read.
@@ -140,7 +130,8 @@ pub fn behind(body: &[u8], from: usize) -> usize
             return next;
         }
         let second = body[next] as usize;
-        if kinds[next] < CLASS {
+        let looked_at = kinds[next] < CLASS;
+        if looked_at {
             return next;
         }
         if second < 2 {

@@ -1,15 +1,23 @@
 -- The pieces of a dump stand in order; what import answers, case by case. No axiom.
-use Rattle.octets.proofs.Vocabulary.{◌≡◌, refl, sym, ap, ◌∙◌, ℕ, suc, ◌+◌, ◌-◌, ◌*◌, ◌≤◌, ◌<◌, List, [], ◌∷◌, ◌++◌, map, true, length, take, drop, length-map, eqb, ltb, sets-eq, take_at, arith, sub-zero, lt-ltb}
+use Rattle.octets.proofs.Vocabulary.{◌≡◌, refl, sym, ap, ◌∙◌, ℕ, suc, ◌+◌, ◌*◌, ◌≤◌, ◌<◌, List, [], ◌∷◌, ◌++◌, map, true, length, take, drop, length-map, eqb, ltb, sets-eq, take_at, arith, lt-ltb, ltb-true, ltb-false, false, replicate, length-replicate, ⊎_elim, ◌||◌}
 use Rattle.octets.specs.Sentences.{pick, neighbours}
-use Rattle.octets.proofs.Sentences.{or_left, or_right}
+use Rattle.octets.proofs.Sentences.{or_left, or_right, either, neither}
 use Rattle.descriptors.specs.Limits.{full_speed}
 use Rattle.set_writer.specs.Writer.{precedes, sorted, laid, set_of, writing}
 use Rattle.set_writer.specs.Stream.{stream_of}
 use Rattle.sets.specs.Pieces.{Piece}
 use Rattle.set_writer.proofs.Stream.{stream-read, stream-whole}
+use Rattle.std.specs.Prelude.{Result, Ok, Err}
+use Rattle.std.specs.Result.{IsErrAnd}
+use Rattle.set_writer.specs.declared.NotWritten.{NotWritten}
+use Rattle.set_writer.specs.Refused.{report_of}
+use Rattle.dumps.specs.declared.import.NotImported.{NotImported}
+use Rattle.dumps.specs.declared.import.NotImported.TheVariants.{NotWritten as not_written}
+use Rattle.dumps.specs.Refused.{imported_report}
+use Rattle.buffers.specs.declared.Writer.{Writer}
 use Rattle.buffers.specs.Written as written
-use Rattle.set_writer.specs.declared.Report.{Report}
-use Rattle.set_writer.specs.Reported.{opening_made, Reported}
+use Rattle.buffers.proofs.Written.{inside}
+use Rattle.set_writer.specs.Reported.{opening_made, Report, Reported}
 use Rattle.set_writer.proofs.Writing.{answer, set-length}
 use Rattle.set_writer.proofs.Shuffled.{itself}
 use Rattle.set_writer.proofs.Ascending.{neighbours-ascend}
@@ -66,11 +74,15 @@ module _ (dump out : List ℕ) where
     over : too_large dump ≡ true → Imports dump out out (answer 21 0)
     over q = record { fills = record { number = sym (rw (p, q)); bytes = refl }; why = sym (rw (p, q)) }
 
-    pub many : 63 < length (configurations_in dump) → Imports dump out out (answer 21 0)
+    many : 63 < length (configurations_in dump) → Imports dump out out (answer 21 0)
     many h = over (or_left (ltb 16384 (length (imported dump))) (lt-ltb 64 (length (pieces_for dump)) (omega (arith, pieces-count dump))))
 
-    pub large : 16384 < length dump → Imports dump out out (answer 21 0)
+    large : 16384 < length dump → Imports dump out out (answer 21 0)
     large h = over (or_right (ltb 64 (length (pieces_for dump))) (lt-ltb 16384 (length (imported dump)) (omega (arith, imported-length dump p))))
+
+    pub too_much : (n : ℕ) → n ≡ length (configurations_in dump) → (ltb 63 n || ltb 16384 (length dump)) ≡ true → Imports dump out out (answer 21 0)
+    too_much n e h =
+        ⊎_elim (λ a. many (omega (arith, e, ltb-true 63 n a))) (λ b. large (ltb-true 16384 (length dump) b)) (either (ltb 63 n) (ltb 16384 (length dump)) h)
 
     asked : (room : ℕ) → writing full_speed (stream_of (pieces_for dump)) [] room ≡ importing dump room
     asked room = rw (stream-whole (pieces_for dump), p, stream-read (pieces_for dump), pieces-sorted dump)
@@ -89,9 +101,23 @@ module _ (dump out : List ℕ) where
           why = v.why ∙ why-asked;
         }
 
--- what lies aside is the stream
-pub aside : (zeros text scratch : List ℕ) (used : ℕ) → length text ≤ length zeros → written.Wrote zeros 0 text scratch used → take (used - 0) scratch ≡ text
-aside zeros text scratch used h w =
-    let l : length text ≡ used = omega (arith, w.place) in
-    let room : 0 + length text ≤ length zeros = omega arith in
-    rw (sub-zero, w.bytes, sets-eq text zeros 0 room) (take_at text (drop (0 + length text) zeros) used l)
+-- ---- the stream that lies aside, for which there is room
+pub room_aside : (dump : List ℕ) (n : ℕ) → splits dump ≡ true → n ≡ length (configurations_in dump) → (ltb 63 n || ltb 16384 (length dump)) ≡ false → 0 + length (stream_of (pieces_for dump)) ≤ length (replicate {A = ℕ} 16768 0)
+room_aside dump n p e h =
+    let (a, b) = neither (ltb 63 n) (ltb 16384 (length dump)) h in
+    omega (arith, e, ltb-false 63 n a, ltb-false 16384 (length dump) b, stream-size dump p, length-replicate {A = ℕ} 16768 0)
+
+module _ {text : List ℕ} {w is : Writer} {after : List ℕ} (z : w.at ≡ 0) (room : written.Room w text) (r : written.Wrote w text is) (left : after ≡ is.out.now) where
+  pub ends-inside : is.at ≤ length after
+  ends-inside = rw left (inside room r)
+
+  pub aside : take is.at after ≡ text
+  aside =
+      let l : length text ≡ is.at = omega (arith, r.place) in
+      let fits : 0 + length text ≤ length w.out.now = omega (arith, room) in
+      rw (left, r.bytes, z, sets-eq text w.out.now 0 fits) (take_at text (drop (0 + length text) w.out.now) is.at l)
+
+-- why the set is not written is handed on
+pub handed_on : {dump out after : List ℕ} (r : Result (Unit {0}) NotImported) (why : NotWritten) → IsErrAnd r (λ y. y ≡ not_written why) → Imports dump out after (report_of (Err why)) → Imports dump out after (imported_report r)
+handed_on (Ok _) why p q = absurd p
+handed_on (Err y) why p q = rw p q

@@ -1,5 +1,5 @@
 -- In a set that opens, the device and the configuration bodies lie end to end, from where the bodies begin. No axiom.
-use Rattle.octets.proofs.Vocabulary.{◌≡◌, refl, sym, ap, ◌∙◌, ℕ, ◌+◌, ◌-◌, ◌*◌, ◌≤◌, ◌<◌, List, [], ◌∷◌, ◌++◌, map, append_assoc, append-nil, Bool, true, false, ⊎_elim, length, take, drop, length-drop, eqb, leb, ltb, drop-drop, take-add, length-take-le, sub-zero, arith, zero-add, add-sub_cancel_left, eqb-true, ltb-true, eqb-false, ne_eqb, eq-eqb, le-leb, lt-leb, lt-ltb, le-ltb, leb-true}
+use Rattle.octets.proofs.Vocabulary.{◌≡◌, refl, sym, ap, ◌∙◌, ℕ, ◌+◌, ◌-◌, ◌*◌, ◌≤◌, ◌<◌, List, [], ◌∷◌, ◌++◌, map, append_assoc, append-nil, Bool, true, false, ⊎_elim, length, take, drop, length-drop, eqb, leb, ltb, drop-drop, take-add, length-take-le, arith, zero-add, add-sub_cancel_left, eqb-true, ltb-true, eqb-false, ne_eqb, le-leb, lt-leb, lt-ltb, le-ltb, leb-true}
 use Rattle.octets.specs.Octets.{byte, part}
 use Rattle.octets.specs.Sentences.{pick, every, only, neighbours}
 use Rattle.octets.proofs.Sentences.{cases, both, either, conjunct, never, neighbours-cons}
@@ -12,8 +12,7 @@ use Rattle.sets.proofs.Entries.{only-later, only-empty, every-cons}
 use Rattle.sets.proofs.Groups.{groups, one-device}
 use Rattle.sets.proofs.Pieces.{bodies_of_lem}
 use Rattle.dumps.specs.Dump.{flat, exported}
-use Rattle.dumps.specs.declared.export.Dumped.{Dumped}
-use Rattle.dumps.specs.Export.{share, shares, Exports}
+use Rattle.dumps.specs.Export.{share, shares, Dumped, Exports}
 
 -- ---- the types go up
 abbrev pub Up : ℕ → List Entry → Type 0
@@ -155,33 +154,32 @@ dump set serial p =
 abbrev pub answer : ℕ → ℕ → Dumped
 answer number written = record { number = number; written = written }
 
-module _ (set serial out : List ℕ) (n : ℕ) (e : n ≡ opening full_speed (lent set serial)) where
-  module _ (h : n ≡ 0) (k : ℕ) (i : k ≡ count set) (size : ℕ) (q : size ≡ shares (entries set)) where
-    d : Dump set
-    d = dump set serial (sym e ∙ h)
+module _ (set serial out : List ℕ) (opens : 0 ≡ opening full_speed (lent set serial)) (k : ℕ) (i : k ≡ count set) (size : ℕ) (q : size ≡ shares (entries set)) where
+  d : Dump set
+  d = dump set serial (sym opens)
 
-    pub fits : 4 + 8 * k + size ≤ length set
-    fits = rw (i, q) d.fits
+  pub fits : 4 + 8 * k + size ≤ length set
+  fits = rw (i, q) d.fits
 
-    -- a set that opens is not longer than two bytes can say
-    pub small : size < 65536
-    small = omega (arith, q, d.fits, d.small)
+  -- a set that opens is not longer than two bytes can say
+  pub small : size < 65536
+  small = omega (arith, q, d.fits, d.small)
 
-    -- what the code lends to `copy_from_slice`
-    abbrev copied : List ℕ
-    copied = take (4 + 8 * k + size - (4 + 8 * k)) (drop (4 + 8 * k) set)
+  -- what the code lends to `copy_from_slice`
+  abbrev copied : List ℕ
+  copied = take (4 + 8 * k + size - (4 + 8 * k)) (drop (4 + 8 * k) set)
 
-    copied_is : copied ≡ exported set
-    copied_is = rw (add-sub_cancel_left, i, q) (sym d.bytes)
+  copied_is : copied ≡ exported set
+  copied_is = rw (add-sub_cancel_left, i, q) (sym d.bytes)
 
-    pub short : length out < size → Exports set serial out out (answer 22 0)
-    short l = record { fills = record { number = sym (rw (← e, eq-eqb n 0 h, lt-ltb (length out) (length (exported set)) (omega (arith, d.size, q)))); bytes = refl }; counts = refl }
+  pub short : length out < size → Exports set serial out out (answer 22 0)
+  short l = record { fills = record { number = sym (rw (← opens, lt-ltb (length out) (length (exported set)) (omega (arith, d.size, q)))); bytes = refl }; counts = refl }
 
-    pub given : size ≤ length out → {written : List ℕ} → written ≡ copied → Exports set serial out (written ++ drop (size - 0) out) (answer 0 size)
-    given l p = record {
-      fills = record {
-        number = sym (rw (← e, eq-eqb n 0 h, le-ltb (length out) (length (exported set)) (omega (arith, d.size, q))));
-        bytes = rw (p ∙ copied_is, sub-zero, q, ← d.size);
-      };
-      counts = q ∙ sym d.size;
-    }
+  pub given : size ≤ length out → {written : List ℕ} → written ≡ copied → Exports set serial out (written ++ drop size out) (answer 0 size)
+  given l p = record {
+    fills = record {
+      number = sym (rw (← opens, le-ltb (length out) (length (exported set)) (omega (arith, d.size, q))));
+      bytes = rw (p ∙ copied_is, q, ← d.size);
+    };
+    counts = q ∙ sym d.size;
+  }

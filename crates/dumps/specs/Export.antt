@@ -4,14 +4,18 @@ use Rattle.octets.specs.Sentences.{pick}
 use Rattle.sets.specs.declared.Entry.{Entry}
 use Rattle.sets.specs.Pieces.{Piece, pieces_in, pieces_of}
 use Rattle.set_writer.specs.Writer.{Filled}
-use Rattle.dumps.specs.declared.export.Dumped.{Dumped}
 use Rattle.dumps.specs.Dump.{exported, exporting}
 
 -- the device and the configurations of a set, as pieces
 abbrev pub own : List ℕ → List Piece
 own set = pieces_of 1 (pieces_in set) ++ pieces_of 2 (pieces_in set)
 
--- what export answers, whole: its number, the buffer left, and the dump's length, 0 after a refusal
+-- what export answers: its number, and the dump's length, 0 after a refusal
+pub record Dumped : Type 0 where
+  pub number : ℕ
+  pub written : ℕ
+
+-- the same, whole: its number, the buffer left, and the dump's length, 0 after a refusal
 pub record Exports (set serial buffer after : List ℕ) (r : Dumped) : Type 0 where
   pub fills : Filled (exported set) buffer after (exporting set serial (length buffer)) r.number
   pub counts : r.written ≡ pick (eqb r.number 0) (length (exported set)) 0

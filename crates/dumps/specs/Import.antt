@@ -1,17 +1,15 @@
 -- What import's functions answer, whole, and when import accepts, as a promise says it.
-use Rattle.std.specs.Prelude.{ℕ, ◌/◌, ◌%◌, ◌≤◌, ◌≡◌, true, ◌||◌, not, List, [], ◌∷◌, length}
+use Rattle.std.specs.Prelude.{ℕ, ◌/◌, ◌%◌, ◌≤◌, ◌≡◌, true, ◌||◌, not, Option, Some, None, List, [], ◌∷◌, length}
 use Rattle.octets.specs.Sentences.{pick}
 use Rattle.descriptors.specs.Limits.{full_speed}
 use Rattle.sets.specs.Opening.{lent, opening}
-use Rattle.set_writer.specs.declared.Report.{Report}
+use Rattle.set_writer.specs.Reported.{Report}
 use Rattle.set_writer.specs.Writer.{opens_as, Filled}
-use Rattle.dumps.specs.declared.Shape.{Shape}
-use Rattle.dumps.specs.declared.Shape.TheVariants.{Broken, Bodies}
 use Rattle.dumps.specs.Dump.{splits, configurations_in, imported, too_large, importing}
 
 -- what splitting answers
-abbrev pub split_of : List ℕ → Shape
-split_of dump = pick (splits dump) (Bodies (length (configurations_in dump))) Broken
+abbrev pub split_of : List ℕ → Option ℕ
+split_of dump = pick (splits dump) (Some (length (configurations_in dump))) None
 
 -- what stands before a body in the stream of these pieces, whose language is 0
 abbrev pub headed : ℕ → ℕ → ℕ → List ℕ

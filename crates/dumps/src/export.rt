@@ -1,16 +1,39 @@
 // A dump of a set: its device descriptor and its configuration bodies.
 ghost use Rattle.std.specs.Prelude.{◌≡◌, ◌<◌};
 ghost use Rattle.sets.specs.Contents.{entries};
+ghost use Rattle.dumps.specs.declared.export.NotExported.TheVariants.{Opening};
 ghost use Rattle.dumps.specs.Export.{share, shares, Exports};
+ghost use Rattle.dumps.specs.Refused.{not_exported_number, dumped_of};
 
 use descriptors::types;
 use sets::Entry;
+use sets::opening::Broken;
 
-// What export answers: its number, and the dump's length, 0 after a refusal.
-#[derive(Clone, Copy)]
-pub struct Dumped {
-    pub number: u8,
-    pub written: u16,
+// Why a set is not exported.
+#[derive(Clone, Copy, PartialEq, Eq)]
+pub enum NotExported {
+    Opening(Broken),
+    BufferTooShort,
+}
+
+impl From<Broken> for NotExported {
+    ghost from_gives = { λ broken e. e ≡ Opening broken };
+
+    fn from(broken: Broken) -> NotExported {
+        NotExported::Opening(broken)
+    }
+}
+
+impl NotExported {
+    // The number that the header has for it.
+    pub fn number(self) -> u8
+        ensures { result ≡ not_exported_number self }
+    {
+        match self {
+            NotExported::Opening(broken) => sets::opening::number(Err(broken)),
+            NotExported::BufferTooShort => 22,
+        }
+    }
 }
 
 // How many bytes an entry adds to a dump.
@@ -29,35 +52,23 @@ fn size_of(set: &[u8]) -> usize
 {
     let count = octets::peek(set, 2);
     let mut size = 0;
-    let mut i: u8 = 0;
-    while i < count {
-        let e = sets::contents::entry_at(set, i);
-        size += share_of(e);
-        i += 1;
+    for i in 0..count {
+        size += share_of(sets::contents::entry_at(set, i));
     }
     size
 }
 
-// The dump of a set, at the buffer's start: 0, or the opening number or 22 with the buffer untouched. In a set that opens these bodies lie end to end.
-pub fn export(set: &[u8], serial: &[u8], out: &mut [u8]) -> Dumped
-    ensures { Exports set.now serial.now out.old out.new result }
+// The dump of a set, at the buffer's start, and its length; where there is none the buffer is untouched. In a set that opens these bodies lie end to end.
+pub fn export(set: &[u8], serial: &[u8], out: &mut [u8]) -> Result<u16, NotExported>
+    ensures { Exports set.now serial.now out.old out.new (dumped_of result) }
 {
-    let opening = sets::opening::opening(set, serial, descriptors::limits::full_speed());
-    if opening != 0 {
-        return Dumped {
-            number: opening,
-            written: 0,
-        };
-    }
+    sets::opening::opening(set, serial, descriptors::limits::full_speed())?;
     let start = 4 + 8 * (octets::peek(set, 2) as usize);
     let size = size_of(set);
     if out.len() < size {
-        return Dumped {
-            number: set_writer::BUFFER_TOO_SHORT,
-            written: 0,
-        };
+        return Err(NotExported::BufferTooShort);
     }
-    out[0..size].copy_from_slice(&set[start..start + size]);
+    out[..size].copy_from_slice(&set[start..start + size]);
     let written = size as u16;
-    Dumped { number: 0, written }
+    Ok(written)
 }

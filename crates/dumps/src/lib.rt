@@ -1,14 +1,14 @@
 // A dump: a device descriptor and configuration bodies end to end. Splitting it, and its bodies with their string references zeroed, as a stream of pieces.
 #![tactic(auto)]
 
-ghost use Rattle.std.specs.Prelude.{◌≡◌, true, ◌&&◌, map, ◌+◌, ◌<◌, ◌≤◌, length, set, drop, ltb};
+ghost use Rattle.std.specs.Prelude.{◌≡◌, true, map, ◌<◌, length, set, drop};
 ghost use Rattle.octets.specs.Octets.{word};
-ghost use Rattle.octets.specs.Sentences.{pick};
 ghost use Rattle.buffers.specs.Written.{Room, Wrote};
 ghost use Rattle.dumps.specs.Dump.{splits, configurations_in, has_name, zeroed_device, zeroed_configuration, numbered, pieces_for};
 ghost use Rattle.dumps.specs.Import.{split_of, headed};
 ghost use Rattle.set_writer.specs.Stream.{stream_of};
 
+use buffers::Writer;
 use descriptors::walk::BEFORE_FIRST;
 use descriptors::{types, walk};
 
@@ -18,13 +18,6 @@ pub mod import;
 // The bytes of a device descriptor.
 const DEVICE_LENGTH: usize = 18;
 
-// What splitting finds: how many configuration bodies.
-#[derive(Clone, Copy)]
-pub enum Shape {
-    Broken,
-    Bodies(usize),
-}
-
 // How many bytes the configuration body at a place says it has.
 fn size_at(dump: &[u8], at: usize) -> usize
     ensures { (result ≡ word (drop at dump.now) 2) × (result < 65536) }
@@ -32,48 +25,55 @@ fn size_at(dump: &[u8], at: usize) -> usize
     octets::word(buffers::tail(dump, at), 2) as usize
 }
 
-pub fn split(dump: &[u8]) -> Shape
+// How many configuration bodies the dump has, if it splits.
+pub fn split(dump: &[u8]) -> Option<usize>
     ensures { result ≡ split_of dump.now }
 {
     if dump.len() <= DEVICE_LENGTH {
-        return Shape::Broken;
+        return None;
     }
     let mut n = 0;
     let mut at = DEVICE_LENGTH;
     while at < dump.len() {
         let size = size_at(dump, at);
         if size < 9 {
-            return Shape::Broken;
+            return None;
         }
         if dump.len() - at < size {
-            return Shape::Broken;
+            return None;
         }
         at += size;
         n += 1;
     }
-    Shape::Bodies(n)
+    Some(n)
 }
 
-// A byte of a body that stands at `from` becomes 0, if that is wanted and it has that byte.
-fn blank(out: &mut [u8], from: usize, size: usize, place: usize, wanted: bool)
-    requires { from + size ≤ length out.old }
-    ensures { out.new ≡ pick (wanted && ltb place size) (set out.old (from + place) 0) out.old }
+// A byte becomes 0, where there is one.
+fn blank(bytes: &mut [u8], at: usize)
+    ensures { bytes.new ≡ set bytes.old at 0 }
 {
-    if wanted & (place < size) {
-        out[from + place] = 0;
+    if at < bytes.len() {
+        bytes[at] = 0;
     }
 }
 
 // The device descriptor, its three references zeroed.
-fn put_device(out: &mut [u8], from: usize, body: &[u8]) -> usize
-    requires { Room out.old from body.now }
-    ensures { Wrote out.old from (zeroed_device body.now) out.new result }
+fn put_device(w: &mut Writer<'_>, body: &[u8])
+    requires { Room w.old body.now }
+    ensures { Wrote w.old (zeroed_device body.now) w.new }
 {
-    let end = buffers::put_bytes(out, from, body);
-    blank(out, from, body.len(), 14, true);
-    blank(out, from, body.len(), 15, true);
-    blank(out, from, body.len(), 16, true);
-    end
+    let from = w.at;
+    w.put_bytes(body);
+    zero_device(&mut w.out[from..w.at]);
+}
+
+// The three references of a device descriptor.
+fn zero_device(body: &mut [u8])
+    ensures { body.new ≡ zeroed_device body.old }
+{
+    blank(body, 14);
+    blank(body, 15);
+    blank(body, 16);
 }
 
 // Whether a descriptor is of type 4, whole, and has an iInterface.
@@ -85,70 +85,75 @@ fn has_name(d: &[u8]) -> bool
         & (octets::peek(d, 0) as usize == d.len())
 }
 
-// A configuration body, its references zeroed. Where it breaks off the walk is over: such a set is refused.
-fn put_configuration(out: &mut [u8], from: usize, body: &[u8]) -> usize
-    requires { Room out.old from body.now }
-    ensures { Wrote out.old from (zeroed_configuration body.now) out.new result }
+// A configuration body, its references zeroed.
+fn put_configuration(w: &mut Writer<'_>, body: &[u8])
+    requires { Room w.old body.now }
+    ensures { Wrote w.old (zeroed_configuration body.now) w.new }
 {
-    let behind = buffers::put_bytes(out, from, body);
-    blank(out, from, body.len(), 6, true);
+    let from = w.at;
+    w.put_bytes(body);
+    zero_configuration(body, &mut w.out[from..w.at]);
+}
+
+// The references in a copy of a configuration body. Where the body breaks off the walk is over: such a set is refused.
+fn zero_configuration(body: &[u8], copy: &mut [u8])
+    requires { copy.old ≡ body.now }
+    ensures { copy.new ≡ zeroed_configuration body.now }
+{
+    blank(copy, 6);
     let mut last = BEFORE_FIRST;
     let mut at = 0;
     while at < body.len() {
-        let step = walk::advance(body, at, last);
+        let Some(step) = walk::advance(body, at, last) else {
+            return;
+        };
         let end = step.end;
-        if end <= at {
-            return behind;
+        if has_name(&body[at..end]) {
+            blank(copy, at + 8);
         }
-        let wanted = has_name(&body[at..end]);
-        blank(out, from, body.len(), at + 8, wanted);
         last = step.setting;
         at = end;
     }
-    behind
 }
 
 // What stands before a piece's body.
-fn put_head(out: &mut [u8], at: usize, kind: u8, index: u8, size: usize) -> usize
-    requires room { Room out.old at (headed kind index size) }
+fn put_head(w: &mut Writer<'_>, kind: u8, index: u8, size: usize)
+    requires room { Room w.old (headed kind index size) }
     requires size_bound { size < 65536 }
-    ensures { Wrote out.old at (headed kind index size) out.new result }
+    ensures { Wrote w.old (headed kind index size) w.new }
 {
-    buffers::put_bytes(
-        out,
-        at,
-        &[kind, index, 0, 0, (size % 256) as u8, (size / 256) as u8],
-    )
+    w.put(kind);
+    w.put(index);
+    w.put_word(0);
+    w.put_word(size as u16);
 }
 
 // The configurations, as pieces.
-fn put_configurations(out: &mut [u8], at: usize, dump: &[u8]) -> usize
+fn put_configurations(w: &mut Writer<'_>, dump: &[u8])
     requires dump_value { splits dump.now ≡ true }
     requires dump_len_bound { length (configurations_in dump.now) < 256 }
-    requires room { Room out.old at (stream_of (numbered 0 (map zeroed_configuration (configurations_in dump.now)))) }
-    ensures { Wrote out.old at (stream_of (numbered 0 (map zeroed_configuration (configurations_in dump.now)))) out.new result }
+    requires room { Room w.old (stream_of (numbered 0 (map zeroed_configuration (configurations_in dump.now)))) }
+    ensures { Wrote w.old (stream_of (numbered 0 (map zeroed_configuration (configurations_in dump.now)))) w.new }
 {
-    let mut next = at;
     let mut from = DEVICE_LENGTH;
     let mut index: u8 = 0;
     while from < dump.len() {
         let size = size_at(dump, from);
-        let here = put_head(out, next, types::CONFIGURATION, index, size);
-        next = put_configuration(out, here, buffers::head(buffers::tail(dump, from), size));
+        put_head(w, types::CONFIGURATION, index, size);
+        put_configuration(w, buffers::head(buffers::tail(dump, from), size));
         from += size;
         index += 1;
     }
-    next
 }
 
 // The whole dump as a stream of pieces.
-pub fn put_stream(out: &mut [u8], dump: &[u8]) -> usize
+pub fn put_stream(w: &mut Writer<'_>, dump: &[u8])
     requires dump_value { splits dump.now ≡ true }
     requires dump_len_bound { length (configurations_in dump.now) < 256 }
-    requires room { Room out.old 0 (stream_of (pieces_for dump.now)) }
-    ensures { Wrote out.old 0 (stream_of (pieces_for dump.now)) out.new result }
+    requires room { Room w.old (stream_of (pieces_for dump.now)) }
+    ensures { Wrote w.old (stream_of (pieces_for dump.now)) w.new }
 {
-    let from = put_head(out, 0, types::DEVICE, 0, DEVICE_LENGTH);
-    let at = put_device(out, from, buffers::head(dump, DEVICE_LENGTH));
-    put_configurations(out, at, dump)
+    put_head(w, types::DEVICE, 0, DEVICE_LENGTH);
+    put_device(w, buffers::head(dump, DEVICE_LENGTH));
+    put_configurations(w, dump);
 }

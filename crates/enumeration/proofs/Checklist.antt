@@ -21,12 +21,10 @@ use Rattle.records.proofs.InUse.{row_for, bytes_for}
 use Rattle.requests.specs.declared.Setup.{Setup}
 use Rattle.requests.specs.declared.Row.{Row}
 use Rattle.requests.specs.Table.{request_table, row_of, refusal}
-use Rattle.events.specs.declared.Answer.{Answer}
-use Rattle.events.specs.declared.Answer.TheVariants.{OneByte, TwoBytes}
 use Rattle.events.specs.declared.Event.{Event}
 use Rattle.events.specs.declared.Event.TheVariants.{Request, Suspend, Resume, Wake}
 use Rattle.events.specs.declared.facts.Located.TheVariants.{Nowhere}
-use Rattle.events.specs.Answer.{gives}
+use Rattle.events.specs.Answer.{Answer, OneByte, TwoBytes, gives}
 use Rattle.events.specs.Answer as events
 use Rattle.events.specs.Requests as requests
 use Rattle.events.specs.Requests.{locate}

@@ -5,10 +5,8 @@ use Rattle.sets.specs.Opening.{Board, BytesOf}
 use Rattle.sets.specs.View.{accepted}
 use Rattle.records.specs.declared.Device.{Device}
 use Rattle.records.specs.Device.{in_test_mode}
-use Rattle.events.specs.declared.Answer.{Answer}
 use Rattle.events.specs.declared.Event.{Event}
-use Rattle.events.specs.declared.Outcome.{Outcome}
-use Rattle.events.specs.Answer.{gives}
+use Rattle.events.specs.Answer.{Answer, Outcome, gives}
 use Rattle.events.specs.Step.{step}
 use Rattle.order.specs.Run.{log, All}
 use Rattle.promises.specs.Rearranged.{next_of, after}

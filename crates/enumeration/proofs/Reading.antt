@@ -17,12 +17,9 @@ use Rattle.records.specs.declared.Device.{Device}
 use Rattle.records.specs.Device.{settled}
 use Rattle.records.specs.Current.{set_at, view_at}
 use Rattle.records.proofs.InUse.{bytes_for}
-use Rattle.events.specs.declared.Answer.{Answer}
-use Rattle.events.specs.declared.Answer.TheVariants.{SetPart, SerialPart}
 use Rattle.events.specs.declared.Event.{Event}
-use Rattle.events.specs.declared.Outcome.{Outcome}
 use Rattle.events.specs.declared.facts.Located.TheVariants.{Body}
-use Rattle.events.specs.Answer.{gives}
+use Rattle.events.specs.Answer.{Answer, SetPart, SerialPart, Outcome, gives}
 use Rattle.events.specs.Requests.{locate, describe}
 use Rattle.events.specs.Step.{step}
 use Rattle.enumeration.specs.Script.{seen_of, sees, Line, line, reading, Plays, get_descriptor, Ready}

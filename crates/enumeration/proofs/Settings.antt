@@ -15,9 +15,8 @@ use Rattle.records.specs.declared.Device.{Device}
 use Rattle.records.specs.Device.{in_configured, settled}
 use Rattle.records.specs.Current.{set_at, view_at, selected, current_endpoints, endpoint_at}
 use Rattle.requests.specs.Table.{refusal}
-use Rattle.events.specs.Answer.{gives}
+use Rattle.events.specs.Answer.{OneByte, TwoBytes, gives}
 use Rattle.events.specs.Answer as events
-use Rattle.events.specs.declared.Answer.TheVariants.{OneByte, TwoBytes}
 use Rattle.events.specs.Requests as requests
 use Rattle.events.specs.Step.{step, request}
 use Rattle.laws.proofs.Keeping.{sound_selected}

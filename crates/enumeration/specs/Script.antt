@@ -4,10 +4,9 @@ use Rattle.sets.specs.Opening.{Board}
 use Rattle.records.specs.declared.Device.{Device}
 use Rattle.records.specs.Device.{in_test_mode, Sized}
 use Rattle.records.specs.Fits.{fits_on}
-use Rattle.events.specs.declared.Answer.{Answer}
 use Rattle.events.specs.declared.Event.{Event}
 use Rattle.events.specs.declared.Event.TheVariants.{Request, StatusEnd, BusReset}
-use Rattle.events.specs.Answer.{number_of, bytes_of, part_of, bytes_at}
+use Rattle.events.specs.Answer.{Answer, number_of, bytes_of, part_of, bytes_at}
 use Rattle.events.specs.Step.{step}
 use Rattle.order.specs.Run.{log}
 use Rattle.promises.specs.Rearranged.{next_of, after}

@@ -34,7 +34,7 @@ one_byte state s p q = go (row_of s) refl p
         omega (arith, leb-true s.wValue r.value fits, leb-true r.value 255 asked)
 
 -- the setup of the test mode is neither's
-pub one-byte-for : (paired : Bool) (d : Device) (s : Setup) → refusal_for paired d s ≡ 0 → takes_byte s.bRequest ≡ true → s.wValue < 256
-one-byte-for paired d s p q = cases (asks_test_mode paired s)
+pub one_byte_for : (paired : Bool) (d : Device) (s : Setup) → refusal_for paired d s ≡ 0 → takes_byte s.bRequest ≡ true → s.wValue < 256
+one_byte_for paired d s p q = cases (asks_test_mode paired s)
     (λ t. never q (ap takes_byte (eqb-true s.bRequest 3 (both (names_test_mode paired s && eqb s.bmRequestType 0x00) (eqb s.bRequest 0x03) t).1)))
     (λ t. one_byte d.state s (rw t at p) q)

@@ -4,9 +4,20 @@ use Rattle.octets.specs.Octets.{part}
 use Rattle.sets.specs.Opening.{Board}
 use Rattle.records.specs.Current.{set_for}
 use Rattle.records.specs.declared.Device.{Device}
-use Rattle.events.specs.declared.Answer.{Answer}
-use Rattle.events.specs.declared.Answer.TheVariants.{Done, OneByte, TwoBytes, SetPart, SerialPart, Refused}
-use Rattle.events.specs.declared.Outcome.{Outcome}
+
+-- an answer: done, with no, one or two bytes; a part of the set in use, by its offset and length; the serial block's first bytes; a refusal by its number
+pub data Answer : Type 0 where
+  Done : Answer
+  OneByte : ℕ → Answer
+  TwoBytes : ℕ → ℕ → Answer
+  SetPart : ℕ → ℕ → Answer
+  SerialPart : ℕ → Answer
+  Refused : ℕ → Answer
+
+-- an event's answer, and the record that it leaves
+pub record Outcome : Type 0 where
+  pub answer : Answer
+  pub device : Device
 
 abbrev pub number_of : Answer → ℕ
 number_of Done = 0

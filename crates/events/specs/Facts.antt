@@ -13,13 +13,13 @@ use Rattle.events.specs.declared.Event.{Event}
 use Rattle.events.specs.declared.Event.TheVariants.{Request, Malformed, StatusEnd, BusReset, Halt, PacketPassed, Power, Suspend, Resume, Wake}
 use Rattle.events.specs.declared.facts.Facts.{Facts}
 use Rattle.events.specs.declared.reaction.Reaction.{Reaction}
-use Rattle.events.specs.declared.Outcome.{Outcome}
-use Rattle.events.specs.Answer.{gives}
+use Rattle.events.specs.Answer.{Outcome, gives}
+use Rattle.events.specs.Coded.{answer_in}
 use Rattle.events.specs.Requests.{by_recipient, digit, device_feature, names_test_mode, set_test_mode, interface_feature, endpoint_feature, clear_halt, set_halt, locate}
 
 -- ---- a reaction to an event at a record
 abbrev pub outcome_of : Reaction → Device → Outcome
-outcome_of r d = gives r.answer (after r.settles r.next d)
+outcome_of r d = gives (answer_in r.answer) (after r.settles r.next d)
 
 -- an endpoint halted, or its halt and toggle cleared
 abbrev pub with_halt : Bool → Device → ℕ → Device

@@ -1,4 +1,5 @@
 pub mod Answer
+pub mod Coded
 pub mod Requests
 pub mod Facts
 pub mod Step

@@ -13,11 +13,9 @@ use Rattle.records.specs.Device.{in_address, in_configured, at_high_speed, test_
 use Rattle.records.specs.Current.{selected, endpoint_at}
 use Rattle.requests.specs.declared.Setup.{Setup}
 use Rattle.requests.specs.Table.{recipient}
-use Rattle.events.specs.declared.Answer.TheVariants.{OneByte, TwoBytes, SetPart, SerialPart}
 use Rattle.events.specs.declared.facts.Located.{Located}
 use Rattle.events.specs.declared.facts.Located.TheVariants.{Body, Serial, Nowhere}
-use Rattle.events.specs.declared.Outcome.{Outcome}
-use Rattle.events.specs.Answer.{gives, done, refused}
+use Rattle.events.specs.Answer.{OneByte, TwoBytes, SetPart, SerialPart, Outcome, gives, done, refused}
 
 -- the recipient decides: device, interface or endpoint (the table has no other)
 abbrev pub by_recipient : Setup → Outcome → Outcome → Outcome → Outcome

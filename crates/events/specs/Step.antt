@@ -14,12 +14,9 @@ use Rattle.records.specs.Current.{view_at, endpoint_at}
 use Rattle.records.specs.Fits.{fits_on}
 use Rattle.requests.specs.declared.Setup.{Setup}
 use Rattle.requests.specs.Table.{setup_of, refusal}
-use Rattle.events.specs.declared.Answer.{Answer}
-use Rattle.events.specs.declared.Answer.TheVariants.{Refused}
 use Rattle.events.specs.declared.Event.{Event}
 use Rattle.events.specs.declared.Event.TheVariants.{Request, Malformed, StatusEnd, BusReset, Halt, PacketPassed, Power, Suspend, Resume, Wake}
-use Rattle.events.specs.declared.Outcome.{Outcome}
-use Rattle.events.specs.Answer.{done, refused}
+use Rattle.events.specs.Answer.{Answer, Refused, Outcome, done, refused}
 use Rattle.events.specs.Requests.{get_status, clear_feature, names_test_mode, set_feature, set_halt, set_address, get_descriptor, get_configuration, set_configuration, get_interface, set_interface}
 
 -- ---- a setup: the request by its code (the table has no other)

@@ -2,6 +2,7 @@
 use descriptors::survey::Survey;
 
 // Where the descriptor that is asked for lies: a body of the set, the serial block, or nowhere.
+// Kept: Option<Located> would say nowhere by a second tag; the three are matched together, as one enum.
 #[derive(Clone, Copy)]
 pub enum Located {
     Body { offset: u16, length: u16 },
@@ -9,6 +10,7 @@ pub enum Located {
     Nowhere,
 }
 
+// Kept: `configured` beside the survey, since a record whose value no configuration has is judged by the empty survey (records::fits).
 // paired: two sets are lent; configured: the set has a configuration with the record's value; waking: some configuration supports remote wakeup; survey: what the selected configuration has; interface: it has the interface that is asked for;
 // configuration: the set has the value that SET_CONFIGURATION asks for; located: what GET_DESCRIPTOR asks for.
 #[derive(Clone, Copy)]

@@ -12,10 +12,10 @@ ghost use Rattle.events.specs.Requests.{is_endpoint_zero};
 ghost use Rattle.events.specs.Step.{halt, packet_passed};
 ghost use Rattle.events.specs.Facts.{with_halt, outcome_of};
 
+use crate::Refusal;
 use crate::reaction::{Reaction, done, refused};
-use crate::refusals::ENDPOINT_UNFIT;
 use descriptors::Endpoint;
-use descriptors::lookup::{EndpointFound, bit_of};
+use descriptors::lookup::bit_of;
 use records::{Change, Device};
 
 // The addresses of endpoint zero.
@@ -24,6 +24,7 @@ const ZERO_OUT: u16 = 0x00;
 const ZERO_IN: u16 = 0x80;
 
 // The transfer types in bits 1-0 of bmAttributes, from this one on: bulk, interrupt.
+// Kept: two bits of a descriptor's byte that are compared once, and handed on to nobody.
 const BULK: u8 = 2;
 
 // Endpoint zero, by either of its addresses.
@@ -83,33 +84,23 @@ pub fn without(word: u32, bits: u32) -> u32
 }
 
 // The function halts an endpoint.
-pub fn halt(endpoint: EndpointFound, device: Device) -> Reaction
+#[tactic(auto, unfolding(crate::specs::Step::halt))]
+pub fn halt(endpoint: Option<Endpoint>, device: Device) -> Reaction
     ensures { (v : View) (a : ℕ) → endpoint ≡ found (endpoint_at v device a) → outcome_of result device ≡ halt v device a }
 {
     match endpoint {
-        EndpointFound::Nothing => refused(ENDPOINT_UNFIT),
-        EndpointFound::At(e) => {
-            if can_halt(e) {
-                return done(with_halt(true, device, e));
-            }
-            refused(ENDPOINT_UNFIT)
-        }
+        Some(e) if can_halt(e) => done(with_halt(true, device, e)),
+        _ => refused(Refusal::EndpointUnfit),
     }
 }
 
 // A packet has passed at an endpoint: its toggle flips.
-pub fn packet_passed(endpoint: EndpointFound, device: Device) -> Reaction
+#[tactic(auto, unfolding(crate::specs::Step::packet_passed))]
+pub fn packet_passed(endpoint: Option<Endpoint>, device: Device) -> Reaction
     ensures { (v : View) (a : ℕ) → endpoint ≡ found (endpoint_at v device a) → outcome_of result device ≡ packet_passed v device a }
 {
     match endpoint {
-        EndpointFound::Nothing => refused(ENDPOINT_UNFIT),
-        EndpointFound::At(e) => {
-            let fit = can_halt(e);
-            let halted = is_halted(device, e);
-            if fit & !halted {
-                return done(with_toggle(device, e));
-            }
-            refused(ENDPOINT_UNFIT)
-        }
+        Some(e) if can_halt(e) & !is_halted(device, e) => done(with_toggle(device, e)),
+        _ => refused(Refusal::EndpointUnfit),
     }
 }

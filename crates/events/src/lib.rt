@@ -5,12 +5,12 @@ ghost use Rattle.std.specs.Prelude.{◌≡◌};
 ghost use Rattle.events.specs.Step.{setup_event};
 
 use records::Device;
+pub use requests::Refusal;
 use requests::Setup;
 
 pub mod facts;
 pub mod halts;
 pub mod reaction;
-pub mod refusals;
 pub mod reply;
 pub mod respond;
 pub mod standard;
@@ -33,7 +33,7 @@ pub enum Event {
 }
 
 // What an event answers: done, with no, one or two bytes; the part of the set from `offset` on; the serial block's first bytes; or a
-// refusal, under document 01's number. Offset and length are those of an accepted set: small, so that an answer takes little of the stack.
+// refusal. Offset and length are those of an accepted set: small, so that an answer takes little of the stack.
 #[derive(Clone, Copy)]
 pub enum Answer {
     Done,
@@ -41,7 +41,7 @@ pub enum Answer {
     TwoBytes(u8, u8),
     SetPart { offset: u16, length: u16 },
     SerialPart { length: u16 },
-    Refused(u8),
+    Refused(Refusal),
 }
 
 // An event's answer, and the record that it leaves.

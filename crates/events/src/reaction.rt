@@ -3,7 +3,7 @@ ghost use Rattle.std.specs.Prelude.{◌≡◌, true, false};
 ghost use Rattle.records.specs.declared.Change.TheVariants.{Kept};
 ghost use Rattle.events.specs.declared.Answer.TheVariants.{Done, Refused};
 
-use crate::Answer;
+use crate::{Answer, Refusal};
 use records::Change;
 
 // An answer; whether the event is a setup that settles the record; and what else it changes.
@@ -35,21 +35,18 @@ pub fn gives(answer: Answer) -> Reaction
     }
 }
 
-pub fn refused(number: u8) -> Reaction
-    ensures { result ≡ record { answer = Refused number; settles = false; next = Kept } }
+pub fn refused(refusal: Refusal) -> Reaction
+    ensures { result ≡ record { answer = Refused refusal; settles = false; next = Kept } }
 {
-    gives(Answer::Refused(number))
+    gives(Answer::Refused(refusal))
 }
 
 // The reaction of a settled record, to a setup at the record before.
 pub fn settling(reaction: Reaction) -> Reaction
     ensures { result ≡ record { answer = reaction.answer; settles = true; next = reaction.next } }
 {
-    let answer = reaction.answer;
-    let next = reaction.next;
     Reaction {
-        answer,
         settles: true,
-        next,
+        ..reaction
     }
 }

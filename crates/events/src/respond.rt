@@ -7,22 +7,24 @@ ghost use Rattle.events.specs.Answer.{done};
 ghost use Rattle.events.specs.Step.{request, asks_test_mode, test_mode_refusal, refusal_for, answer_setup, status_end, bus_reset, power, wake, respond};
 ghost use Rattle.events.specs.Requests.{digit};
 ghost use Rattle.events.specs.Facts.{question_of, Tells, outcome_of, OneByte};
+ghost use Rattle.requests.specs.Refusal.{number_if_refused};
 
 use crate::facts::Facts;
 use crate::reaction::{Reaction, done, refused, settling};
-use crate::{Event, halts, refusals, standard};
+use crate::{Event, Refusal, halts, standard};
 use records::{Change, Device};
 use requests::Setup;
 
 // The request by its code, past the table's refusals.
+// Kept: `respond` and `get_status` are promised for any record with a wakeup and a power source of 0 or 1, so no type of the record carries that.
+#[tactic(auto, unfolding(crate::specs::Step::request))]
 fn request(facts: Facts, device: Device, setup: Setup) -> Reaction
     requires wakeup_bound { device.wakeup < 2 }
     requires power_bound { device.power < 2 }
     requires one_byte { OneByte setup }
     ensures { (v : View) → Tells v device setup facts → outcome_of result device ≡ request v device setup }
 {
-    let code = setup.bRequest;
-    match code {
+    match setup.bRequest {
         requests::GET_STATUS => standard::get_status(facts, device, setup),
         requests::CLEAR_FEATURE => standard::clear_feature(facts, device, setup),
         requests::SET_FEATURE => standard::set_feature(facts, device, setup),
@@ -45,24 +47,25 @@ fn asks_test_mode(paired: bool, setup: Setup) -> bool
 }
 
 // The test mode passes at high speed in every state, else where other features do; its selector is wIndex's high byte, and the low one is 0.
-fn test_mode_refusal(device: Device, setup: Setup) -> u8
-    ensures { result ≡ test_mode_refusal device setup }
+fn test_mode_refusal(device: Device, setup: Setup) -> Option<Refusal>
+    ensures { number_if_refused result ≡ test_mode_refusal device setup }
 {
     if (device.speed == records::SPEED_HIGH)
         | (device.state == records::ADDRESS)
         | (device.state == records::CONFIGURED)
     {
-        if (setup.wIndex % 256 == 0) & (setup.wLength == 0) {
-            return 0;
+        let [low, _] = setup.wIndex.to_le_bytes();
+        if (low == 0) & (setup.wLength == 0) {
+            return None;
         }
-        return requests::FIELD_WRONG;
+        return Some(Refusal::FieldWrong);
     }
-    requests::NOT_IN_THIS_STATE
+    Some(Refusal::NotInThisState)
 }
 
-// What refuses a setup before its request is asked; 0 if nothing does. The table judges every setup but that of the test mode.
-fn refusal_for(paired: bool, device: Device, setup: Setup) -> u8
-    ensures { result ≡ refusal_for paired device setup }
+// What refuses a setup before its request is asked. The table judges every setup but that of the test mode.
+fn refusal_for(paired: bool, device: Device, setup: Setup) -> Option<Refusal>
+    ensures { number_if_refused result ≡ refusal_for paired device setup }
 {
     if asks_test_mode(paired, setup) {
         return test_mode_refusal(device, setup);
@@ -71,22 +74,24 @@ fn refusal_for(paired: bool, device: Device, setup: Setup) -> u8
 }
 
 // A setup: what waits is dropped, and the device is awake; then the refusal of an entered test mode, the table's refusal, or the request.
+// Kept: the facts, the record and the setup go side by side, as to the requests (`standard`), each of which is lent only those that it reads.
+#[tactic(auto, using(crate::proofs::Rows::one_byte_for), unfolding(crate::specs::Step::answer_setup))]
 fn answer_setup(facts: Facts, device: Device, setup: Setup) -> Reaction
     requires wakeup_bound { device.wakeup < 2 }
     requires power_bound { device.power < 2 }
     ensures { (v : View) → Tells v device setup facts → outcome_of result device ≡ answer_setup v device setup }
 {
     if records::IN_TEST_MODE <= device.speed {
-        return settling(refused(refusals::TEST_MODE_ENTERED));
+        return settling(refused(Refusal::TestModeEntered));
     }
-    let number = refusal_for(facts.paired, device, setup);
-    if number == 0 {
-        return settling(request(facts, records::settled(device), setup));
+    match refusal_for(facts.paired, device, setup) {
+        Some(refusal) => settling(refused(refusal)),
+        None => settling(request(facts, records::settled(device), setup)),
     }
-    settling(refused(number))
 }
 
 // The status stage of a request has ended: a waiting address is taken, a waiting test mode is entered.
+#[tactic(auto, unfolding(crate::specs::Step::status_end))]
 fn status_end(device: Device) -> Reaction
     ensures { outcome_of result device ≡ status_end device }
 {
@@ -98,8 +103,13 @@ fn status_end(device: Device) -> Reaction
         let speed = records::SPEED_HIGH + records::TEST_ENTERED * (waiting - records::TEST_WAITING);
         return done(Change::TestMode(speed));
     }
+    let state = if waiting == 0 {
+        records::DEFAULT
+    } else {
+        records::ADDRESS
+    };
     done(Change::Address {
-        state: (1 <= waiting) as u8,
+        state,
         address: waiting,
     })
 }
@@ -117,7 +127,7 @@ fn bus_reset(paired: bool, speed: u8, device: Device) -> Reaction
             speed,
         });
     }
-    refused(refusals::ENDPOINT_UNFIT)
+    refused(Refusal::EndpointUnfit)
 }
 
 // The power source has changed, or was found.
@@ -127,7 +137,7 @@ fn power(source: u8) -> Reaction
     if source <= 1 {
         return done(Change::Power(source));
     }
-    refused(refusals::ENDPOINT_UNFIT)
+    refused(Refusal::EndpointUnfit)
 }
 
 // The device is suspended from now on, or is not.
@@ -144,7 +154,7 @@ fn wake(device: Device) -> Reaction
     if (device.suspended == 1) & (device.wakeup == 1) {
         return done(Change::Kept);
     }
-    refused(refusals::WAKE_NOT_ALLOWED)
+    refused(Refusal::WakeNotAllowed)
 }
 
 // Every event.
@@ -153,11 +163,10 @@ pub fn respond(facts: Facts, device: Device, event: Event) -> Reaction
     requires power_bound { device.power < 2 }
     ensures { (v : View) → Tells v device (question_of event) facts → outcome_of result device ≡ respond v device event }
 {
-    let survey = facts.survey;
-    let endpoint = survey.endpoint;
+    let endpoint = facts.survey.endpoint;
     match event {
         Event::Request(setup) => answer_setup(facts, device, setup),
-        Event::Malformed => refused(refusals::SETUP_LENGTH_WRONG),
+        Event::Malformed => refused(Refusal::SetupLengthWrong),
         Event::StatusEnd => status_end(device),
         Event::BusReset(speed) => bus_reset(facts.paired, speed, device),
         Event::Halt(_) => halts::halt(endpoint, device),

@@ -1,6 +1,7 @@
 // The standard requests, past the table's refusals: each is a function of the facts, the record and the setup, and its contract says that for every
 // view of which the facts are true the outcome is the definition's.
-ghost use Rattle.std.specs.Prelude.{◌≡◌, ◌<◌, min};
+// Kept: the facts, the record and the setup go side by side, since a request is lent only those that it reads.
+ghost use Rattle.std.specs.Prelude.{◌≡◌, ◌<◌};
 ghost use Rattle.sets.specs.View.{View, has_value, wakes};
 ghost use Rattle.records.specs.declared.Device.{Device};
 ghost use Rattle.events.specs.Requests.{digit, get_status, device_feature, set_test_mode, endpoint_feature, clear_feature, set_feature, set_address, locate, get_descriptor, get_configuration, set_configuration, get_interface, set_interface};
@@ -8,9 +9,7 @@ ghost use Rattle.events.specs.Facts.{Tells, with_halt, feature, outcome_of};
 
 use crate::facts::{Facts, Located};
 use crate::reaction::{Reaction, done, gives, refused};
-use crate::refusals::{DOES_NOT_EXIST, NO_SUCH_FEATURE};
-use crate::{Answer, halts};
-use descriptors::lookup::EndpointFound;
+use crate::{Answer, Refusal, halts};
 use records::{Change, Device};
 use requests::Setup;
 
@@ -21,10 +20,9 @@ const DEVICE_REMOTE_WAKEUP: u16 = 1;
 
 pub const TEST_MODE: u16 = 2;
 
-// The largest test selector.
-const LAST_TEST_MODE: u16 = records::LAST_TEST_MODE as u16;
-
 // GET_STATUS: of the device its power source and wakeup, of an interface 0, of an endpoint its halt.
+// Kept: it is promised for any record with a wakeup and a power source of 0 or 1 (docs/TRACE.md), so no type of the record carries that.
+#[tactic(auto, unfolding(crate::specs::Requests::get_status))]
 pub fn get_status(facts: Facts, device: Device, setup: Setup) -> Reaction
     requires wakeup_bound { device.wakeup < 2 }
     requires power_bound { device.power < 2 }
@@ -38,16 +36,14 @@ pub fn get_status(facts: Facts, device: Device, setup: Setup) -> Reaction
         if facts.interface {
             return gives(Answer::TwoBytes(0, 0));
         }
-        return refused(DOES_NOT_EXIST);
+        return refused(Refusal::DoesNotExist);
     }
     if halts::is_zero(setup.wIndex) {
         return gives(Answer::TwoBytes(0, 0));
     }
-    let survey = facts.survey;
-    let asked = survey.endpoint;
-    match asked {
-        EndpointFound::Nothing => refused(DOES_NOT_EXIST),
-        EndpointFound::At(e) => gives(Answer::TwoBytes(halts::is_halted(device, e) as u8, 0)),
+    match facts.survey.endpoint {
+        Some(e) => gives(Answer::TwoBytes(halts::is_halted(device, e) as u8, 0)),
+        None => refused(Refusal::DoesNotExist),
     }
 }
 
@@ -58,19 +54,21 @@ fn device_feature(on: bool, facts: Facts, setup: Setup) -> Reaction
     if (setup.wValue == DEVICE_REMOTE_WAKEUP) & facts.waking {
         return done(Change::Wakeup(on as u8));
     }
-    refused(NO_SUCH_FEATURE)
+    refused(Refusal::NoSuchFeature)
 }
 
 // The test mode that wIndex's high byte selects: it waits for the status end, at high speed alone.
 fn set_test_mode(device: Device, setup: Setup) -> Reaction
     ensures { outcome_of result device ≡ set_test_mode device setup }
 {
-    let selector = setup.wIndex / 256;
-    if (device.speed == records::SPEED_HIGH) & (1 <= selector) & (selector <= LAST_TEST_MODE) {
-        let waiting = records::TEST_WAITING + selector as u8;
-        return done(Change::Waiting(waiting));
+    let [_, selector] = setup.wIndex.to_le_bytes();
+    if (device.speed == records::SPEED_HIGH)
+        & (1 <= selector)
+        & (selector <= records::LAST_TEST_MODE)
+    {
+        return done(Change::Waiting(records::TEST_WAITING + selector));
     }
-    refused(NO_SUCH_FEATURE)
+    refused(Refusal::NoSuchFeature)
 }
 
 // An endpoint's feature: its halt.
@@ -78,18 +76,14 @@ fn endpoint_feature(on: bool, facts: Facts, device: Device, setup: Setup) -> Rea
     ensures { (v : View) → Tells v device setup facts → outcome_of result device ≡ endpoint_feature (with_halt on) v device setup }
 {
     if halts::is_zero(setup.wIndex) {
-        return refused(NO_SUCH_FEATURE);
+        return refused(Refusal::NoSuchFeature);
     }
-    let survey = facts.survey;
-    let asked = survey.endpoint;
-    match asked {
-        EndpointFound::Nothing => refused(DOES_NOT_EXIST),
-        EndpointFound::At(e) => {
-            if (setup.wValue == ENDPOINT_HALT) & halts::can_halt(e) {
-                return done(halts::with_halt(on, device, e));
-            }
-            refused(NO_SUCH_FEATURE)
+    match facts.survey.endpoint {
+        None => refused(Refusal::DoesNotExist),
+        Some(e) if (setup.wValue == ENDPOINT_HALT) & halts::can_halt(e) => {
+            done(halts::with_halt(on, device, e))
         }
+        Some(_) => refused(Refusal::NoSuchFeature),
     }
 }
 
@@ -106,14 +100,15 @@ fn feature(on: bool, facts: Facts, device: Device, setup: Setup) -> Reaction
     }
     if recipient == requests::INTERFACE {
         if facts.interface {
-            return refused(NO_SUCH_FEATURE);
+            return refused(Refusal::NoSuchFeature);
         }
-        return refused(DOES_NOT_EXIST);
+        return refused(Refusal::DoesNotExist);
     }
     endpoint_feature(on, facts, device, setup)
 }
 
 // CLEAR_FEATURE
+#[tactic(auto, unfolding(crate::specs::Requests::clear_feature))]
 pub fn clear_feature(facts: Facts, device: Device, setup: Setup) -> Reaction
     ensures { (v : View) → Tells v device setup facts → outcome_of result device ≡ clear_feature v device setup }
 {
@@ -121,6 +116,7 @@ pub fn clear_feature(facts: Facts, device: Device, setup: Setup) -> Reaction
 }
 
 // SET_FEATURE
+#[tactic(auto, unfolding(crate::specs::Requests::set_feature))]
 pub fn set_feature(facts: Facts, device: Device, setup: Setup) -> Reaction
     ensures { (v : View) → Tells v device setup facts → outcome_of result device ≡ set_feature v device setup }
 {
@@ -128,6 +124,7 @@ pub fn set_feature(facts: Facts, device: Device, setup: Setup) -> Reaction
 }
 
 // SET_ADDRESS: the address waits for the status end.
+#[tactic(auto, unfolding(crate::specs::Requests::set_address))]
 pub fn set_address(setup: Setup) -> Reaction
     requires { setup.wValue < 256 }
     ensures { (v : View) (d : Device) → outcome_of result d ≡ set_address v d setup }
@@ -135,34 +132,25 @@ pub fn set_address(setup: Setup) -> Reaction
     done(Change::Waiting(setup.wValue as u8))
 }
 
-fn least(a: u16, b: u16) -> u16
-    ensures { result ≡ min a b }
-{
-    if a < b {
-        return a;
-    }
-    b
-}
-
 // GET_DESCRIPTOR: never more than wLength bytes, from the start of the body.
+#[tactic(auto, unfolding(crate::specs::Requests::get_descriptor))]
 pub fn get_descriptor(facts: Facts, setup: Setup) -> Reaction
     ensures { (v : View) (d : Device) → facts.located ≡ locate v setup → outcome_of result d ≡ get_descriptor v d setup }
 {
-    let located = facts.located;
-    match located {
-        Located::Body { offset, length } => {
-            let length = least(length, setup.wLength);
-            gives(Answer::SetPart { offset, length })
-        }
-        Located::Serial { length } => {
-            let length = least(length, setup.wLength);
-            gives(Answer::SerialPart { length })
-        }
-        Located::Nowhere => refused(DOES_NOT_EXIST),
+    match facts.located {
+        Located::Body { offset, length } => gives(Answer::SetPart {
+            offset,
+            length: length.min(setup.wLength),
+        }),
+        Located::Serial { length } => gives(Answer::SerialPart {
+            length: length.min(setup.wLength),
+        }),
+        Located::Nowhere => refused(Refusal::DoesNotExist),
     }
 }
 
 // GET_CONFIGURATION
+#[tactic(auto, unfolding(crate::specs::Requests::get_configuration))]
 pub fn get_configuration(device: Device) -> Reaction
     ensures { (v : View) (s : Setup) → outcome_of result device ≡ get_configuration v device s }
 {
@@ -170,6 +158,7 @@ pub fn get_configuration(device: Device) -> Reaction
 }
 
 // SET_CONFIGURATION by value; 0 leads to Address.
+#[tactic(auto, unfolding(crate::specs::Requests::set_configuration))]
 pub fn set_configuration(facts: Facts, setup: Setup) -> Reaction
     requires { setup.wValue < 256 }
     ensures { (v : View) (d : Device) → facts.configuration ≡ has_value (record { 0 = setup.wValue }) v.configurations → outcome_of result d ≡ set_configuration v d setup }
@@ -187,27 +176,29 @@ pub fn set_configuration(facts: Facts, setup: Setup) -> Reaction
             value,
         });
     }
-    refused(DOES_NOT_EXIST)
+    refused(Refusal::DoesNotExist)
 }
 
 // GET_INTERFACE
+#[tactic(auto, unfolding(crate::specs::Requests::get_interface))]
 pub fn get_interface(facts: Facts, device: Device, setup: Setup) -> Reaction
     ensures { (v : View) → Tells v device setup facts → outcome_of result device ≡ get_interface v device setup }
 {
     if facts.interface {
-        let alternates = device.alternates;
-        let alternate = octets::peek(&alternates[..], setup.wIndex as usize);
+        let alternate = octets::peek(&device.alternates, setup.wIndex as usize);
         return gives(Answer::OneByte(alternate));
     }
-    refused(DOES_NOT_EXIST)
+    refused(Refusal::DoesNotExist)
 }
 
 // SET_INTERFACE: halts and toggles of the endpoints of the old and the new setting are cleared. A setting that is there has small numbers.
+#[tactic(auto, unfolding(crate::specs::Requests::set_interface))]
 pub fn set_interface(facts: Facts, device: Device, setup: Setup) -> Reaction
     ensures { (v : View) → Tells v device setup facts → outcome_of result device ≡ set_interface v device setup }
 {
     let survey = facts.survey;
     if survey.there {
+        // Kept: `% 16` shows that the casts lose nothing; it changes no number, since those of a setting that is there are small.
         return done(Change::Setting {
             interface: (setup.wIndex % 16) as u8,
             alternate: (setup.wValue % 16) as u8,
@@ -215,5 +206,5 @@ pub fn set_interface(facts: Facts, device: Device, setup: Setup) -> Reaction
             toggles: halts::without(device.toggles, survey.bits),
         });
     }
-    refused(DOES_NOT_EXIST)
+    refused(Refusal::DoesNotExist)
 }

@@ -11,12 +11,9 @@ use Rattle.records.specs.Image.{device_of, image_of}
 use Rattle.records.specs.Current.{view_at, endpoint_at}
 use Rattle.records.specs.Fits.{fits_on}
 use Rattle.records.proofs.Image.{device-image}
-use Rattle.events.specs.declared.Answer.{Answer}
-use Rattle.events.specs.declared.Answer.TheVariants.{Done, OneByte, TwoBytes, SetPart, SerialPart, Refused}
 use Rattle.events.specs.declared.Event.{Event}
 use Rattle.events.specs.declared.Event.TheVariants.{Request, Malformed, StatusEnd, BusReset, Halt, PacketPassed, Power, Suspend, Resume, Wake}
-use Rattle.events.specs.declared.Outcome.{Outcome}
-use Rattle.events.specs.Answer.{number_of, bytes_of, part_of, bytes_at}
+use Rattle.events.specs.Answer.{Answer, Done, OneByte, TwoBytes, SetPart, SerialPart, Refused, Outcome, number_of, bytes_of, part_of, bytes_at}
 use Rattle.events.specs.Step.{good_reset, step, event, respond, status_end, halt, packet_passed, halt_at, pass_at}
 use Rattle.set_writer.proofs.Stream.{two_bytes}
 use Rattle.laws.proofs.Outcomes.{chosen}

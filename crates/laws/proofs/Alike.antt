@@ -11,14 +11,11 @@ use Rattle.records.specs.Device.{in_default, in_address, in_configured, nothing,
 use Rattle.records.specs.Current.{selected_in, selected, endpoint_at}
 use Rattle.requests.specs.declared.Setup.{Setup}
 use Rattle.requests.specs.Table.{recipient}
-use Rattle.events.specs.declared.Answer.{Answer}
-use Rattle.events.specs.declared.Answer.TheVariants.{OneByte, TwoBytes, Refused}
 use Rattle.events.specs.declared.facts.Located.{Located}
 use Rattle.events.specs.declared.facts.Located.TheVariants.{Body, Serial, Nowhere}
-use Rattle.events.specs.declared.Outcome.{Outcome}
 use Rattle.events.specs.declared.Event.{Event}
 use Rattle.events.specs.declared.Event.TheVariants.{Request, Malformed, StatusEnd, BusReset, Halt, PacketPassed, Power, Suspend, Resume, Wake}
-use Rattle.events.specs.Answer.{gives, done, refused}
+use Rattle.events.specs.Answer.{Answer, OneByte, TwoBytes, Refused, Outcome, gives, done, refused}
 use Rattle.events.specs.Requests.{by_recipient, get_status, endpoint_status, is_endpoint_zero, digit, device_feature, names_test_mode, test_selector, set_test_mode, interface_feature, halt_feature, endpoint_feature, clear_halt, set_halt, clear_feature, set_feature, set_address, locate, describe, get_descriptor, get_configuration, set_configuration, get_interface, with_setting, set_interface}
 use Rattle.events.specs.Step.{request, refusal_for, answer_setup, status_end, good_reset, bus_reset, halt_at, halt, pass_at, packet_passed, power, wake, respond}
 use Rattle.events.specs.Concerns.{setup_concerns, the_device, subject_of, event_concerns}

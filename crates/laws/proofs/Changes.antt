@@ -13,7 +13,7 @@ use Rattle.records.specs.Device.{in_default, in_address, in_configured, nothing,
 use Rattle.records.specs.Current.{set_for, set_at, view_for, view_at, selected, current_endpoints}
 use Rattle.records.specs.Fits.{good_speed, stands_at}
 use Rattle.events.specs.declared.Event.{Event}
-use Rattle.events.specs.declared.Outcome.{Outcome}
+use Rattle.events.specs.Answer.{Outcome}
 use Rattle.events.specs.Step.{good_reset}
 use Rattle.events.specs.Requests.{clear_halt, set_halt, with_setting}
 use Rattle.sets.specs.Sound.{Sound}

@@ -12,9 +12,7 @@ use Rattle.records.specs.Fits.{fits_on}
 use Rattle.requests.specs.Table.{recipient}
 use Rattle.events.specs.declared.Event.{Event}
 use Rattle.events.specs.declared.Event.TheVariants.{Request, Malformed, StatusEnd, BusReset, Halt, PacketPassed, Power, Suspend, Resume, Wake}
-use Rattle.events.specs.Answer.{number_of}
-use Rattle.events.specs.declared.Answer.{Answer}
-use Rattle.events.specs.declared.Outcome.{Outcome}
+use Rattle.events.specs.Answer.{Answer, Outcome, number_of}
 use Rattle.events.specs.Step.{respond}
 use Rattle.events.specs.Concerns.{Subject, a_setup, an_endpoint, the_device, subject_of, subject_concerns, event_concerns, concerns, concerns_on}
 use Rattle.order.specs.Owners.{Owners}

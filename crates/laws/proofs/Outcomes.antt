@@ -17,14 +17,11 @@ use Rattle.records.specs.Current.{selected, current_endpoints, endpoint_at}
 use Rattle.requests.specs.declared.Setup.{Setup}
 use Rattle.requests.specs.declared.Row.{Row}
 use Rattle.requests.specs.Table.{recipient, request_table, row_of, in_state, fields_fit, refusal_at, refusal}
-use Rattle.events.specs.declared.Answer.{Answer}
-use Rattle.events.specs.declared.Answer.TheVariants.{Done, SetPart, SerialPart}
 use Rattle.events.specs.declared.Event.{Event}
 use Rattle.events.specs.declared.Event.TheVariants.{Request, Malformed, StatusEnd, BusReset, Halt, PacketPassed, Power, Suspend, Resume, Wake}
 use Rattle.events.specs.declared.facts.Located.{Located}
 use Rattle.events.specs.declared.facts.Located.TheVariants.{Body, Serial, Nowhere}
-use Rattle.events.specs.declared.Outcome.{Outcome}
-use Rattle.events.specs.Answer.{number_of, part_of, gives, done, refused}
+use Rattle.events.specs.Answer.{Answer, Done, SetPart, SerialPart, Outcome, number_of, part_of, gives, done, refused}
 use Rattle.events.specs.Requests.{by_recipient, is_endpoint_zero, device_feature, names_test_mode, test_selector, set_test_mode, interface_feature, endpoint_feature, endpoint_status, halt_feature, clear_halt, set_halt, is_entry, body_at, by_index, language_for, locate_string, locate, describe, with_setting, get_status, clear_feature, set_feature, set_address, get_descriptor, get_configuration, set_configuration, get_interface, set_interface}
 use Rattle.events.specs.Step.{request, refusal_for, answer_setup, status_end, good_reset, halt_at, halt, pass_at, packet_passed, respond}
 

@@ -16,8 +16,7 @@ use Rattle.records.specs.Image.{device_of, image_of, settled_image}
 use Rattle.requests.specs.declared.Setup.{Setup}
 use Rattle.events.specs.declared.Event.{Event}
 use Rattle.events.specs.declared.Event.TheVariants.{Request}
-use Rattle.events.specs.declared.Outcome.{Outcome}
-use Rattle.events.specs.Answer.{number_of, part_of, refused, InsideAt}
+use Rattle.events.specs.Answer.{Outcome, number_of, part_of, refused, InsideAt}
 use Rattle.laws.proofs.Outcomes.{reads, from_set, from_serial, changes, refused_with, in_test, Refusable, Responded, answers, leaves, becomes, refuses}
 
 -- an outcome by its number: done; a setup refused by its rules or in a test mode, once it has settled; or a refusal that settles nothing

@@ -12,7 +12,7 @@ use Rattle.records.specs.Device.{in_test_mode, awake, settled, with_endpoints}
 use Rattle.records.specs.Current.{selected, endpoint_at}
 use Rattle.requests.specs.declared.Setup.{Setup}
 use Rattle.requests.specs.Table.{recipient}
-use Rattle.events.specs.declared.Outcome.{Outcome}
+use Rattle.events.specs.Answer.{Outcome}
 use Rattle.events.specs.declared.Event.{Event}
 use Rattle.events.specs.declared.Event.TheVariants.{Request, Malformed, StatusEnd, BusReset, Halt, PacketPassed, Power, Suspend, Resume, Wake}
 use Rattle.events.specs.Requests.{get_status, endpoint_status, is_endpoint_zero, interface_feature, halt_feature, endpoint_feature, clear_halt, set_halt, clear_feature, set_feature, get_interface, with_setting, set_interface}

@@ -13,8 +13,7 @@ use Rattle.records.specs.Current.{view_at, selected_in}
 use Rattle.records.specs.Fits.{fits_on}
 use Rattle.events.specs.declared.Event.{Event}
 use Rattle.events.specs.declared.Event.TheVariants.{Request, Malformed, StatusEnd, BusReset, Halt, PacketPassed, Power, Suspend, Resume, Wake}
-use Rattle.events.specs.declared.Answer.{Answer}
-use Rattle.events.specs.Answer.{number_of}
+use Rattle.events.specs.Answer.{Answer, number_of}
 use Rattle.events.specs.Concerns.{concerns_on}
 
 -- a record that fits, of the size that the code has

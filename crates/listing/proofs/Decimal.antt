@@ -8,18 +8,14 @@ digits_more : (n x : ℕ) → digits (suc n) x ≡ pick (ltb x 10) ((48 + x) ∷
 unfolding digits
 digits_more n x = refl
 
--- the last digit, and the last two, three and four, as far as the number has them
+-- the last digit
 abbrev pub last : ℕ → List ℕ
 last x = (48 + x % 10) ∷ []
 
-abbrev pub last_two : ℕ → List ℕ
-last_two x = lead 10 x ++ last x
-
-abbrev pub last_three : ℕ → List ℕ
-last_three x = lead 100 x ++ last_two x
-
-abbrev pub last_four : ℕ → List ℕ
-last_four x = lead 1000 x ++ last_three x
+-- and those from some powers of ten on, as far as the number has them
+abbrev pub from_powers : List ℕ → ℕ → List ℕ
+from_powers [] x = last x
+from_powers (p ∷ ps) x = lead p x ++ from_powers ps x
 
 short : (n x : ℕ) → x < 10 → digits (suc n) x ≡ last x
 short n x h = let e : x ≡ x % 10 = omega arith in digits_more n x ∙ rw (lt-ltb x 10 h) (ap (λ k. (48 + k) ∷ []) e)
@@ -64,7 +60,7 @@ lead-ten p x = go (leb p (x / 10)) refl
     go true q = let l = leb-true p (x / 10) q in rw (q, le-leb (10 * p) x (omega arith), div-div-eq-div-mul)
     go false q = let l = leb-false p (x / 10) q in rw (q, lt-leb (10 * p) x (omega arith))
 
-pub spelled : (x : ℕ) → x < 65536 → decimal x ≡ lead 10000 x ++ last_four x
+pub spelled : (x : ℕ) → x < 65536 → decimal x ≡ from_powers (10000 ∷ 1000 ∷ 100 ∷ 10 ∷ []) x
 spelled x h =
     let a = lead-ten 10 x in
     let b = lead-ten 10 (x / 10) ∙ lead-ten 100 x in

@@ -18,7 +18,7 @@ use Rattle.descriptors.specs.declared.walk.Stand.{Stand}
 use Rattle.descriptors.proofs.GoodBody.{GoodDescriptors, good-cut, good-body}
 use Rattle.descriptors.proofs.Walks.{collected-flat}
 use Rattle.descriptors.proofs.Ahead.{at_first}
-use Rattle.buffers.proofs.Written.{one_more}
+use Rattle.std.proofs.lemmas.List.{at_drop_more}
 
 -- ---- the fields of a line
 fields-more : (x : ℕ) (xs : List ℕ) → fields (x ∷ xs) ≡ 32 ∷ decimal x ++ fields xs
@@ -30,7 +30,7 @@ unfolding fields
 fields-none = refl
 
 pub next_field : (xs : List ℕ) (i : ℕ) → i < length xs → fields (drop i xs) ≡ (32 ∷ []) ++ (decimal (get_or xs i 0) ++ fields (drop (i + 1) xs))
-next_field xs i h = ap fields (one_more xs i h) ∙ fields-more (get_or xs i 0) (drop (i + 1) xs)
+next_field xs i h = at_drop_more fields xs i 0 h ∙ fields-more (get_or xs i 0) (drop (i + 1) xs)
 
 pub no_field : (xs : List ℕ) (i : ℕ) → length xs ≤ i → fields (drop i xs) ≡ 10 ∷ []
 no_field xs i h = ap fields (drop_of_length-le xs h) ∙ fields-none

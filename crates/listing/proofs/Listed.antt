@@ -1,5 +1,5 @@
 -- The text of a board that is refused and of one that is accepted, and a whole text at a buffer's start. No axiom.
-use Rattle.octets.proofs.Vocabulary.{◌≡◌, sym, ap, ◌∙◌, ℕ, ◌≤◌, List, [], ◌∷◌, true, length, length-sets, sets-eq, length-take-le, arith, zero-add, eq-eqb, ne_eqb}
+use Rattle.octets.proofs.Vocabulary.{◌≡◌, sym, ap, ◌∙◌, ℕ, ◌+◌, ◌≤◌, List, [], ◌∷◌, true, length, sets, length-sets, sets-eq, length-take-le, arith, zero-add, eq-eqb, ne_eqb}
 use Rattle.octets.specs.Sentences.{every}
 use Rattle.descriptors.specs.declared.limits.Limits.{Limits}
 use Rattle.descriptors.specs.Configuration.{good_configuration}
@@ -7,7 +7,8 @@ use Rattle.sets.specs.Contents.{bodies}
 use Rattle.sets.specs.Opening.{Board, opening}
 use Rattle.sets.proofs.Groups.{groups, each-rule}
 use Rattle.listing.specs.Listing.{line, refused_word, accepted_lines, listing}
-use Rattle.buffers.specs.Written.{Room, Wrote}
+use Rattle.buffers.specs.declared.Writer.{Writer}
+use Rattle.buffers.specs.Written.{Wrote}
 use Rattle.listing.specs.Listed.{room, Listed}
 use Rattle.listing.proofs.Bound.{listing-length}
 
@@ -25,18 +26,20 @@ module _ (limits : Limits) (b : Board) (n : ℕ) (o : n ≡ opening limits b) wh
   good p = (limits, (each-rule limits b.set (groups limits b (sym o ∙ p)).configurations).good)
 
 -- its text, in a buffer that is long enough for any
-module _ (limits : Limits) (b : Board) (text : List ℕ) (e : listing limits b ≡ text) (out : List ℕ) (h : room ≤ length out) where
-  pub enough : Room out 0 text
-  enough = omega (arith, listing-length limits b, ap length e)
+module _ (limits : Limits) (b : Board) (out : List ℕ) (h : room ≤ length out) where
+  pub enough : 0 + length (listing limits b) ≤ length out
+  enough = omega (arith, listing-length limits b)
 
-  pub listed : {after : List ℕ} {end : ℕ} → Wrote out 0 text after end → Listed limits b out after end
-  listed {after} {end} w =
-      let size : end ≡ length text = w.place ∙ zero-add (length text) in
-      let kept : length after ≡ length out = ap length w.bytes ∙ length-sets out 0 text in
-      let fits : end ≤ length after = omega (arith, enough) in
+  pub listed : {w is : Writer} {after : List ℕ} → w.at ≡ 0 → w.out.now ≡ out → Wrote w (listing limits b) is → after ≡ is.out.now → Listed limits b out after is.at
+  listed {w} {is} {after} z given r left =
+      let text = listing limits b in
+      let bytes : after ≡ sets out 0 text = left ∙ r.bytes ∙ rw (z, given) in
+      let size : is.at ≡ length text = omega (arith, r.place, z) in
+      let kept : length after ≡ length out = ap length bytes ∙ length-sets out 0 text in
+      let fits : is.at ≤ length after = omega (arith, enough) in
       record {
-        text = w.bytes ∙ sets-eq text out 0 enough ∙ rw (zero-add, e);
-        end = size ∙ rw e;
+        text = bytes ∙ sets-eq text out 0 enough ∙ rw zero-add;
+        end = size;
         inside = fits;
-        whole = sym (length-take-le end after fits);
+        whole = sym (length-take-le is.at after fits);
       }

@@ -10,6 +10,7 @@
 mod explain;
 mod export;
 mod import;
+mod parts;
 mod told;
 mod trim;
 mod write;
@@ -20,39 +21,27 @@ use std::io;
 
 // The words that take a set and its serial block.
 fn work_on_set(
-    rt: &(impl Env + Files + Print + Eprint),
+    rt: &(impl Env + Files + Print + Eprint + AllocGlobal),
     set: &mut [u8],
     serial: &[u8],
 ) -> io::Result<()> {
-    if files::is_argument(rt, 1, b"export") {
-        return export::export(rt, set, serial);
+    match files::argument(rt, 1)?.as_str() {
+        "export" => export::export(rt, set, serial),
+        "trim" => trim::trim(rt, set, serial),
+        "explain" => explain::explain(rt, write::limits(rt)?, set, serial),
+        _ => println!(rt; "maker write [super] | import | export | trim | explain [super | pair]"),
     }
-    if files::is_argument(rt, 1, b"trim") {
-        return trim::trim(rt, set, serial);
-    }
-    if files::is_argument(rt, 1, b"explain") {
-        return explain::explain(rt, set, serial);
-    }
-    files::say(
-        rt,
-        b"maker write [super] | import | export | trim | explain [super | pair]\n",
-    )
 }
 
 fn main(rt: HostRuntime) -> io::Result<()> {
-    if files::is_argument(&rt, 1, b"write") {
-        return write::run(&rt);
-    }
-    if files::is_argument(&rt, 1, b"import") {
-        return import::run(&rt);
-    }
-    if files::is_argument(&rt, 1, b"explain") && files::is_argument(&rt, 2, b"pair") {
-        return explain::run_pair(&rt);
+    match files::argument(&rt, 1)?.as_str() {
+        "write" => return write::run(&rt),
+        "import" => return import::run(&rt),
+        "explain" if files::argument(&rt, 2)?.as_str() == "pair" => return explain::run_pair(&rt),
+        _ => {}
     }
     // One byte more than any set, and more than any serial block may have: a longer file breaks a rule too.
-    let mut set = [0u8; 16385];
-    let mut serial = [0u8; 256];
-    let size = files::read(&rt, "set.bin", &mut set);
-    let serial_size = files::read(&rt, "unit.bin", &mut serial);
-    work_on_set(&rt, &mut set[..size], &serial[..serial_size])
+    let mut set = files::contents(&rt, "set.bin", 16385)?;
+    let serial = files::contents(&rt, "unit.bin", 256)?;
+    work_on_set(&rt, &mut set, &serial)
 }

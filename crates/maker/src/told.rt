@@ -1,208 +1,137 @@
 // What a maker is told of a refusal: its number, why, and each piece that stands in the way, counted from 1, with its place in pieces.bin.
-ghost use Rattle.std.specs.Prelude.{◌<◌, ◌≤◌, length};
-
-use crate::write::limits;
+use crate::parts::{Kind, Part, parts};
+use descriptors::limits::Limits;
 use descriptors::types;
-use files::{say, tell};
-use std::env::Env;
+use set_writer::{NotWritten, pieces};
+use sets::opening::Broken;
 use std::io;
 
-// What opening says of a set, under the header's names.
-const CONTENTS_BROKEN: u8 = 2;
-
-pub const DEVICE_BROKEN: u8 = 3;
-
-const CONFIGURATION_BROKEN: u8 = 4;
-
-const STRING_BROKEN: u8 = 5;
-
-const SERIAL_BROKEN: u8 = 6;
-
-// Where the piece behind the one at a place begins; the stream's end, where that one does not end.
-fn next(stream: &[u8], at: usize) -> usize
-    requires { at < length stream.now }
-    ensures { (at < result) × (result ≤ length stream.now) }
-{
-    let size = set_writer::pieces::size_at(stream, at);
-    if stream.len() - at < size {
-        return stream.len();
+// First a refusal's number, and the opening number that says why.
+// Kept: both are numbers, 0 for no opening number, since nothing is done with them but that they are printed, as the calls for C give them.
+pub fn tell_number(rt: &impl Print, number: u8, opening: u8) -> io::Result<()> {
+    print!(rt; "refused {number}")?;
+    if opening != 0 {
+        print!(rt; ": the opener would refuse the set with {opening}")?;
     }
-    at + size
+    println!(rt)
 }
 
-fn is_alike(stream: &[u8], x: usize, y: usize) -> bool {
-    let p = buffers::tail(stream, x);
-    let q = buffers::tail(stream, y);
-    (octets::word(p, 0) == octets::word(q, 0)) & (octets::word(p, 2) == octets::word(q, 2))
-}
-
-// The place of the first piece with this one's type, index and language: an earlier one's, or its own.
-fn first_alike(stream: &[u8], at: usize) -> usize {
-    let mut from = 0;
-    while from < stream.len() {
-        if is_alike(stream, from, at) {
-            return from;
-        }
-        from = next(stream, from);
-    }
-    at
-}
-
-fn say_piece(rt: &impl Print, n: usize, at: usize, what: &[u8]) -> io::Result<()> {
-    tell(rt, b"    piece ", n, b" at byte ")?;
-    tell(rt, b"", at, what)
+// Whether two pieces have the same type, index and language.
+fn are_alike(one: Part, other: Part) -> bool {
+    octets::word(one.rest, 0) == octets::word(other.rest, 0)
+        && octets::word(one.rest, 2) == octets::word(other.rest, 2)
 }
 
 // 20: the piece that does not end.
-fn tell_broken(rt: &impl Print, stream: &[u8], n: usize, at: usize) -> io::Result<()> {
-    let size = set_writer::pieces::size_at(stream, at);
-    let left = buffers::tail(stream, at).len();
-    if left < size {
-        say_piece(rt, n, at, b" should have ")?;
-        tell(rt, b"", size, b" bytes, and ")?;
-        tell(rt, b"", left, b" are left\n")?;
+fn tell_broken(rt: &impl Print, piece: Part) -> io::Result<()> {
+    if piece.whole {
+        return Ok(());
     }
-    Ok(())
+    let size = piece.size;
+    let left = piece.rest.len();
+    println!(rt; "{piece} should have {size} bytes, and {left} are left")
 }
 
 // 21, and no set is made: the first piece that is too much.
-fn tell_large(rt: &impl Print, n: usize, at: usize, end: usize) -> io::Result<()> {
-    if n == 65 {
-        return say_piece(rt, n, at, b" is one too many: a set has at most 64\n");
+fn tell_large(rt: &impl Print, piece: Part) -> io::Result<()> {
+    if piece.n == 65 {
+        return println!(rt; "{piece} is one too many: a set has at most 64");
     }
-    if n < 65 {
+    if piece.n < 65 {
         // Where n pieces may end in the stream: each has 6 bytes of its own there, and 8 in the set behind the first 4.
-        let room = 16380 - 2 * n;
-        if (at <= room + 2) & (room < end) {
-            say_piece(
-                rt,
-                n,
-                at,
-                b" is too much: with it the set has over 16,384 bytes\n",
-            )?;
+        let room = 16380 - 2 * piece.n;
+        if piece.at <= room + 2 && room < piece.end {
+            return println!(rt; "{piece} is too much: with it the set has over 16,384 bytes");
         }
     }
     Ok(())
-}
-
-fn is_entry(rt: &impl Env, its_type: u8) -> bool {
-    let limits = limits(rt);
-    descriptors::limits::is_named(limits.entries, its_type)
-}
-
-// The last of the types that the kind of set has.
-fn say_last(rt: &(impl Env + Print)) -> io::Result<()> {
-    if is_entry(rt, 15) {
-        return say(rt, b", 3 and 15\n");
-    }
-    say(rt, b" and 3\n")
 }
 
 // 21, and the opener would say 2: offsets and order are the writer's, so it is the type, the length, or a piece that was there before.
-fn tell_entry(rt: &(impl Env + Print), stream: &[u8], n: usize, at: usize) -> io::Result<()> {
-    if !is_entry(rt, octets::peek(buffers::tail(stream, at), 0)) {
-        say_piece(rt, n, at, b" has a type other than 1, 2")?;
-        say_last(rt)?;
+fn tell_entry(rt: &impl Print, limits: Limits, all: &[Part], piece: Part) -> io::Result<()> {
+    if !descriptors::limits::is_named(limits.entries, octets::peek(piece.rest, 0)) {
+        let last = if descriptors::limits::is_named(limits.entries, types::BOS) {
+            ", 3 and 15"
+        } else {
+            " and 3"
+        };
+        println!(rt; "{piece} has a type other than 1, 2{last}")?;
     }
-    if set_writer::pieces::body_at(stream, at).len() < 2 {
-        say_piece(rt, n, at, b" has a body of less than 2 bytes\n")?;
+    if pieces::body_at(piece.rest, 0).len() < 2 {
+        println!(rt; "{piece} has a body of less than 2 bytes")?;
     }
-    let first = first_alike(stream, at);
-    if first != at {
-        say_piece(
-            rt,
-            n,
-            at,
-            b" has the type, index and language of the one at byte ",
-        )?;
-        tell(rt, b"", first, b"\n")?;
+    match all.iter().find(|other| are_alike(**other, piece)) {
+        Some(first) if first.at != piece.at => {
+            let at = first.at;
+            println!(rt; "{piece} has the type, index and language of the one at byte {at}")
+        }
+        _ => Ok(()),
     }
-    Ok(())
 }
 
 // 21, and the opener would say 3, 4 or 5: the pieces of that type; of the configurations those that break a rule by themselves.
-fn tell_body(
-    rt: &(impl Env + Print),
-    stream: &[u8],
-    n: usize,
-    at: usize,
-    opening: u8,
-) -> io::Result<()> {
-    let its_type = octets::peek(buffers::tail(stream, at), 0);
-    if (opening == DEVICE_BROKEN) & (its_type == types::DEVICE) {
-        say_piece(rt, n, at, b" is a device\n")?;
-    }
-    if (opening == DEVICE_BROKEN) & (its_type == types::BOS) {
-        say_piece(rt, n, at, b" is a BOS\n")?;
-    }
-    if (opening == STRING_BROKEN) & (its_type == types::STRING) {
-        say_piece(rt, n, at, b" is a string\n")?;
-    }
-    if (opening == CONFIGURATION_BROKEN) & (its_type == types::CONFIGURATION) {
-        let body = set_writer::pieces::body_at(stream, at);
-        let verdict = descriptors::check::good_configuration(body, limits(rt), &[0; 8]);
-        if verdict.good {
-            return say_piece(rt, n, at, b" is a configuration, good by itself\n");
+fn tell_body(rt: &impl Print, limits: Limits, piece: Part, broken: Broken) -> io::Result<()> {
+    match (broken, octets::peek(piece.rest, 0)) {
+        (Broken::Device, types::DEVICE) => println!(rt; "{piece} is a device"),
+        (Broken::Device, types::BOS) => println!(rt; "{piece} is a BOS"),
+        (Broken::Strings, types::STRING) => println!(rt; "{piece} is a string"),
+        (Broken::Configuration, types::CONFIGURATION) => {
+            let body = pieces::body_at(piece.rest, 0);
+            let verdict = descriptors::check::good_configuration(body, limits, &[0; 8]);
+            if verdict.good {
+                return println!(rt; "{piece} is a configuration, good by itself");
+            }
+            println!(rt; "{piece} is a configuration that breaks a rule by itself")
         }
-        say_piece(
-            rt,
-            n,
-            at,
-            b" is a configuration that breaks a rule by itself\n",
-        )?;
+        _ => Ok(()),
     }
-    Ok(())
 }
 
 fn tell_piece(
-    rt: &(impl Env + Print),
-    stream: &[u8],
-    n: usize,
-    at: usize,
-    number: u8,
-    opening: u8,
-) -> io::Result<()>
-    requires { at < length stream.now }
-{
-    if number == set_writer::PIECES_BROKEN {
-        return tell_broken(rt, stream, n, at);
+    rt: &impl Print,
+    limits: Limits,
+    all: &[Part],
+    piece: Part,
+    why: NotWritten,
+) -> io::Result<()> {
+    match why {
+        NotWritten::PiecesBroken => tell_broken(rt, piece),
+        NotWritten::SetRefused(Some(Broken::Contents)) => tell_entry(rt, limits, all, piece),
+        NotWritten::SetRefused(Some(broken)) => tell_body(rt, limits, piece, broken),
+        NotWritten::SetRefused(None) | NotWritten::BufferTooShort => tell_large(rt, piece),
     }
-    if opening == 0 {
-        return tell_large(rt, n, at, next(stream, at));
-    }
-    if opening == CONTENTS_BROKEN {
-        return tell_entry(rt, stream, n, at);
-    }
-    tell_body(rt, stream, n, at, opening)
 }
 
-fn tell_pieces(rt: &(impl Env + Print), stream: &[u8], number: u8, opening: u8) -> io::Result<()> {
-    let mut n = 1;
-    let mut at = 0;
-    while at < stream.len() {
-        tell_piece(rt, stream, n, at, number, opening)?;
-        at = next(stream, at);
-        n += 1;
+// What stands in the way of the whole.
+fn tell_whole(rt: &impl Print, limits: Limits, why: NotWritten) -> io::Result<()> {
+    match why {
+        NotWritten::SetRefused(Some(Broken::Device))
+            if descriptors::limits::is_named(limits.entries, types::BOS) => {
+            println!(rt;
+                "    a SuperSpeed set has one device, and one BOS of at least 5 bytes with its length in bytes 2 and 3"
+            )
+        }
+        NotWritten::SetRefused(Some(Broken::Serial)) => {
+            println!(rt; "    unit.bin is not the serial block that the device asks for")
+        }
+        _ => Ok(()),
+    }
+}
+
+pub fn refused(
+    rt: &(impl Print + AllocGlobal),
+    limits: Limits,
+    stream: &[u8],
+    why: NotWritten,
+) -> io::Result<()> {
+    tell_number(rt, why.number(), why.opening())?;
+    if stream.is_empty() {
+        println!(rt; "    there are no pieces")?;
+    }
+    tell_whole(rt, limits, why)?;
+    let all = parts(rt.alloc(), Kind::Piece, stream, 0)?;
+    for piece in &all {
+        tell_piece(rt, limits, &all, *piece, why)?;
     }
     Ok(())
-}
-
-pub fn refused(rt: &(impl Env + Print), stream: &[u8], number: u8, opening: u8) -> io::Result<()> {
-    files::tell_refused(rt, number, opening)?;
-    if stream.len() == 0 {
-        say(rt, b"    there are no pieces\n")?;
-    }
-    if (opening == DEVICE_BROKEN) & is_entry(rt, types::BOS) {
-        say(
-            rt,
-            b"    a SuperSpeed set has one device, and one BOS of at least 5 bytes with its length in bytes 2 and 3\n",
-        )?;
-    }
-    if opening == SERIAL_BROKEN {
-        say(
-            rt,
-            b"    unit.bin is not the serial block that the device asks for\n",
-        )?;
-    }
-    tell_pieces(rt, stream, number, opening)
 }

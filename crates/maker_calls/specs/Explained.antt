@@ -12,7 +12,8 @@ use Rattle.rules.specs.Explained.{findings, is_broken, fault_of, inside, lent_fo
 use Rattle.pair_rules.specs.Explained.{Placed, findings_two, is_broken_there, lent_as, told_two, explained_two}
 use Rattle.maker_laws.specs.RuleNamed.{NamesFirst, holds_here, holds_there}
 use Rattle.maker_laws.proofs.RuleFirst.{names-first, all_hold, place_inside, first_byte}
-use Rattle.maker_laws.proofs.RulePair.{some-group, set-grouped, there-group}
+use Rattle.rules.proofs.RuleBelongs.{some-group, set-grouped}
+use Rattle.pair_rules.proofs.RulePair.{there-group}
 use Rattle.maker_promises.specs.Explained.{belongs, belongs_two}
 use Rattle.board.specs.Makers.{Tells, TellsTwo}
 

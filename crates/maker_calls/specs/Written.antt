@@ -25,11 +25,8 @@ use Rattle.records.specs.Image.{device_of}
 use Rattle.records.specs.Fits.{fits_on}
 use Rattle.requests.specs.declared.Setup.{Setup}
 use Rattle.requests.specs.Table.{setup_of}
-use Rattle.events.specs.declared.Answer.{Answer}
-use Rattle.events.specs.declared.Answer.TheVariants.{Refused}
 use Rattle.events.specs.declared.Event.TheVariants.{Request}
-use Rattle.events.specs.declared.Outcome.{Outcome}
-use Rattle.events.specs.Answer.{number_of, part_of, bytes_at}
+use Rattle.events.specs.Answer.{Answer, Refused, Outcome, number_of, part_of, bytes_at}
 use Rattle.events.specs.Requests.{is_entry, body_at, language_for, locate_string, locate, describe, get_descriptor}
 use Rattle.events.specs.Step.{request, refusal_for, answer_setup, step, Reply, event, setup_event}
 use Rattle.set_writer.specs.Writer.{pieces, set_of, writing}

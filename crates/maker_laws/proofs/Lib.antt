@@ -11,10 +11,4 @@ pub mod TrimStrings
 pub mod TrimOpens
 pub mod TrimBuffer
 pub mod TrimRequests
-pub mod RuleFrames
 pub mod RuleFirst
-pub mod RuleBodies
-pub mod RuleTexts
-pub mod RuleGroups
-pub mod RuleBelongs
-pub mod RulePair

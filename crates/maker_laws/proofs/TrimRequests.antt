@@ -20,13 +20,11 @@ use Rattle.requests.specs.declared.Setup.{Setup}
 use Rattle.requests.specs.declared.Row.{Row}
 use Rattle.requests.specs.Table.{request_table, row_of}
 use Rattle.requests.proofs.Found.{without-row}
-use Rattle.events.specs.declared.Answer.TheVariants.{Refused}
 use Rattle.events.specs.declared.Event.{Event}
 use Rattle.events.specs.declared.Event.TheVariants.{Request, Malformed, StatusEnd, BusReset, Halt, PacketPassed, Power, Suspend, Resume, Wake}
 use Rattle.events.specs.declared.facts.Located.{Located}
 use Rattle.events.specs.declared.facts.Located.TheVariants.{Body, Serial, Nowhere}
-use Rattle.events.specs.declared.Outcome.{Outcome}
-use Rattle.events.specs.Answer.{part_of, refused, bytes_in}
+use Rattle.events.specs.Answer.{Refused, Outcome, part_of, refused, bytes_in}
 use Rattle.events.specs.Requests.{is_entry, body_at, by_index, language_for, locate_string, locate, describe, get_status, clear_feature, set_feature, set_address, get_descriptor, get_configuration, set_configuration, get_interface, set_interface}
 use Rattle.events.specs.Step.{request, refusal_for, answer_setup, halt, packet_passed, respond, step, Reply, reply_of, event}
 use Rattle.set_writer.proofs.InPieces.{same-bodies}

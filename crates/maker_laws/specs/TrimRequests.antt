@@ -1,9 +1,8 @@
 -- "every request other than for a dropped string gets the same bytes" (document 02, L11): which requests, and what is the same.
 use Rattle.std.specs.Prelude.{ℕ, ◌/◌, ◌%◌, ◌≡◌, Bool, false, ◌&&◌, not, List, eqb}
-use Rattle.events.specs.declared.Answer.{Answer}
 use Rattle.events.specs.declared.Event.{Event}
 use Rattle.events.specs.declared.Event.TheVariants.{Request, Malformed, StatusEnd, BusReset, Halt, PacketPassed, Power, Suspend, Resume, Wake}
-use Rattle.events.specs.Answer.{number_of, bytes_of, part_of, bytes_in}
+use Rattle.events.specs.Answer.{Answer, number_of, bytes_of, part_of, bytes_in}
 use Rattle.octets.specs.Sentences.{any}
 use Rattle.sets.specs.Contents.{entries, is_kind}
 use Rattle.trimming.specs.Trim.{kept}

@@ -23,11 +23,11 @@ use Rattle.pair_rules.specs.Explained.{Placed, is_broken_there, explained_two}
 use Rattle.pair_rules.proofs.First.{told-number as told-number-two}
 use Rattle.maker_laws.specs.RuleNamed.{NamesFirst, holds_here, holds_there}
 use Rattle.maker_laws.proofs.RuleFirst as firstly
-use Rattle.maker_laws.proofs.RuleFrames as frames
-use Rattle.maker_laws.proofs.RuleBodies as bodywise
-use Rattle.maker_laws.proofs.RuleTexts as texts
-use Rattle.maker_laws.proofs.RuleBelongs as belonging
-use Rattle.maker_laws.proofs.RulePair as paired
+use Rattle.rules.proofs.RuleFrames as frames
+use Rattle.rules.proofs.RuleBodies as bodywise
+use Rattle.rules.proofs.RuleTexts as texts
+use Rattle.rules.proofs.RuleBelongs as belonging
+use Rattle.pair_rules.proofs.RulePair as paired
 
 -- ---- "the opening number"
 pub told_number : (limits : Limits) (b : Board) → (explained limits b).number ≡ opening limits b

@@ -3,15 +3,13 @@ use Rattle.std.specs.Prelude.{ℕ, ◌≡◌, refl, List, [], ◌∷◌, set}
 use Rattle.descriptors.specs.Limits.{full_speed, super_speed}
 use Rattle.sets.specs.Pieces.{Piece}
 use Rattle.sets.specs.Opening.{lent}
-use Rattle.rules.specs.declared.Explained.{Explained}
 use Rattle.rules.specs.Frame.{contents_asked}
 use Rattle.rules.specs.Configurations.{rest_findings, companions_from, configurations_from}
 use Rattle.rules.specs.Strings.{languages_from, strings_from, listed_from, interfaces_from, references_from}
-use Rattle.rules.specs.Explained.{findings, explained}
+use Rattle.rules.specs.Explained.{findings, Explained, explained}
 use Rattle.pairs.proofs.Example.{full, high}
-use Rattle.pair_rules.specs.declared.ExplainedTwo.{ExplainedTwo}
 use Rattle.pair_rules.specs.Pair.{agreeing, mirrors_from}
-use Rattle.pair_rules.specs.Explained.{findings_two, explained_two}
+use Rattle.pair_rules.specs.Explained.{findings_two, ExplainedTwo, explained_two}
 use Rattle.promises.specs.Examples.{computed, piece, board, configuration, interface, endpoint, device, T}
 use Rattle.promises.specs.SuperSpeed.{S3}
 

@@ -1,5 +1,5 @@
 -- The bits of a word that is made of others: with a bit set or cleared, and without the bits of a mask. No axiom.
-use Rattle.octets.proofs.Vocabulary.{◌≡◌, refl, sym, ap, ◌∙◌, ℕ, zero, suc, ◌-◌, ◌*◌, ◌/◌, ◌%◌, ◌^◌, ◌<◌, Bool, true, false, ◌&&◌, ◌||◌, not, or-false, and-true, eqb, arith, pow-suc, mul_comm, div-one, div-div-eq-div-mul, not-suc-le-zero, eqb-true, eqb-false, eq-eqb, ne_eqb}
+use Rattle.octets.proofs.Vocabulary.{◌≡◌, refl, sym, ap, ◌∙◌, ℕ, zero, suc, ◌-◌, ◌*◌, ◌/◌, ◌%◌, ◌^◌, ◌<◌, Bool, true, false, ◌&&◌, ◌||◌, not, or-false, or-true, and-true, and-false, eqb, arith, pow-suc, mul_comm, div-one, div-div-eq-div-mul, not-suc-le-zero, eqb-true, eqb-false, eq-eqb, ne_eqb}
 use lib.Bits.{bit_and, and_shr, and_mod, and_le_l}
 use Rattle.octets.specs.Bit.{bit, set_bit, clear_bit}
 use Rattle.octets.specs.Sentences.{below, ◌⇒◌}
@@ -11,19 +11,11 @@ pub set-digit : (w e k : ℕ) → bit (set_bit w e) k ≡ (bit w k || eqb e k)
 set-digit w e k = cases (eqb e k)
     (λ p. let q = eqb-true e k p in rw (p, ← q, set_same w e) (sym (or-true (bit w e))))
     (λ p. rw (p, set_other w e k (eqb-false e k p)) (sym (or-false (bit w k))))
-  where
-    or-true : (b : Bool) → (b || true) ≡ true
-    or-true true = refl
-    or-true false = refl
 
 pub clear-digit : (w e k : ℕ) → bit (clear_bit w e) k ≡ (bit w k && not (eqb e k))
 clear-digit w e k = cases (eqb e k)
     (λ p. let q = eqb-true e k p in rw (p, ← q, clear-same w e) (sym (and-false (bit w e))))
     (λ p. rw (p, clear-other w e k (eqb-false e k p)) (sym (and-true (bit w k))))
-  where
-    and-false : (b : Bool) → (b && false) ≡ false
-    and-false true = refl
-    and-false false = refl
 
 -- ---- the code's operators, at any bit
 both-digits : (a b : ℕ) → a < 2 → b < 2 → eqb (bit_and a b) 1 ≡ (eqb a 1 && eqb b 1)

@@ -12,10 +12,10 @@ ghost use Rattle.octets.specs.Sentences.{below, ◌⇒◌};
 pub fn peek(bytes: &[u8], k: usize) -> u8
     ensures { result ≡ byte bytes.now k }
 {
-    if k < bytes.len() {
-        return bytes[k];
+    match bytes.get(k) {
+        Some(byte) => *byte,
+        None => 0,
     }
-    0
 }
 
 // The two-byte number at k, with 0 for what is past the end.
@@ -23,14 +23,13 @@ pub fn word(bytes: &[u8], k: usize) -> u16
     ensures { result ≡ word bytes.now k }
 {
     if k < bytes.len() {
-        let low = peek(bytes, k) as u16;
-        let high = peek(bytes, k + 1) as u16;
-        return low + 256 * high;
+        return u16::from_le_bytes([peek(bytes, k), peek(bytes, k + 1)]);
     }
     0
 }
 
 // Whether bit e is set.
+// Kept: these four ask `e < 32`, which a shift needs; a type for a bit's place would be made at each call and asked once.
 pub fn test_bit(word: u32, e: u32) -> bool
     requires { e < 32 }
     ensures { result ≡ bit word e }

@@ -1,4 +1,5 @@
 // A table of numbers below 256: number k is bit k % 32 of word k / 32.
+// Kept: functions over the array, since any eight words are a table: a struct around them would carry no fact, and each contract would name its field.
 ghost use Rattle.std.specs.Prelude.{◌≡◌};
 ghost use Rattle.octets.specs.Table.{has, with};
 

@@ -53,9 +53,6 @@ inside r w p k = go (can_cut r w p) refl (ltb k (packet_count r w p)) refl
     go true e false f = omega arith
     go false e t f = omega arith
 
-pub bounded : (r w p : ℕ) → can_cut r w p ≡ true → (8 ≤ p) × (p ≤ 64)
-bounded = by_size (λ p. (8 ≤ p) × (p ≤ 64)) (omega arith, omega arith) (omega arith, omega arith) (omega arith, omega arith) (omega arith, omega arith)
-
 -- what the code makes of a packet below the count, and of every other
 pub is-packet : (r w p k l : ℕ) → can_cut r w p ≡ true → k < packet_count r w p → l ≡ min p (r - k * p)
     → record { number = 0; offset = k * p; length = l } ≡ packet r w p k

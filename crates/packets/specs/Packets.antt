@@ -1,7 +1,12 @@
 -- A reply of r bytes, asked with wLength w, cut into packets of size p (document 01, "Packets").
 use Rattle.std.specs.Prelude.{ℕ, ◌+◌, ◌-◌, ◌*◌, ◌/◌, min, Bool, true, false, ◌&&◌, ◌||◌, List, map, eqb, leb, ltb}
 use Rattle.octets.specs.Sentences.{pick, up_to}
-use Rattle.packets.specs.declared.Packet.{Packet}
+
+-- a packet: its number, and the part of the reply that it is
+pub record Packet : Type 0 where
+  pub number : ℕ
+  pub offset : ℕ
+  pub length : ℕ
 
 -- "if r = w the count is r / p rounded up; if r < w it is r / p rounded down, plus 1"
 abbrev pub packet_count : ℕ → ℕ → ℕ → ℕ

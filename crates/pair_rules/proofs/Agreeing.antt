@@ -1,14 +1,31 @@
 -- How many leading bytes of two lists agree. No axiom.
-use Rattle.octets.proofs.Vocabulary.{◌≡◌, refl, sym, ap, ◌∙◌, ℕ, suc, ◌+◌, ◌≤◌, ◌<◌, List, [], ◌∷◌, Bool, true, false, ◌&&◌, and-false, length, drop, get_or, length-drop, drop_of_length-le, eqb, drop-cons, arith, eq-eqb, ne_eqb, eqb-true}
-use Rattle.octets.specs.Octets.{byte}
+use Rattle.std.specs.Prelude.{nat_eq, zip, position, unwrap_or}
+use Rattle.std.specs.List.{position_or_len}
+use Rattle.std.proofs.lemmas.List.Sums.{prefix_len-le-length}
+use Rattle.std.proofs.lemmas.Slice.Zip.{length-zip}
+use Rattle.octets.proofs.Vocabulary.{◌<◌, ◌≡◌, refl, sym, ap, ◌∙◌, ℕ, suc, ◌+◌, ◌≤◌, List, [], ◌∷◌, Bool, true, false, ◌&&◌, and-false, length, drop, eqb, arith, eq-eqb, ne_eqb, eqb-true, not, min, ltb, ltb-false}
 use Rattle.octets.proofs.Sentences.{cases, same_test}
-use Rattle.sets.specs.Pair.{same, retyped}
+use Rattle.sets.specs.Pair.{same}
 use Rattle.pair_rules.specs.Pair.{agreeing}
 
-pub agreeing-none : (a : List ℕ) → agreeing a [] ≡ 0
+-- ---- the first place where they differ, or the shorter one's length
+abbrev pub differ : ℕ × ℕ → Bool
+differ p = not (nat_eq p.0 p.1)
+
+alike : (a b : List ℕ) → position_or_len differ (zip a b) ≡ agreeing a b
 unfolding agreeing
-agreeing-none [] = refl
-agreeing-none (x ∷ xs) = refl
+alike [] b = refl
+alike (x ∷ xs) [] = refl
+alike (x ∷ xs) (y ∷ ys) = cases (eqb x y) (λ p. rw (p, alike xs ys) (omega arith)) (λ p. rw p)
+
+pub agreeing-position : (a b : List ℕ) → unwrap_or (position differ (zip a b)) (min (length a) (length b)) ≡ agreeing a b
+agreeing-position a b =
+    let n = position_or_len differ (zip a b) in
+    let all : n ≤ length (zip a b) = prefix_len-le-length (λ p. not (differ p)) (zip a b) in
+    let short : length (zip a b) ≡ min (length a) (length b) = length-zip a b in
+    cases (ltb n (length (zip a b)))
+    (λ p. rw p (alike a b))
+    (λ p. rw (p, ← alike a b) (omega (arith, all, short, ltb-false n (length (zip a b)) p)))
 
 -- no more than there are
 pub agreeing-short : (a b : List ℕ) → agreeing a b ≤ length a
@@ -16,26 +33,6 @@ unfolding agreeing
 agreeing-short [] b = omega arith
 agreeing-short (x ∷ xs) [] = omega arith
 agreeing-short (x ∷ xs) (y ∷ ys) = cases (eqb x y) (λ p. rw p (let h = agreeing-short xs ys in omega arith)) (λ p. rw p (omega arith))
-
--- ---- a loop over them: before the n-th byte, of two lists that agree so far
-module _ (a b : List ℕ) (n : ℕ) (inv : agreeing a b ≡ n + agreeing (drop n a) (drop n b)) where
-  pub first_ended : length a ≤ n → n ≡ agreeing a b
-  unfolding agreeing
-  first_ended h = sym (inv ∙ rw (drop_of_length-le a h) (omega arith))
-
-  pub second_ended : length b ≤ n → n ≡ agreeing a b
-  second_ended h = sym (inv ∙ rw (drop_of_length-le b h, agreeing-none (drop n a)) (omega arith))
-
-  module _ (h : n < length a) (k : n < length b) where
-    pub differs : (get_or a n 0 ≡ get_or b n 0 → ⊥) → n ≡ agreeing a b
-    unfolding agreeing
-    differs p = sym (inv ∙ rw (drop-cons a n 0 h, drop-cons b n 0 k, ne_eqb (get_or a n 0) (get_or b n 0) p) (omega arith))
-
-    pub agrees_on : get_or a n 0 ≡ get_or b n 0 → agreeing a b ≡ n + 1 + agreeing (drop (n + 1) a) (drop (n + 1) b)
-    unfolding agreeing
-    agrees_on p =
-        let e : n + 1 ≡ suc n = omega arith in
-        inv ∙ rw (drop-cons a n 0 h, drop-cons b n 0 k, eq-eqb (get_or a n 0) (get_or b n 0) p, e) (omega arith)
 
 -- ---- they are the same where all agree and none is left
 pub same-agreeing : (a b : List ℕ) → (eqb (agreeing a b) (length a) && eqb (length a) (length b)) ≡ same a b
@@ -66,50 +63,17 @@ long-enough a b =
     go false true = refl
     go false false = refl
 
--- ---- a body beside another but for its type byte, byte by byte
-module _ (mine theirs : List ℕ) where
-  pub none-agrees : length mine ≡ 0 → 0 ≡ agreeing mine (retyped theirs)
-  none-agrees h = let s = agreeing-short mine (retyped theirs) in omega arith
-
-  pub first-differs : (byte mine 0 ≡ byte theirs 0 → ⊥) → 0 ≡ agreeing mine (retyped theirs)
+-- ---- the first two bytes by themselves, and then the others
+module _ (a b : ℕ) (rest : List ℕ) where
+  pub start-differs : (m : List ℕ) → agreeing m (a ∷ b ∷ []) < 2 → agreeing m (a ∷ b ∷ []) ≡ agreeing m (a ∷ b ∷ rest)
   unfolding agreeing
-  first-differs p = go mine p
-    where
-      go : (m : List ℕ) → (byte m 0 ≡ byte theirs 0 → ⊥) → 0 ≡ agreeing m (retyped theirs)
-      go [] p = refl
-      go (x ∷ xs) p = rw (ne_eqb x (byte theirs 0) p)
+  start-differs [] h = refl
+  start-differs (x ∷ []) h = refl
+  start-differs (x ∷ y ∷ m) h = cases (eqb x a) (λ p. cases (eqb y b) (λ q. absurd (omega (arith, rw (p, q) at h))) (λ q. rw (p, q))) (λ p. rw p)
 
-  pub one-agrees : length mine ≡ 1 → byte mine 0 ≡ byte theirs 0 → 1 ≡ agreeing mine (retyped theirs)
+  pub start-agrees : (m : List ℕ) → 2 ≤ agreeing m (a ∷ b ∷ []) → 2 + agreeing (drop 2 m) rest ≡ agreeing m (a ∷ b ∷ rest)
   unfolding agreeing
-  one-agrees h p = go mine h p
-    where
-      go : (m : List ℕ) → length m ≡ 1 → byte m 0 ≡ byte theirs 0 → 1 ≡ agreeing m (retyped theirs)
-      go [] h p = absurd (omega arith)
-      go (x ∷ []) h p = rw (eq-eqb x (byte theirs 0) p)
-      go (x ∷ y ∷ ys) h p = absurd (omega arith)
-
-  module _ (h : 2 ≤ length mine) (p : byte mine 0 ≡ byte theirs 0) where
-    pub type-differs : (byte mine 1 ≡ 7 → ⊥) → 1 ≡ agreeing mine (retyped theirs)
-    unfolding agreeing
-    type-differs q = go mine h p q
-      where
-        go : (m : List ℕ) → 2 ≤ length m → byte m 0 ≡ byte theirs 0 → (byte m 1 ≡ 7 → ⊥) → 1 ≡ agreeing m (retyped theirs)
-        go [] h p q = absurd (omega arith)
-        go (x ∷ []) h p q = absurd (omega arith)
-        go (x ∷ y ∷ ys) h p q = rw (eq-eqb x (byte theirs 0) p, ne_eqb y 7 q)
-
-    pub two-agree : byte mine 1 ≡ 7 → 2 + agreeing (drop 2 mine) (drop 2 theirs) ≡ agreeing mine (retyped theirs)
-    unfolding agreeing
-    two-agree q = go mine h p q
-      where
-        go : (m : List ℕ) → 2 ≤ length m → byte m 0 ≡ byte theirs 0 → byte m 1 ≡ 7 → 2 + agreeing (drop 2 m) (drop 2 theirs) ≡ agreeing m (retyped theirs)
-        go [] h p q = absurd (omega arith)
-        go (x ∷ []) h p q = absurd (omega arith)
-        go (x ∷ y ∷ ys) h p q = rw (eq-eqb x (byte theirs 0) p, eq-eqb y 7 q) (omega arith)
-
--- as many bytes, or two where there were fewer
-pub retyped-long : (body : List ℕ) → 2 ≤ length body → length body ≡ length (retyped body)
-retyped-long body h = rw length-drop (omega arith)
-
-pub retyped-short : (body : List ℕ) → length body < 2 → 2 ≡ length (retyped body)
-retyped-short body h = rw length-drop (omega arith)
+  start-agrees [] h = absurd (omega (arith, h))
+  start-agrees (x ∷ []) h = cases (eqb x a) (λ p. absurd (omega (arith, rw p at h))) (λ p. absurd (omega (arith, rw p at h)))
+  start-agrees (x ∷ y ∷ m) h =
+      cases (eqb x a) (λ p. cases (eqb y b) (λ q. rw (p, q) (omega arith)) (λ q. absurd (omega (arith, rw (p, q) at h)))) (λ p. absurd (omega (arith, rw p at h)))

@@ -1,18 +1,15 @@
 -- The first of a pair's rules that is broken: of one list of them, with its block, or of the lists behind it. No axiom.
-use Rattle.octets.proofs.Vocabulary.{◌≡◌, refl, sym, ap, ◌∙◌, ℕ, ◌/◌, List, [], ◌∷◌, ◌++◌, map, Bool, true, false, not, false≢true, Option, some, none, eqb, arith, eq-eqb}
-use Rattle.octets.specs.Sentences.{pick, every, first}
-use Rattle.octets.proofs.Sentences.{both}
-use Rattle.descriptors.specs.Limits.{paired_full, high_speed}
-use Rattle.sets.specs.Opening.{lent}
+use Rattle.std.specs.Prelude.{Option as Either, Some, None}
+use Rattle.std.specs.Option.{option_or}
+use Rattle.octets.proofs.Vocabulary.{◌≡◌, refl, sym, ap, ◌∙◌, ℕ, List, [], ◌∷◌, ◌++◌, map, Bool, true, false, not, Option, some, none}
+use Rattle.octets.specs.Sentences.{pick, first}
 use Rattle.sets.specs.Pair.{opening_two}
-use Rattle.rules.specs.declared.Fault.{Fault}
 use Rattle.rules.specs.Findings.{Finding}
-use Rattle.rules.specs.Explained.{findings, is_broken, fault_of, inside}
-use Rattle.rules.proofs.After.{is_numbered}
-use Rattle.pair_rules.specs.declared.ExplainedTwo.{ExplainedTwo}
-use Rattle.pair_rules.specs.Explained.{Placed, of_set, findings_two, is_broken_there, lent_as, told_two, explained_two}
-use Rattle.pair_rules.specs.Pair.{pair_findings}
-use Rattle.pair_rules.specs.Placed.{placed_fault}
+use Rattle.rules.specs.Explained.{is_broken}
+use Rattle.rules.specs.After.{fault_in}
+use Rattle.pair_rules.specs.declared.BlockFault.{BlockFault}
+use Rattle.pair_rules.specs.Explained.{Placed, of_set, findings_two, is_broken_there, told_two, explained_two}
+use Rattle.pair_rules.specs.Placed.{About, about, placed_of, told_in}
 
 -- ---- one list and those behind it
 abbrev pub or_later : ℕ → Option Finding → Option Placed → Option Placed
@@ -41,44 +38,40 @@ first_alone block (x ∷ xs) = go x.holds (first_alone block xs)
     go true p = p
     go false p = refl
 
--- ---- what a fault tells of them
-numbered-first : (xs : List Finding) {x : Finding} → every is_numbered xs ≡ true → first is_broken xs ≡ some x → is_numbered x ≡ true
-unfolding every first
-numbered-first [] p q = let z : ◌≡◌ {A = ℕ} 0 1 = cc in absurd (omega arith)
-numbered-first (y ∷ ys) {x} p q = let (h, t) = both (is_numbered y) (every is_numbered ys) p in go y.holds h q (λ r. numbered-first ys t r)
-  where
-    go : (b : Bool) → is_numbered y ≡ true → pick (not b) (some y) (first is_broken ys) ≡ some x → (first is_broken ys ≡ some x → is_numbered x ≡ true) → is_numbered x ≡ true
-    go true h q later = later q
-    go false h q later = let r : some y ≡ some x = q in let s : y ≡ x = cc in rw (← s) h
+-- ---- what the code finds in one list, or else in those behind it
+pub about-or : (a b : Either BlockFault) → about (option_or a b) ≡ option_or (about a) (about b)
+about-or None b = refl
+about-or (Some x) b = refl
 
-pub none_found : (xs : List Finding) {f : Fault} → every is_numbered xs ≡ true → f ≡ fault_of (first is_broken xs) → f.rule ≡ 0 → first is_broken xs ≡ none
-none_found xs {f} p q r = go (first is_broken xs) refl
-  where
-    go : (o : Option Finding) → first is_broken xs ≡ o → o ≡ none
-    go none e = refl
-    go (some x) e =
-        let z : x.rule ≡ 0 = sym (ap (λ g. g.rule) (rw e at q)) ∙ r in
-        let n : is_numbered x ≡ true = numbered-first xs p e in
-        absurd (false≢true (sym (ap not (eq-eqb x.rule 0 z)) ∙ n))
+told-later : (block : ℕ) (o : Option Finding) (later : Option Placed) → told_in (or_later block o later) ≡ option_or (placed_of block (fault_in o)) (told_in later)
+told-later block none later = refl
+told-later block (some x) later = refl
 
--- a fault that was found, with its block
-module _ (full high serial : List ℕ) {n : ℕ} (number : n ≡ opening_two full high serial) where
-  pub placed-told : (block : ℕ) (set : List ℕ) → lent_as full high serial block ≡ set → (xs : List Finding) (later : Option Placed) {f : Fault} → f ≡ fault_of (first is_broken xs) → (f.rule ≡ 0 → ⊥)
-      → placed_fault n f block set serial ≡ told_two full high serial (or_later block (first is_broken xs) later)
-  placed-told block set p xs later {f} q r = go (first is_broken xs) q
-    where
-      go : (o : Option Finding) → f ≡ fault_of o → placed_fault n f block set serial ≡ told_two full high serial (or_later block o later)
-      go none e = absurd (r (ap (λ g. g.rule) e))
-      go (some x) e =
-          let six = eqb (x.rule / 100) 6 in
-          rw (e, number) (ap (λ bytes. told_with x six (inside bytes x.place)) (lent-block six))
-        where
-          told_with : Finding → Bool → ℕ → ExplainedTwo
-          told_with x six place = record { number = opening_two full high serial; block = pick six 2 block; rule = x.rule; place = place }
+told-alone : (block : ℕ) (o : Option Finding) → told_in (or_later block o none) ≡ placed_of block (fault_in o)
+told-alone block none = refl
+told-alone block (some x) = refl
 
-          lent-block : (six : Bool) → pick six serial set ≡ lent_as full high serial (pick six 2 block)
-          lent-block true = refl
-          lent-block false = sym p
+or_assoc : {A : Type 0} (a b c : Either A) → option_or (option_or a b) c ≡ option_or a (option_or b c)
+or_assoc None b c = refl
+or_assoc (Some x) b c = refl
+
+abbrev pub in_list : ℕ → List Finding → Either About
+in_list block xs = placed_of block (fault_in (first is_broken xs))
+
+list-then : (block : ℕ) (xs : List Finding) (ys : List Placed) → told_in (first is_broken_there (map (of_set block) xs ++ ys)) ≡ option_or (in_list block xs) (told_in (first is_broken_there ys))
+list-then block xs ys = ap told_in (first-there block xs ys) ∙ told-later block (first is_broken xs) (first is_broken_there ys)
+
+-- one list after another, in a chain of `or`
+pub told-four : (ws xs ys zs : List Finding)
+    → option_or (option_or (option_or (in_list 0 ws) (in_list 1 xs)) (in_list 0 ys)) (in_list 1 zs)
+    ≡ told_in (first is_broken_there (map (of_set 0) ws ++ (map (of_set 1) xs ++ (map (of_set 0) ys ++ map (of_set 1) zs))))
+told-four ws xs ys zs =
+    let last : told_in (first is_broken_there (map (of_set 1) zs)) ≡ in_list 1 zs = ap told_in (first_alone 1 zs) ∙ told-alone 1 (first is_broken zs) in
+    or_assoc (option_or (in_list 0 ws) (in_list 1 xs)) (in_list 0 ys) (in_list 1 zs)
+    ∙ or_assoc (in_list 0 ws) (in_list 1 xs) _
+    ∙ sym
+    (list-then 0 ws _
+    ∙ ap (option_or (in_list 0 ws)) (list-then 1 xs _ ∙ ap (option_or (in_list 1 xs)) (list-then 0 ys _ ∙ ap (option_or (in_list 0 ys)) last)))
 
 -- whatever is told, its number is that of opening both
 number-told : (full high serial : List ℕ) (o : Option Placed) → (told_two full high serial o).number ≡ opening_two full high serial
@@ -88,30 +81,3 @@ number-told full high serial (some x) = refl
 pub told-number : (full high serial : List ℕ) → (explained_two full high serial).number ≡ opening_two full high serial
 unfolding explained_two
 told-number full high serial = number-told full high serial (first is_broken_there (findings_two full high serial))
-
--- ---- list after list: the one in which a fault was found, and one that is passed by. The last has none behind it
-module _ (full high serial : List ℕ) where
-  abbrev whole : Option Placed
-  whole = first is_broken_there (findings_two full high serial)
-
-  pub all-lists : whole ≡ first is_broken_there (map (of_set 0) (findings paired_full (lent full serial)) ++ (map (of_set 1) (findings high_speed (lent high serial)) ++ (map (of_set 0) (pair_findings full high) ++ map (of_set 1) (pair_findings high full))))
-  unfolding findings_two
-  all-lists = refl
-
-  module _ (block : ℕ) (xs : List Finding) {f : Fault} (p : f ≡ fault_of (first is_broken xs)) where
-    module _ (ys : List Placed) (e : whole ≡ first is_broken_there (map (of_set block) xs ++ ys)) where
-      pub at-list : {n : ℕ} → n ≡ opening_two full high serial → (set : List ℕ) → lent_as full high serial block ≡ set → (f.rule ≡ 0 → ⊥) → placed_fault n f block set serial ≡ explained_two full high serial
-      unfolding explained_two
-      at-list number set l q = placed-told full high serial number block set l xs _ p q ∙ ap (told_two full high serial) (sym (e ∙ first-there block xs ys))
-
-      pub past-list : every is_numbered xs ≡ true → f.rule ≡ 0 → whole ≡ first is_broken_there ys
-      past-list n z = e ∙ first-there block xs ys ∙ ap (λ o. or_later block o (first is_broken_there ys)) (none_found xs n p z)
-
-    module _ (e : whole ≡ first is_broken_there (map (of_set block) xs)) where
-      pub at-end : {n : ℕ} → n ≡ opening_two full high serial → (set : List ℕ) → lent_as full high serial block ≡ set → (f.rule ≡ 0 → ⊥) → placed_fault n f block set serial ≡ explained_two full high serial
-      unfolding explained_two
-      at-end number set l q = placed-told full high serial number block set l xs none p q ∙ ap (told_two full high serial) (sym (e ∙ first_alone block xs))
-
-      pub past_end : every is_numbered xs ≡ true → f.rule ≡ 0 → told_two full high serial none ≡ explained_two full high serial
-      unfolding explained_two
-      past_end n z = ap (told_two full high serial) (sym (e ∙ first_alone block xs ∙ ap (λ o. or_later block o none) (none_found xs n p z)))

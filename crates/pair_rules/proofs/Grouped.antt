@@ -1,11 +1,10 @@
 -- Every rule of a set beside another carries number 24, and so one other than 0. No axiom.
-use Rattle.octets.proofs.Vocabulary.{◌≡◌, refl, ℕ, ◌+◌, List, [], ◌∷◌, true, arith}
+use Rattle.octets.proofs.Vocabulary.{refl, ℕ, ◌+◌, List, [], ◌∷◌}
 use Rattle.octets.specs.Sentences.{every}
 use Rattle.sets.specs.declared.Entry.{Entry}
 use Rattle.sets.specs.Contents.{is_kind, entries, entries_of}
 use Rattle.sets.specs.Device.{device_body}
-use Rattle.rules.proofs.After.{is_numbered}
-use Rattle.rules.proofs.Grouped.{Of, then, choice, every_in, has-number}
+use Rattle.rules.proofs.Grouped.{Of, then, choice}
 use Rattle.pair_rules.specs.Pair.{qualifier_entry_findings, beside_findings, later, mirrors_from, pair_findings}
 
 qualifiers : (set device : List ℕ) (es : List Entry) → Of 24 (qualifier_entry_findings set device es)
@@ -30,6 +29,3 @@ pub group-24 : (set other : List ℕ) → Of 24 (pair_findings set other)
 group-24 set other =
     then 24 (qualifier_entry_findings set (device_body other) (entries_of 6 set)) _ (qualifiers set (device_body other) (entries_of 6 set))
     (mirrors set other 4 (entries_of 2 other) (entries set))
-
-pub pair-numbered : (set other : List ℕ) → every is_numbered (pair_findings set other) ≡ true
-pair-numbered set other = every_in is_numbered has-number 24 (omega arith) (pair_findings set other) (group-24 set other)

@@ -2,3 +2,4 @@ pub mod Agreeing
 pub mod Entries
 pub mod Grouped
 pub mod First
+pub mod RulePair

@@ -7,7 +7,6 @@ use Rattle.sets.specs.Opening.{lent}
 use Rattle.sets.specs.Pair.{opening_two}
 use Rattle.rules.specs.Findings.{Finding}
 use Rattle.rules.specs.Explained.{findings, is_broken, inside}
-use Rattle.pair_rules.specs.declared.ExplainedTwo.{ExplainedTwo}
 use Rattle.pair_rules.specs.Pair.{pair_findings}
 
 -- a finding with its block: 0 the full-speed set, 1 the high-speed set, 2 the serial block
@@ -33,6 +32,13 @@ is_broken_there x = is_broken x.finding
 -- what was lent as a block
 abbrev pub lent_as : List ℕ → List ℕ → List ℕ → ℕ → List ℕ
 lent_as full high serial block = pick (eqb block 0) full (pick (eqb block 1) high serial)
+
+-- the pair's number, the block that the rule is about, the rule, and the byte of that block
+pub record ExplainedTwo : Type 0 where
+  pub number : ℕ
+  pub block : ℕ
+  pub rule : ℕ
+  pub place : ℕ
 
 -- rule 0 of block 0 where nothing is broken
 abbrev pub told_two : List ℕ → List ℕ → List ℕ → Option Placed → ExplainedTwo

@@ -11,12 +11,11 @@ use Rattle.events.specs.declared.Event.TheVariants.{Request, Malformed, StatusEn
 use Rattle.events.specs.Answer.{number_of}
 use Rattle.events.specs.Step.{Reply, setup_event, event}
 use Rattle.pipes.specs.declared.Transfer.{Transfer}
-use Rattle.pipes.specs.declared.Turn.{Turn}
 use Rattle.pipes.specs.declared.Wire.{Wire}
 use Rattle.pipes.specs.declared.Wire.TheVariants.{Setup as ASetup, Taken, Received, Reset, Reply as Replies, Room, Accept, Refuse, Unknown}
 use Rattle.pipes.specs.Transfer.{idle, status_in, with_stage}
 use Rattle.pipes.specs.Image.{transfer_of, image_of, fits_in}
-use Rattle.pipes.specs.Turns.{reply_at, started, begun, sends_status, stalls, taken, received, replied, roomed, accepted, refused, turned}
+use Rattle.pipes.specs.Turns.{Turn, reply_at, started, begun, sends_status, stalls, taken, received, replied, roomed, accepted, refused, turned}
 use Rattle.pipes.specs.Pipe.{Told, Records, Heard, lengths_of, packet_size, unheard, begins, moves, on_transfer, heard_as, heard}
 use Rattle.pipe_runs.specs.Runs.{Other, Happening, on_wire, beside, leaves, leaves_by, after, a_setup, quiet, Resting, is_idle, is_stalled, ends_at, if_ended, events_by, device_after, address_in, waiting_in}
 use Rattle.pipe_runs.specs.Addresses.{drops, Addressed, asks, waits, Readdresses, stays, resets, takes}

@@ -9,12 +9,11 @@ use Rattle.events.specs.Answer.{number_of}
 use Rattle.events.specs.Step.{setup_event, event}
 use Rattle.order.specs.Run.{All}
 use Rattle.laws.proofs.Outcomes.{chosen}
-use Rattle.pipes.specs.declared.Turn.{Turn}
 use Rattle.pipes.specs.declared.Wire.{Wire}
 use Rattle.pipes.specs.declared.Wire.TheVariants.{Setup, Taken, Received, Reset, Reply as Replies, Room, Accept, Refuse, Unknown}
 use Rattle.pipes.specs.Transfer.{idle, fits}
 use Rattle.pipes.specs.Image.{transfer_of, image_of, ends_in_zeros, fits_in}
-use Rattle.pipes.specs.Turns.{turned}
+use Rattle.pipes.specs.Turns.{Turn, turned}
 use Rattle.pipes.specs.Pipe.{Told, Records, Heard, lengths_of, moves, on_transfer, heard_as, heard}
 use Rattle.pipe_runs.specs.Runs.{Happening, on_wire, beside, leaves, leaves_by, Resting, is_idle, is_setup_packet, quiet, ends_at, if_ended, events_by, events_at, events_in, number_after, no_end}
 use Rattle.pipe_runs.specs.Promises.{NumbersAreTheLibrarys, NeverForADropped, AtMostOnePerSetup, ends_in, setups_in}

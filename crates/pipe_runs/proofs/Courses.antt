@@ -18,12 +18,11 @@ use Rattle.packets.specs.Packets.{packet_count, can_cut, packet_where, packet}
 use Rattle.pipes.specs.declared.Lengths.{Lengths}
 use Rattle.pipes.specs.declared.Piece.{Piece}
 use Rattle.pipes.specs.declared.Transfer.{Transfer}
-use Rattle.pipes.specs.declared.Turn.{Turn}
 use Rattle.pipes.specs.declared.Wire.{Wire}
 use Rattle.pipes.specs.declared.Wire.TheVariants.{Setup, Taken, Received, Reset, Reply as Replies, Room, Accept, Refuse, Unknown}
 use Rattle.pipes.specs.Transfer.{data_in, status_out, status_in, send, await, with_stage, with_moved, good_size, good_reply, good_moved, block_length, fits}
 use Rattle.pipes.specs.Image.{transfer_of, image_of, fits_in}
-use Rattle.pipes.specs.Turns.{goes_on, stays, stalls, ends, asked, may_reply, sends_reply, may_write, receives, may_accept, sends_status, taken, received, replied, roomed, accepted, refused, turned}
+use Rattle.pipes.specs.Turns.{Turn, goes_on, stays, stalls, ends, asked, may_reply, sends_reply, may_write, receives, may_accept, sends_status, taken, received, replied, roomed, accepted, refused, turned}
 use Rattle.pipes.specs.Sending.{piece_of, sent, in_block, bytes_in}
 use Rattle.pipes.specs.Pipe.{Told, Records, Heard, lengths_of, packet_size, unheard, begins, moves, on_transfer, heard_as, heard}
 use Rattle.pipes.proofs.Inverse.{Sized, transfer-image}

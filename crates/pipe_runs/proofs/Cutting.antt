@@ -2,8 +2,7 @@
 use Rattle.octets.proofs.Vocabulary.{◌≡◌, refl, sym, ap, ◌∙◌, ℕ, zero, suc, ◌+◌, ◌-◌, ◌*◌, ◌/◌, ◌≤◌, ◌<◌, min, List, [], ◌∷◌, flat_map, map, Bool, true, false, length, take, drop, length-drop, eqb, take_all, take-add, drop-drop, arith, suc-mul, zero-mul, lt-ltb, eqb-true}
 use Rattle.octets.specs.Octets.{part}
 use Rattle.octets.specs.Sentences.{pick, from, up_to}
-use Rattle.packets.specs.declared.Packet.{Packet}
-use Rattle.packets.specs.Packets.{packet_count, can_cut, packet}
+use Rattle.packets.specs.Packets.{Packet, packet_count, can_cut, packet}
 use Rattle.packets.proofs.Sizes.{by_size}
 use Rattle.promises.specs.Packets.{joined, least, whole-reply}
 use Rattle.pipe_runs.specs.Packets.{packet_of, packets_of}

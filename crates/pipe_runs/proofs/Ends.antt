@@ -8,12 +8,11 @@ use Rattle.events.specs.declared.Event.TheVariants.{StatusEnd}
 use Rattle.order.specs.Run.{All}
 use Rattle.packets.specs.Packets.{packet}
 use Rattle.pipes.specs.declared.Transfer.{Transfer}
-use Rattle.pipes.specs.declared.Turn.{Turn}
 use Rattle.pipes.specs.declared.Wire.{Wire}
 use Rattle.pipes.specs.declared.Wire.TheVariants.{Setup, Taken, Received, Reset, Reply as Replies, Room, Accept, Refuse, Unknown}
 use Rattle.pipes.specs.Transfer.{idle, data_in, status_out, data_out, status_in}
 use Rattle.pipes.specs.Image.{transfer_of, image_of, fits_in}
-use Rattle.pipes.specs.Turns.{stays, stalls, asked, due, may_reply, sends_reply, may_write, receives, may_accept, sends_status, taken, received, replied, roomed, accepted, refused, turned}
+use Rattle.pipes.specs.Turns.{Turn, stays, stalls, asked, due, may_reply, sends_reply, may_write, receives, may_accept, sends_status, taken, received, replied, roomed, accepted, refused, turned}
 use Rattle.pipes.specs.Pipe.{Told, Records, lengths_of, on_transfer, heard_as, heard}
 use Rattle.pipe_runs.specs.Runs.{Happening, leaves, is_quiet, is_idle, ends_at, if_ended, events_by, events_at, events_in, no_end}
 use Rattle.pipe_runs.specs.Promises.{EndsBy, by_taken, by_empty}

@@ -16,12 +16,11 @@ use Rattle.packets.specs.Packets.{packet}
 use Rattle.promises.specs.Refusals.{event_number}
 use Rattle.pipes.specs.declared.Lengths.{Lengths}
 use Rattle.pipes.specs.declared.Transfer.{Transfer}
-use Rattle.pipes.specs.declared.Turn.{Turn}
 use Rattle.pipes.specs.declared.Wire.{Wire}
 use Rattle.pipes.specs.declared.Wire.TheVariants.{Setup as ASetup, Taken, Received, Reset, Reply as Replies, Room, Accept, Refuse, Unknown}
 use Rattle.pipes.specs.Transfer.{idle, stalled, asking_setup, data_in, status_out, data_out, asking_bytes, status_in, in_reply, send, await, receive, ask, with_stage, with_moved, good_size, good_reply, good_moved, fits}
 use Rattle.pipes.specs.Image.{transfer_of, image_of, fits_in}
-use Rattle.pipes.specs.Turns.{goes_on, stays, stalls, ends, asked, due, may_reply, sends_reply, may_write, receives, may_accept, sends_status, taken, received, replied, roomed, accepted as accepts, refused, turned, begun, started, reply_at}
+use Rattle.pipes.specs.Turns.{Turn, goes_on, stays, stalls, ends, asked, due, may_reply, sends_reply, may_write, receives, may_accept, sends_status, taken, received, replied, roomed, accepted as accepts, refused, turned, begun, started, reply_at}
 use Rattle.pipes.specs.Pipe.{Told, Records, Heard, lengths_of, packet_size, begins, moves, heard, heard_as}
 use Rattle.pipes.proofs.Inverse.{Sized, transfer-image}
 use Rattle.pipes.proofs.Packets.{small}

@@ -4,11 +4,10 @@ use Rattle.octets.specs.Sentences.{pick}
 use Rattle.sets.specs.Opening.{Board}
 use Rattle.events.specs.Step.{event}
 use Rattle.order.specs.Run.{run}
-use Rattle.pipes.specs.declared.Turn.{Turn}
 use Rattle.pipes.specs.declared.Wire.{Wire}
 use Rattle.pipes.specs.declared.Wire.TheVariants.{Setup, Taken, Received, Reset, Reply as Replies, Room, Accept, Refuse, Unknown}
 use Rattle.pipes.specs.Image.{transfer_of, fits_in}
-use Rattle.pipes.specs.Turns.{turned}
+use Rattle.pipes.specs.Turns.{Turn, turned}
 use Rattle.pipes.specs.Pipe.{Told, Records, unheard, moves, lengths_of, on_transfer, heard_as, heard}
 use Rattle.pipe_runs.specs.Runs.{Happening, on_wire, beside, leaves, leaves_by, after, ends_at, if_ended, events_by, events_at, events_in, device_after}
 

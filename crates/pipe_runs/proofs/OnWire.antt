@@ -12,10 +12,8 @@ use Rattle.records.specs.Image as records
 use Rattle.requests.specs.declared.Setup.{Setup}
 use Rattle.requests.specs.declared.Row.{Row}
 use Rattle.requests.specs.Table.{setup_of, largest_index, refusal}
-use Rattle.events.specs.declared.Answer.{Answer}
 use Rattle.events.specs.declared.Event.TheVariants.{Request, StatusEnd}
-use Rattle.events.specs.declared.Outcome.{Outcome}
-use Rattle.events.specs.Answer.{number_of, gives, done}
+use Rattle.events.specs.Answer.{Answer, Outcome, number_of, gives, done}
 use Rattle.events.specs.Step.{Reply, reply_of, setup_event, answer_setup, asks_test_mode, step, event}
 use Rattle.laws.proofs.Recipients.{let_through}
 use Rattle.promises.specs.Images.{on_image, step_sized}

@@ -11,12 +11,11 @@ use Rattle.events.specs.Step.{Reply, setup_event, event, opened}
 use Rattle.order.specs.Run.{All}
 use Rattle.laws.proofs.Outcomes.{chosen}
 use Rattle.promises.specs.Keeps.{FitImage, fresh_fit, image_fits, event_fits, never_eight as library_never_eight, Reached, after_opening, after_event}
-use Rattle.pipes.specs.declared.Turn.{Turn}
 use Rattle.pipes.specs.declared.Wire.{Wire}
 use Rattle.pipes.specs.declared.Wire.TheVariants.{Setup, Taken, Received, Reset, Reply as Replies, Room, Accept, Refuse, Unknown}
 use Rattle.pipes.specs.Transfer.{idle}
 use Rattle.pipes.specs.Image.{transfer_of, fits_in}
-use Rattle.pipes.specs.Turns.{turned}
+use Rattle.pipes.specs.Turns.{Turn, turned}
 use Rattle.pipes.specs.Pipe.{Told, Records, Heard, lengths_of, moves, begins, packet_size, on_transfer, heard_as, heard}
 use Rattle.pipes.proofs.Inverse.{image-length}
 use Rattle.pipe_runs.specs.Runs.{Happening, on_wire, beside, leaves, leaves_by, after, heard_in, power_on, is_idle, is_stalled, a_setup, events_at, events_in, device_after, number_after}

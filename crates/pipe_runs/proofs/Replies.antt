@@ -6,9 +6,7 @@ use Rattle.sets.specs.Opening.{Board}
 use Rattle.records.specs.Image.{device_of}
 use Rattle.records.specs.Current.{set_for}
 use Rattle.requests.specs.Table.{setup_of}
-use Rattle.events.specs.declared.Answer.{Answer}
-use Rattle.events.specs.declared.Answer.TheVariants.{Done, OneByte, TwoBytes, SetPart, SerialPart, Refused}
-use Rattle.events.specs.Answer.{bytes_of, part_of, InsideAt}
+use Rattle.events.specs.Answer.{Answer, Done, OneByte, TwoBytes, SetPart, SerialPart, Refused, bytes_of, part_of, InsideAt}
 use Rattle.events.specs.Step.{Reply, setup_event, event}
 use Rattle.order.specs.Run.{All}
 use Rattle.packets.specs.Packets.{can_cut}

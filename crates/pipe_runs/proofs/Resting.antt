@@ -6,9 +6,8 @@ use Rattle.records.specs.Image.{device_of}
 use Rattle.records.specs.Fits.{fits_on}
 use Rattle.requests.specs.Table.{setup_of}
 use Rattle.events.specs.declared.Event.TheVariants.{Malformed}
-use Rattle.events.specs.declared.Outcome.{Outcome}
 use Rattle.laws.proofs.Outcomes.{chosen}
-use Rattle.events.specs.Answer.{number_of, bytes_of}
+use Rattle.events.specs.Answer.{Outcome, number_of, bytes_of}
 use Rattle.events.specs.Step.{Reply, step, event}
 use Rattle.order.specs.Run.{All}
 use Rattle.pipes.specs.declared.Lengths.{Lengths}

@@ -15,10 +15,9 @@ use Rattle.events.specs.Step.{Reply, setup_event, event}
 use Rattle.laws.proofs.Outcomes.{chosen}
 use Rattle.promises.specs.Refusal.{allows_fit, allows_image}
 use Rattle.promises.specs.Refusals.{event_number}
-use Rattle.pipes.specs.declared.Turn.{Turn}
 use Rattle.pipes.specs.Transfer.{idle, stalled, stall}
 use Rattle.pipes.specs.Image.{image_of}
-use Rattle.pipes.specs.Turns.{reply_at, started, stalls, begun}
+use Rattle.pipes.specs.Turns.{Turn, reply_at, started, stalls, begun}
 use Rattle.pipes.specs.Pipe.{Records, Heard, packet_size, heard}
 use Rattle.pipe_runs.specs.Runs.{a_setup, answered_with}
 

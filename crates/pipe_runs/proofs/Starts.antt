@@ -7,10 +7,8 @@ use Rattle.sets.specs.Opening.{Board}
 use Rattle.sets.specs.View.{accepted}
 use Rattle.records.specs.Image.{device_of}
 use Rattle.requests.specs.Table.{setup_of}
-use Rattle.events.specs.declared.Answer.{Answer}
-use Rattle.events.specs.declared.Answer.TheVariants.{Done, OneByte, TwoBytes, SetPart, SerialPart, Refused}
 use Rattle.events.specs.declared.Event.{Event}
-use Rattle.events.specs.Answer.{number_of, part_of, InsideAt}
+use Rattle.events.specs.Answer.{Answer, Done, OneByte, TwoBytes, SetPart, SerialPart, Refused, number_of, part_of, InsideAt}
 use Rattle.events.specs.Step.{setup_event, event}
 use Rattle.promises.specs.Refusals.{event_inside}
 use Rattle.promises.specs.Replies.{size_cuts, event_within, done_accepted}

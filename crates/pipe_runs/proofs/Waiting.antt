@@ -15,14 +15,11 @@ use Rattle.records.specs.Current.{selected, endpoint_at, view_at}
 use Rattle.records.specs.Fits.{fits_on}
 use Rattle.requests.specs.declared.Setup.{Setup}
 use Rattle.requests.specs.Table.{recipient, refusal}
-use Rattle.events.specs.declared.Answer.{Answer}
-use Rattle.events.specs.declared.Answer.TheVariants.{Refused}
 use Rattle.events.specs.declared.Event.{Event}
 use Rattle.events.specs.declared.Event.TheVariants.{Request, Malformed, StatusEnd, BusReset}
-use Rattle.events.specs.declared.Outcome.{Outcome}
 use Rattle.events.specs.declared.facts.Located.{Located}
 use Rattle.events.specs.declared.facts.Located.TheVariants.{Body, Serial, Nowhere}
-use Rattle.events.specs.Answer.{number_of, gives, done}
+use Rattle.events.specs.Answer.{Answer, Refused, Outcome, number_of, gives, done}
 use Rattle.events.specs.Requests.{by_recipient, is_endpoint_zero, device_feature, names_test_mode, test_selector, set_test_mode, interface_feature, endpoint_feature, endpoint_status, halt_feature, clear_halt, set_halt, locate, describe, get_status, clear_feature, set_feature, set_address, get_descriptor, get_configuration, set_configuration, get_interface, set_interface}
 use Rattle.events.specs.Step.{Reply, reply_of, request, refusal_for, answer_setup, status_end, good_reset, halt_at, halt as halt_event, pass_at, packet_passed as packet_passed_event, respond, step, event}
 use Rattle.laws.proofs.Fitting.{fitting}

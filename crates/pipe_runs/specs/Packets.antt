@@ -6,8 +6,7 @@ use Rattle.octets.specs.Sentences.{pick, up_to}
 use Rattle.sets.specs.Opening.{Board}
 use Rattle.records.specs.Image.{device_of}
 use Rattle.records.specs.Current.{set_for}
-use Rattle.events.specs.declared.Answer.{Answer}
-use Rattle.events.specs.Answer.{bytes_of, part_of, bytes_at}
+use Rattle.events.specs.Answer.{Answer, bytes_of, part_of, bytes_at}
 use Rattle.events.specs.Step.{setup_event, event}
 use Rattle.packets.specs.Packets.{packet_count, packet}
 use Rattle.pipes.specs.Transfer.{send, await}

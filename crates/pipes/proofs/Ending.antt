@@ -3,11 +3,10 @@ use Rattle.octets.proofs.Vocabulary.{◌≡◌, refl, sym, ◌∙◌, ℕ, ◌+�
 use Rattle.octets.specs.Sentences.{pick}
 use Rattle.packets.specs.Packets.{packet}
 use Rattle.pipes.specs.declared.Transfer.{Transfer}
-use Rattle.pipes.specs.declared.Turn.{Turn}
 use Rattle.pipes.specs.declared.Wire.{Wire}
 use Rattle.pipes.specs.declared.Wire.TheVariants.{Taken, Received, Reply, Room, Accept, Refuse, Setup, Reset, Unknown}
 use Rattle.pipes.specs.Transfer.{data_in, status_out, data_out, status_in, idle}
-use Rattle.pipes.specs.Turns.{stays, stalls, sends_status, taken, due, received, asked, may_reply, sends_reply, replied, may_write, receives, roomed, may_accept, accepted, refused, turned}
+use Rattle.pipes.specs.Turns.{Turn, stays, stalls, sends_status, taken, due, received, asked, may_reply, sends_reply, replied, may_write, receives, roomed, may_accept, accepted, refused, turned}
 
 -- what holds of both choices holds of the one that is picked
 chosen : {A : Type 0} (P : A → Type 0) (t : Bool) {x y : A} → (t ≡ true → P x) → (t ≡ false → P y) → P (pick t x y)

@@ -3,10 +3,9 @@ use Rattle.octets.proofs.Vocabulary.{◌≡◌, ap, ◌∙◌, ℕ, List, Bool, 
 use Rattle.octets.specs.Sentences.{pick}
 use Rattle.pipes.specs.declared.Lengths.{Lengths}
 use Rattle.pipes.specs.declared.Wire.{Wire}
-use Rattle.pipes.specs.declared.hearing.Moved.{Moved}
 use Rattle.pipes.specs.Transfer.{nothing}
 use Rattle.pipes.specs.Pipe.{tells}
-use Rattle.pipes.specs.Hearing.{unheard_moved, moved_by, pipe_moved, looked, pipe_looked}
+use Rattle.pipes.specs.Hearing.{Moved, unheard_moved, moved_by, pipe_moved, looked, pipe_looked}
 
 module _ (l : Lengths) (w : Wire) (pipe : List ℕ) (long : length pipe ≡ 16) (looks : tells w ≡ false) where
   pub looked-moves : looked l w pipe ≡ moved_by l w pipe

@@ -8,9 +8,7 @@ use Rattle.sets.specs.View.{opening_of, accepted}
 use Rattle.sets.proofs.Groups.{groups}
 use Rattle.records.specs.Current.{set_for, board_for}
 use Rattle.records.proofs.InUse.{row_for, opens_for}
-use Rattle.events.specs.declared.Answer.{Answer}
-use Rattle.events.specs.declared.Answer.TheVariants.{Done, OneByte, TwoBytes, SetPart, SerialPart, Refused}
-use Rattle.events.specs.Answer.{number_of, bytes_of, part_of, InsideAt}
+use Rattle.events.specs.Answer.{Answer, Done, OneByte, TwoBytes, SetPart, SerialPart, Refused, number_of, bytes_of, part_of, InsideAt}
 use Rattle.pipes.specs.Turns.{reply_at}
 
 -- "at most 16,384" bytes

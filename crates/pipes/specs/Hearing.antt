@@ -3,12 +3,9 @@ use Rattle.std.specs.Prelude.{ℕ, ◌+◌, ◌/◌, ◌%◌, ◌≡◌, Bool, t
 use Rattle.octets.specs.Octets.{byte}
 use Rattle.octets.specs.Sentences.{pick}
 use Rattle.requests.specs.declared.Setup.{Setup as SetupBytes}
-use Rattle.events.specs.declared.Answer.{Answer}
-use Rattle.events.specs.Answer.{number_of, bytes_of}
+use Rattle.events.specs.Answer.{Answer, number_of, bytes_of}
 use Rattle.pipes.specs.declared.Lengths.{Lengths}
 use Rattle.pipes.specs.declared.Piece.{Piece}
-use Rattle.pipes.specs.declared.hearing.Moved.{Moved}
-use Rattle.pipes.specs.declared.response.Response.{Response}
 use Rattle.pipes.specs.declared.Wire.{Wire}
 use Rattle.pipes.specs.declared.Wire.TheVariants.{Setup, Taken, Received, Reset, Reply as Replies, Room, Accept, Refuse, Unknown}
 use Rattle.pipes.specs.Transfer.{nothing}
@@ -30,6 +27,12 @@ is_setup (Room n) = false
 is_setup Accept = false
 is_setup Refuse = false
 
+-- its number and order, and whether the library has to hear of it: of a setup, a reset, and a transfer that has ended
+pub record Moved : Type 0 where
+  pub number : ℕ
+  pub order : ℕ
+  pub ended : Bool
+
 abbrev pub unheard_moved : Moved
 unheard_moved = record { number = 8; order = nothing; ended = false }
 
@@ -49,7 +52,14 @@ looked l w pipe = pick (eqb (length pipe) 16) (pick (tells w) (record { number =
 abbrev pub pipe_looked : Lengths → Wire → List ℕ → List ℕ
 pipe_looked l w pipe = pick (eqb (length pipe) 16) (pick (tells w) pipe (pipe_moved l w pipe)) pipe
 
--- ---- what an event gets
+-- ---- what an event gets: its number, the order, and the bytes handed back: how many, and the first and the second, or 0
+pub record Response : Type 0 where
+  pub number : ℕ
+  pub order : ℕ
+  pub count : ℕ
+  pub first : ℕ
+  pub second : ℕ
+
 abbrev pub bare : ℕ → ℕ → Response
 bare number order = record { number = number; order = order; count = 0; first = 0; second = 0 }
 

@@ -9,19 +9,17 @@ use Rattle.records.specs.Image.{device_of}
 use Rattle.records.specs.Current.{set_for}
 use Rattle.requests.specs.declared.Setup.{Setup as SetupBytes}
 use Rattle.requests.specs.Table.{setup_of}
-use Rattle.events.specs.declared.Answer.{Answer}
 use Rattle.events.specs.declared.Event.{Event}
 use Rattle.events.specs.declared.Event.TheVariants.{Malformed, StatusEnd, BusReset}
-use Rattle.events.specs.Answer.{number_of, bytes_of}
+use Rattle.events.specs.Answer.{Answer, number_of, bytes_of}
 use Rattle.events.specs.Step.{Reply, setup_event, event}
 use Rattle.pipes.specs.declared.Lengths.{Lengths}
 use Rattle.pipes.specs.declared.Piece.{Piece}
-use Rattle.pipes.specs.declared.Turn.{Turn}
 use Rattle.pipes.specs.declared.Wire.{Wire}
 use Rattle.pipes.specs.declared.Wire.TheVariants.{Setup, Taken, Received, Reset, Reply as Replies, Room, Accept, Refuse, Unknown}
 use Rattle.pipes.specs.Transfer.{idle, nothing}
 use Rattle.pipes.specs.Image.{transfer_of, image_of, fits_in}
-use Rattle.pipes.specs.Turns.{reply_at, started, begun, turned}
+use Rattle.pipes.specs.Turns.{Turn, reply_at, started, begun, turned}
 use Rattle.pipes.specs.Sending.{room_for, sent}
 
 -- PIPE 1, 44: what is told at an event; a setup's bytes and the application's reply are lent with each

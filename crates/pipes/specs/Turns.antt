@@ -2,15 +2,19 @@
 use Rattle.std.specs.Prelude.{ℕ, ◌+◌, ◌-◌, ◌/◌, min, Bool, true, false, ◌&&◌, ◌||◌, not, eqb, leb, ltb}
 use Rattle.octets.specs.Sentences.{pick}
 use Rattle.requests.specs.declared.Setup.{Setup}
-use Rattle.events.specs.declared.Answer.{Answer}
-use Rattle.events.specs.declared.Answer.TheVariants.{Done, OneByte, TwoBytes, SetPart, SerialPart, Refused}
+use Rattle.events.specs.Answer.{Answer, Done, OneByte, TwoBytes, SetPart, SerialPart, Refused}
 use Rattle.packets.specs.Packets.{packet}
 use Rattle.pipes.specs.declared.Transfer.{Transfer}
-use Rattle.pipes.specs.declared.Turn.{Turn}
 use Rattle.pipes.specs.declared.Piece.{Piece}
 use Rattle.pipes.specs.declared.Wire.{Wire}
 use Rattle.pipes.specs.declared.Wire.TheVariants.{Taken, Received, Reply, Room, Accept, Refuse, Setup as ASetup, Reset, Unknown}
 use Rattle.pipes.specs.Transfer.{asking_setup, data_in, status_out, data_out, asking_bytes, status_in, nothing, send, await, receive, stall, ask, in_bytes, in_set, in_serial, in_reply, idle, stalled, with_stage, with_moved, with_reply}
+
+-- what an event makes of a transfer: the transfer after it, the order to the peripheral, and whether it has ended
+pub record Turn : Type 0 where
+  pub transfer : Transfer
+  pub order : ℕ
+  pub ended : Bool
 
 abbrev pub goes_on : Transfer → ℕ → Turn
 goes_on t order = record { transfer = t; order = order; ended = false }

@@ -1,4 +1,5 @@
-// The stages of a transfer (docs/PIPE.md, 7).
+// The stages of a transfer (docs/PIPE.md, 7), as byte 0 of the pipe record has them.
+// Kept: bytes and no enum, since any may stand in the record that C lends; whether it fits is told of each (pipes/Transfer: `fits`).
 pub const IDLE: u8 = 0;
 
 pub const ASKING_SETUP: u8 = 1;

@@ -22,9 +22,8 @@ use Rattle.records.specs.Device.{in_test_mode, settled}
 use Rattle.records.specs.Current.{board_for, view_at}
 use Rattle.records.specs.Fits.{fits_on}
 use Rattle.records.proofs.InUse.{row_for, opens_for}
-use Rattle.events.specs.declared.Answer.TheVariants.{SetPart, SerialPart}
 use Rattle.events.specs.declared.Event.TheVariants.{Request}
-use Rattle.events.specs.Answer.{gives, refused}
+use Rattle.events.specs.Answer.{SetPart, SerialPart, gives, refused}
 use Rattle.events.specs.Requests.{is_entry, language_for, locate_string, describe}
 use Rattle.events.specs.Step.{step}
 use Rattle.promises.specs.Examples.{computed, T}

@@ -11,13 +11,11 @@ use Rattle.records.specs.Fits.{good_alternates, stands_at}
 use Rattle.requests.specs.declared.Setup.{Setup}
 use Rattle.requests.specs.Table.{refusal}
 use Rattle.records.specs.Image.{device_of}
-use Rattle.events.specs.declared.Answer.TheVariants.{Refused}
 use Rattle.events.specs.declared.Event.{Event}
 use Rattle.events.specs.declared.Event.TheVariants.{Request, Malformed, StatusEnd, BusReset, Halt, PacketPassed, Power, Suspend, Resume, Wake}
 use Rattle.events.specs.declared.facts.Located.{Located}
 use Rattle.events.specs.declared.facts.Located.TheVariants.{Nowhere}
-use Rattle.events.specs.declared.Outcome.{Outcome}
-use Rattle.events.specs.Answer.{done, refused}
+use Rattle.events.specs.Answer.{Refused, Outcome, done, refused}
 use Rattle.events.specs.Requests.{by_recipient, device_feature, interface_feature, endpoint_feature, set_halt, is_entry, body_at, language_for, locate_string, describe, get_status, clear_feature, set_address, get_configuration, set_configuration, get_interface, set_interface}
 use Rattle.events.specs.Step.{halt, packet_passed, power, wake, Reply, reply_of}
 use Rattle.promises.specs.Base.{opening}

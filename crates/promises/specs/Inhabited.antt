@@ -10,8 +10,7 @@ use Rattle.records.specs.Device.{nothing, zeros, fresh, with_waiting, with_endpo
 use Rattle.records.specs.Fits.{fits_on}
 use Rattle.events.specs.declared.Event.{Event}
 use Rattle.events.specs.declared.Event.TheVariants.{StatusEnd, BusReset, Halt}
-use Rattle.events.specs.declared.Answer.TheVariants.{Refused, SetPart, SerialPart}
-use Rattle.events.specs.Answer.{number_of, bytes_of, part_of}
+use Rattle.events.specs.Answer.{SetPart, SerialPart, Refused, number_of, bytes_of, part_of}
 use Rattle.events.specs.Step.{step, event, opened, setup_event}
 use Rattle.requests.specs.Table.{setup_of}
 use Rattle.packets.specs.Packets.{can_cut}

@@ -10,8 +10,7 @@ use Rattle.records.specs.declared.Device.{Device}
 use Rattle.records.specs.Device.{zeros, with_endpoints}
 use Rattle.records.specs.Fits.{fits_on}
 use Rattle.records.specs.Image.{device_of}
-use Rattle.events.specs.declared.Answer.{Answer}
-use Rattle.events.specs.declared.Answer.TheVariants.{Done, TwoBytes, Refused}
+use Rattle.events.specs.Answer.{Answer, Done, TwoBytes, Refused}
 use Rattle.events.specs.declared.Event.{Event}
 use Rattle.events.specs.declared.Event.TheVariants.{Halt, PacketPassed, StatusEnd}
 use Rattle.events.specs.Concerns.{concerns_on}

@@ -15,7 +15,7 @@ use Rattle.requests.specs.declared.Setup.{Setup}
 use Rattle.requests.specs.Table.{recipient}
 use Rattle.events.specs.declared.facts.Located.{Located}
 use Rattle.events.specs.declared.facts.Located.TheVariants.{Body, Serial, Nowhere}
-use Rattle.events.specs.declared.Outcome.{Outcome}
+use Rattle.events.specs.Answer.{Outcome}
 use Rattle.events.specs.Requests.{by_recipient, is_endpoint_zero, device_feature, names_test_mode, test_selector, set_device_feature, interface_feature, endpoint_feature, endpoint_status, halt_feature, clear_halt, set_halt, locate, describe, get_status, clear_feature, set_feature, set_address, get_descriptor, get_configuration, set_configuration, get_interface, set_interface}
 use Rattle.events.specs.Step.{request, refusal_for, answer_setup}
 use Rattle.laws.proofs.Outcomes.{chosen}

@@ -23,9 +23,8 @@ use Rattle.sets.specs.View.{opening_of, accepted}
 use Rattle.sets.proofs.Groups.{groups, one-device}
 use Rattle.sets.proofs.Pair.{opened}
 use Rattle.records.specs.declared.Device.{Device}
-use Rattle.events.specs.declared.Answer.TheVariants.{Refused}
 use Rattle.events.specs.declared.Event.{Event}
-use Rattle.events.specs.Answer.{refused}
+use Rattle.events.specs.Answer.{Refused, refused}
 use Rattle.events.specs.Step.{step, event}
 use Rattle.promises.specs.Replies.{good_device_of}
 

@@ -8,9 +8,8 @@ use Rattle.records.specs.Device.{in_address, in_configured, zeros, fresh, with_a
 use Rattle.records.specs.Current.{current_endpoints}
 use Rattle.requests.specs.declared.Setup.{Setup}
 use Rattle.requests.specs.Table.{setup_of}
-use Rattle.events.specs.declared.Outcome.{Outcome}
 use Rattle.events.specs.declared.Event.TheVariants.{Request}
-use Rattle.events.specs.Answer.{done, refused}
+use Rattle.events.specs.Answer.{Outcome, done, refused}
 use Rattle.events.specs.Requests.{set_interface, halt_feature, set_halt, clear_halt, endpoint_feature}
 use Rattle.events.specs.Step.{step}
 use Rattle.promises.specs.Examples.{bytes, computed, S, T}

@@ -15,9 +15,8 @@ use Rattle.records.specs.declared.Device.{Device}
 use Rattle.records.specs.Fits.{fits_on}
 use Rattle.records.specs.Image.{device_of, image_of}
 use Rattle.records.specs.Device.{test_waits, Sized}
-use Rattle.events.specs.declared.Answer.{Answer}
+use Rattle.events.specs.Answer.{Answer, Outcome}
 use Rattle.events.specs.declared.Event.{Event}
-use Rattle.events.specs.declared.Outcome.{Outcome}
 use Rattle.events.specs.Concerns.{concerns_on}
 use Rattle.events.specs.Step.{step, Reply, reply_of, event}
 use Rattle.order.specs.Run.{log, own}

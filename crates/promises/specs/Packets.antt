@@ -6,8 +6,7 @@ use mathlib.Core.List.{List, [], ◌∷◌, map, flat_map}
 use Rattle.octets.specs.Octets.{part}
 use Rattle.octets.specs.Sentences.{pick, from}
 use Rattle.octets.proofs.Sentences.{cases}
-use Rattle.packets.specs.declared.Packet.{Packet}
-use Rattle.packets.specs.Packets.{packet_count, can_cut, packet_where, packet, packets}
+use Rattle.packets.specs.Packets.{Packet, packet_count, can_cut, packet_where, packet, packets}
 use Rattle.packets.proofs.Sizes.{by_size}
 use Rattle.promises.specs.Examples.{computed}
 

@@ -18,11 +18,9 @@ use Rattle.records.specs.Fits.{fits_on}
 use Rattle.records.specs.Image.{device_of, image_of}
 use Rattle.requests.specs.declared.Setup.{Setup}
 use Rattle.requests.specs.Table.{refusal}
-use Rattle.events.specs.declared.Answer.TheVariants.{Done, TwoBytes}
 use Rattle.events.specs.declared.Event.{Event}
 use Rattle.events.specs.declared.Event.TheVariants.{Request, Malformed, StatusEnd, BusReset, Halt, PacketPassed, Power, Suspend, Resume, Wake}
-use Rattle.events.specs.declared.Outcome.{Outcome}
-use Rattle.events.specs.Answer.{gives, done, refused}
+use Rattle.events.specs.Answer.{Done, TwoBytes, Outcome, gives, done, refused}
 use Rattle.events.specs.Requests.{get_status}
 use Rattle.events.specs.Concerns.{concerns, concerns_on}
 use Rattle.events.specs.Step.{request, answer_setup, status_end, good_reset, halt_at, halt, pass_at, packet_passed, respond, step, reply_of, event}

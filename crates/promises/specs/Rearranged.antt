@@ -5,9 +5,8 @@ use Rattle.octets.specs.Sentences.{every, only}
 use Rattle.sets.specs.Opening.{Board}
 use Rattle.records.specs.declared.Device.{Device}
 use Rattle.records.specs.Image.{device_of}
-use Rattle.events.specs.declared.Answer.{Answer}
 use Rattle.events.specs.declared.Event.{Event}
-use Rattle.events.specs.Answer.{number_of, bytes_of, Part, part_of}
+use Rattle.events.specs.Answer.{Answer, number_of, bytes_of, Part, part_of}
 use Rattle.events.specs.Concerns.{concerns_on}
 pub use Rattle.events.specs.Concerns.{is_this}
 use Rattle.events.specs.Step.{step, event}

@@ -17,13 +17,10 @@ use Rattle.records.specs.Image.{device_of, image_of}
 use Rattle.records.specs.Current.{board_for, view_at}
 use Rattle.records.proofs.InUse.{row_for, opens_for}
 use Rattle.records.specs.Fits.{fits_on}
-use Rattle.events.specs.declared.Answer.{Answer}
-use Rattle.events.specs.declared.Answer.TheVariants.{Done, OneByte, TwoBytes, SetPart, SerialPart, Refused}
 use Rattle.events.specs.declared.Event.{Event}
 use Rattle.events.specs.declared.Event.TheVariants.{Request, Malformed, StatusEnd, BusReset, Halt, PacketPassed, Power, Suspend, Resume, Wake}
 use Rattle.laws.specs.Parts.{drops}
-use Rattle.events.specs.declared.Outcome.{Outcome}
-use Rattle.events.specs.Answer.{number_of, bytes_of, part_of, InsideAt}
+use Rattle.events.specs.Answer.{Answer, Done, OneByte, TwoBytes, SetPart, SerialPart, Refused, Outcome, number_of, bytes_of, part_of, InsideAt}
 use Rattle.events.specs.Step.{answer_setup, respond, step, event, opened}
 use Rattle.promises.specs.Refusal.{after_settling, left_by, refuses, allows_fit, allows, empty_part, allows_image, opens}
 use Rattle.sets.proofs.Groups.{groups}

@@ -30,8 +30,7 @@ use Rattle.events.specs.declared.Event.{Event}
 use Rattle.events.specs.declared.Event.TheVariants.{Request, Malformed}
 use Rattle.events.specs.declared.facts.Located.{Located}
 use Rattle.events.specs.declared.facts.Located.TheVariants.{Body, Serial, Nowhere}
-use Rattle.events.specs.declared.Outcome.{Outcome}
-use Rattle.events.specs.Answer.{number_of, bytes_of, part_of, refused}
+use Rattle.events.specs.Answer.{Outcome, number_of, bytes_of, part_of, refused}
 use Rattle.events.specs.Requests.{by_recipient, is_endpoint_zero, device_feature, names_test_mode, test_selector, set_device_feature, interface_feature, endpoint_feature, endpoint_status, halt_feature, clear_halt, set_halt, locate, describe, get_status, clear_feature, set_feature, set_address, get_descriptor, get_configuration, set_configuration, get_interface, set_interface}
 use Rattle.events.specs.Step.{request, refusal_for, answer_setup, step, event, setup_event}
 use Rattle.packets.specs.Packets.{can_cut}

@@ -19,8 +19,7 @@ use Rattle.records.specs.Fits.{fits_on}
 use Rattle.requests.specs.declared.Setup.{Setup}
 use Rattle.events.specs.declared.Event.{Event}
 use Rattle.events.specs.declared.Event.TheVariants.{Request, Malformed, StatusEnd, BusReset, Halt, PacketPassed, Power, Suspend, Resume, Wake}
-use Rattle.events.specs.declared.Outcome.{Outcome}
-use Rattle.events.specs.Answer.{number_of, done, refused}
+use Rattle.events.specs.Answer.{Outcome, number_of, done, refused}
 use Rattle.events.specs.Step.{status_end, good_reset, halt_at, halt, pass_at, packet_passed, respond, step}
 use Rattle.laws.proofs.Outcomes.{chosen}
 use Rattle.promises.specs.Examples.{computed, T}

@@ -3,7 +3,7 @@
 use Rattle.std.specs.Prelude.{ℕ, ◌≡◌, refl, List, [], ◌∷◌, ◌++◌, map}
 use Rattle.descriptors.specs.Limits.{full_speed, super_speed}
 use Rattle.sets.specs.Opening.{Board, opening}
-use Rattle.events.specs.declared.Answer.TheVariants.{Refused}
+use Rattle.events.specs.Answer.{Refused}
 use Rattle.events.specs.declared.Event.TheVariants.{BusReset}
 use Rattle.events.specs.Step.{event}
 use Rattle.listing.specs.Listing.{listing, line, accepted_word}

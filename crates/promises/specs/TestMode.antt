@@ -18,8 +18,7 @@ use Rattle.requests.specs.declared.Setup.{Setup}
 use Rattle.requests.specs.Table.{setup_of}
 use Rattle.events.specs.declared.Event.{Event}
 use Rattle.events.specs.declared.Event.TheVariants.{Request, Malformed, StatusEnd, BusReset, Halt, PacketPassed, Power, Suspend, Resume, Wake}
-use Rattle.events.specs.declared.Outcome.{Outcome}
-use Rattle.events.specs.Answer.{number_of, done, refused}
+use Rattle.events.specs.Answer.{Outcome, number_of, done, refused}
 use Rattle.events.specs.Step.{answer_setup, status_end, good_reset, halt_at, halt, pass_at, packet_passed, respond, step}
 use Rattle.laws.proofs.Fitting.{fitting}
 use Rattle.laws.proofs.Outcomes.{chosen}

@@ -1,5 +1,5 @@
 -- A record and its 32-byte image are inverse. No axiom.
-use Rattle.octets.proofs.Vocabulary.{◌≡◌, sym, ap, ◌∙◌, ℕ, zero, suc, ◌+◌, ◌*◌, ◌/◌, ◌%◌, ◌^◌, ◌<◌, ◌≤◌, List, [], ◌∷◌, ◌++◌, append_assoc, append-nil, length, set, take, drop, length-append, length-take, length-drop, take-append-drop, drop_of_length-le, drop-cons, drop-drop, get_or-append-add, take_at, take-length, arith, add-zero, zero-add, le_of_eq, min-le_left, div-div-eq-div-mul}
+use Rattle.octets.proofs.Vocabulary.{◌≡◌, sym, ap, ◌∙◌, ℕ, zero, suc, ◌+◌, ◌*◌, ◌/◌, ◌%◌, ◌^◌, ◌<◌, ◌≤◌, List, [], ◌∷◌, ◌++◌, append_assoc, append-nil, length, take, drop, length-append, length-take, length-drop, take-append-drop, drop_of_length-le, drop-cons, drop-drop, get_or-append-add, take_at, arith, add-zero, zero-add, le_of_eq, div-div-eq-div-mul}
 use Rattle.octets.specs.Octets.{byte, part}
 use Rattle.records.specs.declared.Device.{Device}
 use Rattle.records.specs.Device.{with_endpoints, Sized}
@@ -8,12 +8,6 @@ use Rattle.records.specs.Image.{four_bytes, bytes_of_four, device_of, image_of}
 -- a record is known by its alternates, halts and toggles, and the rest
 pub same-device : (d : Device) {a : List ℕ} {h t : ℕ} → a ≡ d.alternates → h ≡ d.halts → t ≡ d.toggles → with_endpoints a h t d ≡ d
 same-device d p q r = rw (p, q, r)
-
--- a part of n elements, once a list of n is copied over it
-pub copied : (xs ys : List ℕ) (n : ℕ) → length xs ≡ n → take (length xs) xs ++ drop (length xs) (take n ys) ≡ xs
-copied xs ys n e =
-    let short : length (take n ys) ≤ length xs = rw (length-take, e) (min-le_left n (length ys)) in
-    rw (take-length, drop_of_length-le (take n ys) short, append-nil)
 
 -- ---- a list spelled out
 -- n bytes from i on, one by one
@@ -34,11 +28,6 @@ pub spelled : (n : ℕ) (bytes : List ℕ) → length bytes ≡ n → bytes ≡ 
 spelled n bytes e =
     let past : length bytes ≤ n + 0 = omega arith in
     window-drop n 0 bytes (omega arith) ∙ rw (drop_of_length-le bytes past, append-nil)
-
--- four bytes, written one by one
-pub all_set : (bytes : List ℕ) (a b c d : ℕ) → length bytes ≡ 4 → set (set (set (set bytes 0 a) 1 b) 2 c) 3 d ≡ a ∷ b ∷ c ∷ d ∷ []
-unfolding window
-all_set bytes a b c d h = rw (spelled 4 bytes h)
 
 -- ---- a number of four bytes
 four-at : (xs ys : List ℕ) (k : ℕ) → length xs ≡ k → four_bytes (xs ++ ys) k ≡ four_bytes ys 0

@@ -1,6 +1,6 @@
 -- An image whose bytes are written one by one, or part by part. No axiom.
-use Rattle.octets.proofs.Vocabulary.{◌≡◌, refl, sym, ap, subst, ◌∙◌, ℕ, zero, suc, ◌+◌, ◌<◌, List, [], ◌∷◌, ◌++◌, append_assoc, append-nil, Bool, true, false, length, set, take, drop, replicate, get_or, length-append, length-take, length-set, drop_of_length-le, ltb, take_at, take_all, drop_at, arith, le_of_eq, le_of_suc-le-suc, not-suc-le-zero, lt-ltb}
-use native.Mathlib.Numerals.{add-one}
+use Rattle.octets.proofs.Vocabulary.{◌≡◌, refl, sym, ◌∙◌, ℕ, ◌+◌, ◌-◌, ◌<◌, List, [], ◌∷◌, ◌++◌, append_assoc, append-nil, Bool, true, false, length, set, take, drop, replicate, length-append, length-take, length-set, drop_of_length-le, ltb, take_at, drop_at, arith, le_of_eq, lt-ltb}
+use Rattle.std.proofs.lemmas.List.{set-append_left, set-append_right}
 use Rattle.octets.specs.Sentences.{pick}
 use borrow.Rule.Slice.PartMut.{put_mid}
 use Rattle.records.specs.declared.Device.{Device}
@@ -11,19 +11,9 @@ use Rattle.records.specs.Image.{bytes_of_four, image_of}
 use Rattle.records.specs.Change.{with_setting, changed, after, waits_after, settled_with}
 use Rattle.records.proofs.Image.{front}
 
--- a byte that has the value already
-pub put-there : (l : List ℕ) (k v : ℕ) → get_or l k 0 ≡ v → set l k v ≡ l
-put-there [] k v e = refl
-put-there (x ∷ l) zero v e = ap (λ (y : ℕ). y ∷ l) (sym e)
-put-there (x ∷ l) (suc k) v e = ap (λ (t : List ℕ). x ∷ t) (put-there l k v e)
-
 -- a byte written in a list that is known
-pub put_on : (k v : ℕ) {was after from : List ℕ} → after ≡ set was k v → was ≡ from → after ≡ set from k v
-put_on k v e p = e ∙ ap (λ (l : List ℕ). set l k v) p
-
--- a list filled to its end
-pub filled : (l : List ℕ) (k : ℕ) → k ≡ length l → replicate k 0 ++ drop k l ≡ replicate (length l) 0
-filled l k e = rw (e, drop_of_length-le l (le_of_eq refl), append-nil)
+pub put_on : (k v : ℕ) {n : ℕ} {was from : List ℕ} → n ≡ v → was ≡ from → set was k n ≡ set from k v
+put_on k v e p = rw (e, p)
 
 -- a part written behind what comes before it
 pub put-after : (p q m : List ℕ) (n k : ℕ) → length p ≡ n → put_mid n k (p ++ q) m ≡ p ++ m ++ drop k q
@@ -77,16 +67,17 @@ module _ (d : Device) where
     words-at : length (front d ++ d.alternates) ≡ 24
     words-at = rw (length-append (front d) d.alternates, sixteen)
 
-    pub setting-put : (j alternate : ℕ) {image part : List ℕ} → j < 16 → image ≡ image_of d → part ≡ set (take 16 (drop 8 image)) j alternate
-        → put_mid 8 16 image part ≡ image_of (with_endpoints (with_setting j alternate d.alternates) d.halts d.toggles d)
+    pub setting-put : (j alternate : ℕ) → j < 16 → set (image_of d) (8 + j) alternate ≡ image_of (with_endpoints (with_setting j alternate d.alternates) d.halts d.toggles d)
     unfolding image_of
-    setting-put j alternate {image} h p q =
+    setting-put j alternate h =
         let a = d.alternates in
-        let words = bytes_of_four d.halts ++ bytes_of_four d.toggles in
-        let e : image ≡ front d ++ (a ++ words) = p ∙ ap (λ (l : List ℕ). front d ++ l) (append_assoc a (bytes_of_four d.halts) (bytes_of_four d.toggles)) in
-        let b = set a j alternate in
-        rw (q, e, take_at a words 16 sixteen, lt-ltb j 16 h)
-        (put-after (front d) (a ++ words) b 8 16 refl ∙ rw (drop_at a words 16 sixteen) (sym (append_assoc (front d ++ b) (bytes_of_four d.halts) (bytes_of_four d.toggles))))
+        let b = bytes_of_four d.halts in
+        let n : length (front d ++ a ++ b) ≡ length (front d ++ a) + length b = length-append (front d ++ a) b in
+        let l : 8 + j < length (front d ++ a) = omega (arith, words-at, h) in
+        let m : 8 + j < length (front d ++ a ++ b) = omega (arith, n, l) in
+        let z : 8 + j - 8 ≡ j = omega arith in
+        let s : set (front d ++ a) (8 + j) alternate ≡ front d ++ set a j alternate = set-append_right (front d) a 8 (8 + j) alternate refl (omega arith) ∙ rw z in
+        rw (set-append_left (front d ++ a ++ b) (bytes_of_four d.toggles) (8 + j) alternate m, set-append_left (front d ++ a) b (8 + j) alternate l, s, lt-ltb j 16 h)
 
     pub toggles-put : (toggles : ℕ) {image part : List ℕ} → image ≡ image_of d → part ≡ bytes_of_four toggles → put_mid 28 4 image part ≡ image_of (with_endpoints d.alternates d.halts toggles d)
     unfolding image_of bytes_of_four
@@ -98,17 +89,3 @@ module _ (d : Device) where
     unfolding image_of bytes_of_four
     halts-put halts p q =
         rw (p ∙ append_assoc (front d ++ d.alternates) (bytes_of_four d.halts) (bytes_of_four d.toggles), q) (put-after (front d ++ d.alternates) (bytes_of_four d.halts ++ bytes_of_four d.toggles) (bytes_of_four halts) 24 4 words-at)
-
--- a list that becomes another from the front on, byte by byte
-copies : (k : ℕ) (s d : List ℕ) → k < length s → k < length d → set (take k s ++ drop k d) k (get_or s k 0) ≡ take (suc k) s ++ drop (suc k) d
-copies k [] d h l = absurd (not-suc-le-zero h)
-copies k (x ∷ s) [] h l = absurd (not-suc-le-zero l)
-copies zero (x ∷ s) (y ∷ d) h l = refl
-copies (suc k) (x ∷ s) (y ∷ d) h l = ap (λ (t : List ℕ). x ∷ t) (copies k s d (le_of_suc-le-suc h) (le_of_suc-le-suc l))
-
-pub copies-more : (k : ℕ) (s d : List ℕ) → k < length s → k < length d → set (take k s ++ drop k d) k (get_or s k 0) ≡ take (k + 1) s ++ drop (k + 1) d
-copies-more k s d h l = subst (λ (n : ℕ). set (take k s ++ drop k d) k (get_or s k 0) ≡ take n s ++ drop n d) (sym (add-one k)) (copies k s d h l)
-
--- all of it
-pub copies-all : (k : ℕ) (s d : List ℕ) → length s ≡ k → length d ≡ k → take k s ++ drop k d ≡ s
-copies-all k s d e l = rw (take_all k s (le_of_eq e), drop_of_length-le d (le_of_eq l), append-nil)

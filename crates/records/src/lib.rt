@@ -1,12 +1,12 @@
 // The device record: what a board keeps between events.
 #![tactic(auto)]
 
-ghost use Rattle.std.specs.Prelude.{◌≡◌, false, ◌<◌, length};
+ghost use Rattle.std.specs.Prelude.{◌≡◌, false, length};
 ghost use Rattle.descriptors.specs.declared.survey.Asked.{Asked};
 ghost use Rattle.descriptors.specs.Survey.{Surveys};
 ghost use Rattle.sets.specs.View.{View, has_value, wakes};
 ghost use Rattle.records.specs.Device.{Sized, fresh, settled, test_waits};
-ghost use Rattle.records.specs.Image.{four_bytes, bytes_of_four, device_of, image_of};
+ghost use Rattle.records.specs.Image.{device_of, image_of};
 ghost use Rattle.records.specs.Change.{valued, misfit, record_in};
 ghost use Rattle.records.specs.Fits.{in_range, good_waiting, good_state, fits};
 
@@ -18,6 +18,7 @@ pub mod renewal;
 pub const IMAGE_LENGTH: usize = 32;
 
 // A device's states.
+// Kept: the states, and the numbers below, are bytes and no enums: in C's record any may stand, and byte 2 and byte 7 are sums of some of them.
 pub const DEFAULT: u8 = 0;
 
 pub const ADDRESS: u8 = 1;
@@ -57,6 +58,7 @@ const NO_STATE: u8 = 255;
 // In the order of its 32-byte image. state: 0 Default, 1 Address, 2 Configured; waiting: the address that the next status end
 // applies, or 128 plus the selector of the test mode that it enters, 255 for none; power: 0 bus, 1 own supply; suspended: 0 or 1; speed: 0 full, 1
 // high, and 1 plus 16 times the selector of an entered test mode; bit e of halts and toggles is OUT endpoint e, bit 16 + e is IN.
+// Kept: the state, the switches and the speed are bytes and no enums, since the record is C's, and any byte may stand there until `fits` has looked.
 #[repr(C)]
 #[derive(Clone, Copy)]
 pub struct Device {
@@ -133,25 +135,15 @@ pub fn fresh() -> Device
 pub fn settled(device: Device) -> Device
     ensures { result ≡ settled device }
 {
-    let mut next = device;
-    next.waiting = NOTHING;
-    next.suspended = 0;
-    next
-}
-
-// The number of four bytes at k.
-fn four_bytes(bytes: &[u8], k: usize) -> u32
-    requires { k < 32 }
-    ensures { result ≡ four_bytes bytes.now k }
-{
-    let low = octets::word(bytes, k) as u32;
-    let high = octets::word(bytes, k + 2) as u32;
-    low + high * 65536
+    Device {
+        waiting: NOTHING,
+        suspended: 0,
+        ..device
+    }
 }
 
 // The record of an image.
-pub fn load(image: &[u8]) -> Device
-    requires { length image.now ≡ 32 }
+pub fn laid(image: &[u8; 32]) -> Device
     ensures { result ≡ device_of image.now }
 {
     let mut alternates = [0; 16];
@@ -166,46 +158,38 @@ pub fn load(image: &[u8]) -> Device
         suspended: image[6],
         speed: image[7],
         alternates,
-        halts: four_bytes(image, 24),
-        toggles: four_bytes(image, 28),
+        halts: u32::from_le_bytes([image[24], image[25], image[26], image[27]]),
+        toggles: u32::from_le_bytes([image[28], image[29], image[30], image[31]]),
     }
 }
 
-// The same, of an image by its type.
-pub fn laid(image: &[u8; 32]) -> Device
+// The same, of an image that C lends.
+// Kept: `load` and `store` take a slice and ask for its length, since the papers name them and C lends slices; `laid` takes an image by its type.
+pub fn load(image: &[u8]) -> Device
+    requires { length image.now ≡ 32 }
     ensures { result ≡ device_of image.now }
 {
-    load(&image[..])
+    laid(image.as_array().unwrap())
 }
 
 // A record that fits no set: it stands for an image of another length.
 fn misfit() -> Device
     ensures { result ≡ misfit }
 {
-    let mut none = fresh();
-    none.state = NO_STATE;
-    none
+    Device {
+        state: NO_STATE,
+        ..fresh()
+    }
 }
 
 // The record of an image of any length.
 pub fn read(image: &[u8]) -> Device
     ensures { result ≡ record_in image.now }
 {
-    if image.len() == IMAGE_LENGTH {
-        return load(image);
+    match image.as_array() {
+        Some(whole) => laid(whole),
+        None => misfit(),
     }
-    misfit()
-}
-
-// A number as four bytes.
-fn store_four(n: u32, bytes: &mut [u8])
-    requires { length bytes.old ≡ 4 }
-    ensures { bytes.new ≡ bytes_of_four n }
-{
-    bytes[0] = (n % 256) as u8;
-    bytes[1] = (n / 256 % 256) as u8;
-    bytes[2] = (n / 65536 % 256) as u8;
-    bytes[3] = (n / 16777216 % 256) as u8;
 }
 
 // The record's image.
@@ -227,8 +211,8 @@ pub fn store(device: Device, image: &mut [u8])
     let alternates = device.alternates;
     image[0..8].copy_from_slice(&front);
     image[8..24].copy_from_slice(&alternates);
-    store_four(device.halts, &mut image[24..28]);
-    store_four(device.toggles, &mut image[28..32]);
+    image[24..28].copy_from_slice(&device.halts.to_le_bytes());
+    image[28..32].copy_from_slice(&device.toggles.to_le_bytes());
 }
 
 // The ranges of the state, of wakeup and of bytes 5 to 7; `paired`: two sets are lent.

@@ -1,17 +1,17 @@
 -- What a search of the table tells, and what `refusal` is then. No axiom.
-use Rattle.octets.proofs.Vocabulary.{◌≡◌, refl, ℕ, true, false, Option, some, none, arith}
+use Rattle.std.specs.Prelude.{Some, None}
+use Rattle.octets.proofs.Vocabulary.{◌≡◌, refl, ℕ, true, false, Option as Maybe, some, none, arith}
 use Rattle.octets.specs.Sentences.{pick}
 use Rattle.requests.specs.declared.Setup.{Setup}
 use Rattle.requests.specs.declared.Row.{Row}
-use Rattle.requests.specs.declared.RowFound.TheVariants.{Is, Missing}
 use Rattle.requests.specs.Table.{row_of, in_state, fields_fit, refusal}
 use Rattle.requests.specs.Found.{found_of}
 
-pub is_some : (o : Option Row) {r : Row} → found_of o ≡ Is r → o ≡ some r
+pub is_some : (o : Maybe Row) {r : Row} → found_of o ≡ Some r → o ≡ some r
 is_some none p = let z : ◌≡◌ {A = ℕ} 0 1 = cc in absurd (omega arith)
 is_some (some row) p = cc
 
-pub is_none : (o : Option Row) → found_of o ≡ Missing → o ≡ none
+pub is_none : (o : Maybe Row) → found_of o ≡ None → o ≡ none
 is_none none p = refl
 is_none (some row) p = let z : ◌≡◌ {A = ℕ} 0 1 = cc in absurd (omega arith)
 

@@ -4,6 +4,11 @@
 ghost use Rattle.std.specs.Prelude.{◌≡◌};
 ghost use Rattle.requests.specs.Table.{setup_of, row_of, in_state, largest_index, fields_fit, refusal};
 ghost use Rattle.requests.specs.Found.{found_of};
+ghost use Rattle.requests.specs.Refusal.{number_if_refused};
+
+pub mod refusals;
+
+pub use refusals::Refusal;
 
 // The setup bytes as numbers.
 #[derive(Clone, Copy)]
@@ -30,14 +35,8 @@ pub struct Row {
     pub highest: u8,
 }
 
-// What a search of the table finds.
-#[derive(Clone, Copy)]
-pub enum RowFound {
-    Is(Row),
-    Missing,
-}
-
 // The types and codes of the standard requests, under USB 2.0's names.
+// Kept: bytes and no enums, since the host may send any type and code; the table and the definitions compare them as numbers.
 pub const FROM_DEVICE: u8 = 0x80;
 
 pub const FROM_INTERFACE: u8 = 0x81;
@@ -69,6 +68,7 @@ pub const GET_INTERFACE: u8 = 0x0a;
 const SET_INTERFACE: u8 = 0x0b;
 
 // The recipients in bits 4-0 of a type; the third is an endpoint.
+// Kept: bits of a byte that the host sends, where any number may stand; they are compared once.
 pub const DEVICE: u8 = 0;
 
 pub const INTERFACE: u8 = 1;
@@ -77,18 +77,12 @@ pub const INTERFACE: u8 = 1;
 const STRING: u16 = 3;
 
 // A device's states, as byte 0 of its record has them.
+// Kept: bytes of C's record, between a row's lowest and highest; `records` names them too, but neither crate rests on the other.
 const DEFAULT: u8 = 0;
 
 const ADDRESS: u8 = 1;
 
 const CONFIGURED: u8 = 2;
-
-// What refuses a setup at the table, under the header's names.
-pub const REQUEST_UNKNOWN: u8 = 10;
-
-pub const NOT_IN_THIS_STATE: u8 = 11;
-
-pub const FIELD_WRONG: u8 = 12;
 
 // Every number of two bytes is at most this.
 const FREE: u16 = 65535;
@@ -277,19 +271,18 @@ pub fn setup_of(bytes: &[u8]) -> Setup
 }
 
 // The row with the setup's type and code.
-fn find_row(setup: Setup) -> RowFound
+fn find_row(setup: Setup) -> Option<Row>
     ensures { result ≡ found_of (row_of setup) }
 {
     let rows = ROWS;
-    let mut i: usize = 0;
-    while i < ROW_COUNT {
+    // Kept: by index, since as `for row in &rows` the table stands on the stack, 168 bytes (x86-64).
+    for i in 0..ROW_COUNT {
         let row = rows[i];
         if (row.bmRequestType == setup.bmRequestType) & (row.bRequest == setup.bRequest) {
-            return RowFound::Is(row);
+            return Some(row);
         }
-        i += 1;
     }
-    RowFound::Missing
+    None
 }
 
 // Whether the row allows the state.
@@ -321,21 +314,18 @@ fn fields_fit(row: Row, setup: Setup) -> bool
         & (setup.wLength <= row.longest)
 }
 
-// The refusals 10, 11 and 12 in that order, or 0.
-pub fn refusal(state: u8, setup: Setup) -> u8
-    ensures { result ≡ refusal state setup }
+// What refuses the setup at the table: that no row has its type and code, that its row does not allow the state, a field, in that order.
+pub fn refusal(state: u8, setup: Setup) -> Option<Refusal>
+    ensures { number_if_refused result ≡ refusal state setup }
 {
-    let found = find_row(setup);
-    match found {
-        RowFound::Missing => REQUEST_UNKNOWN,
-        RowFound::Is(row) => {
-            if !in_state(row, state) {
-                return NOT_IN_THIS_STATE;
-            }
-            if !fields_fit(row, setup) {
-                return FIELD_WRONG;
-            }
-            0
-        }
+    let Some(row) = find_row(setup) else {
+        return Some(Refusal::RequestUnknown);
+    };
+    if !in_state(row, state) {
+        return Some(Refusal::NotInThisState);
     }
+    if !fields_fit(row, setup) {
+        return Some(Refusal::FieldWrong);
+    }
+    None
 }

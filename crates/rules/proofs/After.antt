@@ -1,77 +1,79 @@
 -- One rule asked after another: the first fault stays, and is that of the first rule that is broken. No axiom.
-use Rattle.octets.proofs.Vocabulary.{◌≡◌, refl, sym, ap, ◌∙◌, List, [], ◌∷◌, ◌++◌, Bool, true, false, ◌&&◌, not, and-false, some, eqb}
-use Rattle.octets.specs.Sentences.{pick, every, first}
-use Rattle.octets.proofs.Sentences.{both}
+use Rattle.std.specs.Prelude.{Option, Some, None}
+use Rattle.std.specs.Option.{option_or}
+use Rattle.octets.proofs.Vocabulary.{◌≡◌, refl, sym, ap, ◌∙◌, List, [], ◌∷◌, ◌++◌, Bool, true, false, not, some}
+use Rattle.octets.specs.Sentences.{pick, first}
 use Rattle.rules.specs.declared.Fault.{Fault}
 use Rattle.rules.specs.Findings.{Finding}
-use Rattle.rules.specs.Explained.{is_broken, fault_of}
-use Rattle.rules.specs.After.{or_broken, after}
+use Rattle.rules.specs.Explained.{is_broken}
+use Rattle.rules.specs.After.{told_of, after, first_of, fault_in}
 
-pub after-append : (f : Fault) (xs ys : List Finding) → after f (xs ++ ys) ≡ after (after f xs) ys
+-- the fault that was found before, or else the one that is found now
+abbrev pub or_broken : Option Fault → Finding → Option Fault
+or_broken f x = option_or f (told_of x)
+
+pub after-append : (f : Option Fault) (xs ys : List Finding) → after f (xs ++ ys) ≡ after (after f xs) ys
 unfolding after
 after-append f [] ys = refl
-after-append f (x ∷ xs) ys = after-append (or_broken f x) xs ys
+after-append f (x ∷ xs) ys = after-append (option_or f (told_of x)) xs ys
 
 -- a fault stays
-stays : (f : Fault) (x : Finding) → eqb f.rule 0 ≡ false → or_broken f x ≡ f
-unfolding or_broken
-stays f x p = rw (p, and-false)
-
-pub after-stays : (f : Fault) (xs : List Finding) → eqb f.rule 0 ≡ false → after f xs ≡ f
+after-stays : (g : Fault) (xs : List Finding) → after (Some g) xs ≡ Some g
 unfolding after
-after-stays f [] p = refl
-after-stays f (x ∷ xs) p = rw (stays f x p) (after-stays f xs p)
+after-stays g [] = refl
+after-stays g (x ∷ xs) = after-stays g xs
+
+-- what was found before, or else the first fault of a list
+pub or-first : (f : Option Fault) (xs : List Finding) → option_or f (first_of xs) ≡ after f xs
+or-first None xs = refl
+or-first (Some g) xs = sym (after-stays g xs)
+
+pub or_none : (f : Option Fault) → option_or f None ≡ f
+or_none None = refl
+or_none (Some g) = refl
 
 -- a rule that holds
-pub passes : (f : Fault) (x : Finding) → x.holds ≡ true → or_broken f x ≡ f
-unfolding or_broken
-passes f x p = rw p
+pub passes : (f : Option Fault) (x : Finding) → x.holds ≡ true → option_or f (told_of x) ≡ f
+unfolding told_of
+passes f x p = rw p (or_none f)
 
 -- a rule that is broken: what is asked after it changes nothing
-pub breaks : (f : Fault) (x : Finding) (xs : List Finding) → x.holds ≡ false → eqb x.rule 0 ≡ false → after f (x ∷ xs) ≡ or_broken f x
-unfolding after or_broken
-breaks f x xs p q = rw p (go (eqb f.rule 0) refl)
-  where
-    found : Bool → Fault
-    found b = pick b (record { rule = x.rule; place = x.place }) f
+pub breaks : (f : Option Fault) (x : Finding) (xs : List Finding) → x.holds ≡ false → after f (x ∷ xs) ≡ option_or f (told_of x)
+unfolding after told_of
+breaks None x xs p = rw p (after-stays _ xs)
+breaks (Some g) x xs p = after-stays g xs
 
-    go : (b : Bool) → eqb f.rule 0 ≡ b → after (found (eqb f.rule 0)) xs ≡ found (eqb f.rule 0)
-    go true e = rw e (after-stays (record { rule = x.rule; place = x.place }) xs q)
-    go false e = rw e (after-stays f xs e)
-
--- one more rule, the last one, and more rules
-pub asks : {g h : Fault} (f : Fault) (x : Finding) (xs : List Finding) → g ≡ or_broken f x → h ≡ after g xs → h ≡ after f (x ∷ xs)
+-- ---- a chain of `or`: the first rule or list; one more; and the last. `f` is what was found before
+pub first-rule : {r h : Option Fault} (x : Finding) (ys : List Finding) → r ≡ told_of x → h ≡ after r ys → h ≡ first_of (x ∷ ys)
 unfolding after
-asks f x xs p q = q ∙ ap (λ f. after f xs) p
+first-rule x ys p q = q ∙ ap (λ f. after f ys) p
 
-pub ends : {h : Fault} (f : Fault) (x : Finding) → h ≡ or_broken f x → h ≡ after f (x ∷ [])
-unfolding after
-ends f x p = p
-
-pub nothing-more : (f : Fault) → f ≡ after f []
-unfolding after
-nothing-more f = refl
-
-pub joins : {g h : Fault} (f : Fault) (xs ys : List Finding) → g ≡ after f xs → h ≡ after g ys → h ≡ after f (xs ++ ys)
+pub joins : {g h : Option Fault} (f : Option Fault) (xs ys : List Finding) → g ≡ after f xs → h ≡ after g ys → h ≡ after f (xs ++ ys)
 joins f xs ys p q = q ∙ ap (λ f. after f ys) p ∙ sym (after-append f xs ys)
 
--- rules have numbers other than 0
-abbrev pub is_numbered : Finding → Bool
-is_numbered x = not (eqb x.rule 0)
+module _ {g p : Option Fault} (f : Option Fault) (o : g ≡ option_or f p) where
+  pub ends : (xs : List Finding) → p ≡ first_of xs → g ≡ after f xs
+  ends xs q = o ∙ ap (option_or f) q ∙ or-first f xs
 
-pub first-broken : (xs : List Finding) → every is_numbered xs ≡ true → after (record { rule = 0; place = 0 }) xs ≡ fault_of (first is_broken xs)
-unfolding after first every or_broken
-first-broken [] p = refl
-first-broken (x ∷ xs) p = let (q, r) = both (is_numbered x) (every is_numbered xs) p in go x.holds refl q (first-broken xs r)
+  pub then-list : {h : Option Fault} (xs ys : List Finding) → p ≡ first_of xs → h ≡ after g ys → h ≡ after f (xs ++ ys)
+  then-list xs ys q r = joins f xs ys (ends xs q) r
+
+  pub then-rule : {h : Option Fault} (x : Finding) (ys : List Finding) → p ≡ told_of x → h ≡ after g ys → h ≡ after f (x ∷ ys)
+  unfolding after
+  then-rule x ys q r = r ∙ ap (λ f. after f ys) (o ∙ ap (option_or f) q)
+
+  pub last-rule : (x : Finding) → p ≡ told_of x → g ≡ after f (x ∷ [])
+  unfolding after
+  last-rule x q = o ∙ ap (option_or f) q
+
+pub first-broken : (xs : List Finding) → first_of xs ≡ fault_in (first is_broken xs)
+unfolding after first told_of
+first-broken [] = refl
+first-broken (x ∷ xs) = go x.holds (first-broken xs)
   where
-    nothing : Fault
-    nothing = record { rule = 0; place = 0 }
+    fault : Fault
+    fault = record { rule = x.rule; place = x.place }
 
-    zero-not : (b : Bool) → not b ≡ true → b ≡ false
-    zero-not false p = refl
-    zero-not true p = sym p
-
-    go : (b : Bool) → x.holds ≡ b → is_numbered x ≡ true → after nothing xs ≡ fault_of (first is_broken xs)
-        → after (pick (not x.holds && eqb 0 0) (record { rule = x.rule; place = x.place }) nothing) xs ≡ fault_of (pick (not x.holds) (some x) (first is_broken xs))
-    go true e q ih = rw e ih
-    go false e q ih = rw e (after-stays (record { rule = x.rule; place = x.place }) xs (zero-not (eqb x.rule 0) q))
+    go : (b : Bool) → first_of xs ≡ fault_in (first is_broken xs) → after (pick b None (Some fault)) xs ≡ fault_in (pick (not b) (some x) (first is_broken xs))
+    go true ih = ih
+    go false ih = after-stays fault xs

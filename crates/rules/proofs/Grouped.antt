@@ -1,5 +1,5 @@
--- Every rule carries its group's number, and so one other than 0. No axiom.
-use Rattle.octets.proofs.Vocabulary.{◌≡◌, refl, ap, ◌∙◌, ℕ, ◌+◌, ◌/◌, ◌≤◌, ◌<◌, List, [], ◌∷◌, ◌++◌, Bool, true, false, ◌&&◌, not, Option, some, none, length, eqb, arith, eqb-true, ne_eqb}
+-- Every rule carries its group's number. No axiom.
+use Rattle.octets.proofs.Vocabulary.{◌≡◌, refl, ◌∙◌, ℕ, ◌+◌, ◌/◌, ◌≤◌, ◌<◌, List, [], ◌∷◌, ◌++◌, Bool, true, false, ◌&&◌, Option, some, none, length, eqb, arith, eqb-true}
 use Rattle.octets.specs.Sentences.{pick, every}
 use Rattle.octets.proofs.Sentences.{both, joined, every_append}
 use Rattle.descriptors.specs.declared.limits.Limits.{Limits}
@@ -22,7 +22,6 @@ use Rattle.rules.specs.Device.{device_entry_findings, store_entry_findings, devi
 use Rattle.rules.specs.Configurations.{is_whole, begin_findings, interface_findings, endpoint_findings, group_after, endpoints_after, rest_findings, cut_findings, body_findings, companion_findings, companions_from, body_companions, configuration_findings, distinct_from, configurations_from, configurations_findings}
 use Rattle.rules.specs.Strings.{languages_from, language_findings, string_entry_findings, strings_from, listed_from, reference_findings, interfaces_from, body_references, references_from, strings_findings}
 use Rattle.rules.specs.Explained.{findings}
-use Rattle.rules.proofs.After.{is_numbered}
 
 -- a rule's group is its number without its place there
 abbrev pub in_group : ℕ → Finding → Bool
@@ -201,7 +200,3 @@ module _ (p : Finding → Bool) (f : (x : Finding) → 1 ≤ x.rule / 100 → p 
       (before-others 4 (omega arith) (configurations_findings limits set) _ (configurations limits set 4 0 [] (entries set))
       (before-others 5 (omega arith) (strings_findings set) _ (group-5 set)
       (every_in 6 (omega arith) (serial_findings (iSerialNumber (device_body set)) b.serial) (serials (eqb (iSerialNumber (device_body set)) 0) b.serial))))))
-
--- so it has a number
-pub has-number : (x : Finding) → 1 ≤ x.rule / 100 → is_numbered x ≡ true
-has-number x h = ap not (ne_eqb x.rule 0 (λ z. omega arith))

@@ -2,7 +2,11 @@ pub mod After
 pub mod Steps
 pub mod Entries
 pub mod Grouped
-pub mod GroupedWalk
 pub mod Bodies
 pub mod Walked
 pub mod Told
+pub mod RuleFrames
+pub mod RuleBodies
+pub mod RuleTexts
+pub mod RuleGroups
+pub mod RuleBelongs

@@ -1,4 +1,5 @@
 -- A walk over the descriptors of a body, asking rules: where it is stuck, where it goes on, and where it ends. No axiom.
+use Rattle.std.specs.Prelude.{Option}
 use Rattle.octets.proofs.Vocabulary.{◌≡◌, refl, ap, ◌∙◌, ℕ, ◌+◌, ◌-◌, ◌≤◌, ◌<◌, List, [], ◌∷◌, Bool, true, false, not, length, drop, length-take, length-drop, leb, get_or-take, get_or-drop, arith, eq-eqb, ne_eqb, leb-true, leb-false, lt-ltb}
 use Rattle.octets.specs.Octets.{byte, part}
 use Rattle.octets.specs.Sentences.{pick}
@@ -7,7 +8,8 @@ use Rattle.descriptors.specs.declared.limits.Limits.{Limits}
 use Rattle.descriptors.specs.declared.walk.Stand.{Stand}
 use Rattle.descriptors.specs.Cut.{Cutting, whole, broken, descriptor, cut}
 use Rattle.descriptors.specs.Descriptor.{is_interface, is_endpoint, iInterface}
-use Rattle.descriptors.specs.Walk.{Pace, before, stand_of, steps_on, step_of}
+use Rattle.descriptors.specs.declared.walk.Step.{Step}
+use Rattle.descriptors.specs.Walk.{Pace, before, stand_of, stand_in, pace_of, steps_on, step_of, Goes}
 use Rattle.descriptors.specs.Check.{Progress, onward}
 use Rattle.descriptors.proofs.Walks.{spanned, Moved, moved, cut-end, cut_small, cut-long}
 use Rattle.rules.specs.declared.Fault.{Fault}
@@ -15,8 +17,8 @@ use Rattle.rules.specs.Findings.{asked, byte_at}
 use Rattle.rules.specs.Configuration.{is_whole, descriptor_findings, end_findings, rest_findings, cut_findings, body_findings}
 use Rattle.rules.specs.Configurations.{companion_findings, companions_from}
 use Rattle.rules.specs.Strings.{reference_findings, interfaces_from}
-use Rattle.rules.specs.After.{or_broken, after}
-use Rattle.rules.proofs.After.{after-append, breaks}
+use Rattle.rules.specs.After.{after}
+use Rattle.rules.proofs.After.{or_broken, after-append, breaks}
 
 -- a descriptor's first byte
 first_byte : (body : List ℕ) (at n : ℕ) → 0 < n → byte (part body at n) 0 ≡ byte body at
@@ -76,15 +78,19 @@ module _ (body : List ℕ) (at : ℕ) (last : Stand) (step : Pace) (e : step ≡
           ends = omega (arith, l);
         }
 
+-- what the code's walk has to know: a step that moves on ends inside the body
+pub walk_inside : {body : List ℕ} {at last : ℕ} {step : Step} → Goes body at last step → at < length body → step.end ≤ length body
+walk_inside {body} {at} {last} {step} g h = (goes_on body at (stand_in last) (pace_of step) g.steps.steps h g.onward).inside
+
 -- ---- the rules of the descriptors after the first
-module _ (limits : Limits) (start n : ℕ) (body : List ℕ) (at head : ℕ) (w : Progress) (last : Stand) (f : Fault) where
+module _ (limits : Limits) (start n : ℕ) (body : List ℕ) (at head : ℕ) (w : Progress) (last : Stand) (f : Option Fault) where
   rest-small : after f (rest_findings limits start n at head w last broken) ≡ or_broken f (asked 403 (byte_at start at 0) false)
   unfolding rest_findings after
   rest-small = refl
 
   rest-long : (d : List ℕ) → is_whole d ≡ false → after f (rest_findings limits start n at head w last (descriptor d broken)) ≡ or_broken f (asked 404 (byte_at start at 0) false)
   unfolding rest_findings
-  rest-long d p = breaks f (asked 404 (byte_at start at 0) (is_whole d)) _ p refl ∙ ap (λ b. or_broken f (asked 404 (byte_at start at 0) b)) p
+  rest-long d p = breaks f (asked 404 (byte_at start at 0) (is_whole d)) _ p ∙ ap (λ b. or_broken f (asked 404 (byte_at start at 0) b)) p
 
   rest-turn : (d : List ℕ) (ds : Cutting)
       → after f (rest_findings limits start n at head w last (descriptor d ds))
@@ -107,7 +113,7 @@ module _ (limits : Limits) (start n : ℕ) (body : List ℕ) (at head : ℕ) (w 
         (λ q c. ap (λ cs. after f (rest_findings limits start n at head w last cs)) c ∙ rest-small ∙ rw q)
         (λ d q c p. ap (λ cs. after f (rest_findings limits start n at head w last cs)) c ∙ rest-long d p ∙ rw q)
 
-    pub rest-on : at < step.end → {g : Fault} {v : Progress} {k : ℕ}
+    pub rest-on : at < step.end → {g : Option Fault} {v : Progress} {k : ℕ}
         → g ≡ after f (descriptor_findings limits start at head w last step.stand (spanned body at step.end))
         → v ≡ onward w last step.stand (spanned body at step.end) → k ≡ pick (is_interface (spanned body at step.end)) at head
         → after f (rest_findings limits start n at head w last (cut (drop at body))) ≡ after g (rest_findings limits start n step.end k v step.stand (cut (drop step.end body)))
@@ -120,7 +126,7 @@ module _ (limits : Limits) (start : ℕ) (body : List ℕ) where
   pub body-none : length body ≡ 0 → body_findings limits start body ≡ (asked 405 (byte_at start 0 0) false ∷ [])
   body-none p = ap (cut_findings limits (length body) start) (cut-end body 0 (omega arith))
 
-  module _ (f : Fault) (step : Pace) (e : step ≡ step_of body 0 before) (h : 0 < length body) where
+  module _ (f : Option Fault) (step : Pace) (e : step ≡ step_of body 0 before) (h : 0 < length body) where
     body-small : leb 2 (byte body 0) ≡ false → after f (cut_findings limits (length body) start broken) ≡ or_broken f (asked (pick (leb 2 (byte body 0)) 404 403) (byte_at start 0 0) false)
     unfolding after
     body-small q = rw q
@@ -128,7 +134,7 @@ module _ (limits : Limits) (start : ℕ) (body : List ℕ) where
     body-long : (d : List ℕ) → leb 2 (byte body 0) ≡ true → is_whole d ≡ false
         → after f (cut_findings limits (length body) start (descriptor d broken)) ≡ or_broken f (asked (pick (leb 2 (byte body 0)) 404 403) (byte_at start 0 0) false)
     body-long d q p =
-        breaks f (asked 404 (byte_at start 0 0) (is_whole d)) _ p refl ∙ ap (λ b. or_broken f (asked 404 (byte_at start 0 0) b)) p ∙ rw q
+        breaks f (asked 404 (byte_at start 0 0) (is_whole d)) _ p ∙ ap (λ b. or_broken f (asked 404 (byte_at start 0 0) b)) p ∙ rw q
 
     pub body-stuck : step.end ≤ 0 → after f (body_findings limits start body) ≡ or_broken f (asked (pick (leb 2 (byte body 0)) 404 403) (byte_at start 0 0) false)
     body-stuck m = stuck-cases body 0 before step e h m
@@ -136,7 +142,7 @@ module _ (limits : Limits) (start : ℕ) (body : List ℕ) where
         (λ d q c p. ap (λ cs. after f (cut_findings limits (length body) start cs)) c ∙ body-long d q p)
 
 -- ---- the references of interface descriptors
-module _ (set : List ℕ) (start : ℕ) (body : List ℕ) (at : ℕ) (f : Fault) where
+module _ (set : List ℕ) (start : ℕ) (body : List ℕ) (at : ℕ) (f : Option Fault) where
   interfaces-whole : after f (interfaces_from set start at whole) ≡ f
   unfolding interfaces_from after
   interfaces-whole = refl
@@ -164,7 +170,7 @@ module _ (set : List ℕ) (start : ℕ) (body : List ℕ) (at : ℕ) (f : Fault)
         (λ q c. ap (λ cs. after f (interfaces_from set start at cs)) c ∙ interfaces-broken)
         (λ d q c p. ap (λ cs. after f (interfaces_from set start at cs)) c ∙ interfaces-long d p)
 
-    pub interfaces-on : at < step.end → {g : Fault}
+    pub interfaces-on : at < step.end → {g : Option Fault}
         → g ≡ after f (pick (is_interface (spanned body at step.end)) (reference_findings set start at 8 (iInterface (spanned body at step.end))) [])
         → after f (interfaces_from set start at (cut (drop at body))) ≡ after g (interfaces_from set start step.end (cut (drop step.end body)))
     interfaces-on m p =
@@ -172,7 +178,7 @@ module _ (set : List ℕ) (start : ℕ) (body : List ℕ) (at : ℕ) (f : Fault)
         ap (λ cs. after f (interfaces_from set start at cs)) o.cuts ∙ interfaces-turn _ _ o.complete ∙ rw (p, o.ends)
 
 -- ---- companions
-module _ (start : ℕ) (body : List ℕ) (at last : ℕ) (due : Bool) (f : Fault) where
+module _ (start : ℕ) (body : List ℕ) (at last : ℕ) (due : Bool) (f : Option Fault) where
   companions-whole : after f (companions_from start at last due whole) ≡ or_broken f (asked 438 (byte_at start last 0) (not due))
   unfolding companions_from after
   companions-whole = refl
@@ -199,7 +205,7 @@ module _ (start : ℕ) (body : List ℕ) (at last : ℕ) (due : Bool) (f : Fault
         (λ q c. ap (λ cs. after f (companions_from start at last due cs)) c ∙ companions-broken)
         (λ d q c p. ap (λ cs. after f (companions_from start at last due cs)) c ∙ companions-long d p)
 
-    pub companions-on : at < step.end → {g : Fault} {next : Bool}
+    pub companions-on : at < step.end → {g : Option Fault} {next : Bool}
         → g ≡ after f (companion_findings start at last due (spanned body at step.end)) → next ≡ is_endpoint (spanned body at step.end)
         → after f (companions_from start at last due (cut (drop at body))) ≡ after g (companions_from start step.end at next (cut (drop step.end body)))
     companions-on m p q =

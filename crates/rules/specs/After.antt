@@ -1,33 +1,43 @@
 -- Working definitions for the contracts of code that asks one rule after another; no promise cites them.
-use Rattle.std.specs.Prelude.{ℕ, ◌<◌, ◌≡◌, List, [], ◌∷◌, Bool, ◌&&◌, not, length, drop, eqb}
-use Rattle.octets.specs.Sentences.{pick, is_some}
-use Rattle.octets.specs.Table.{has}
-use Rattle.sets.specs.Pieces.{pieces_in, pieces_of}
-use Rattle.sets.specs.Device.{device_body, iSerialNumber}
-use Rattle.sets.specs.Strings.{words, string_zero, languages, is_nonzero, in_every, may_refer, zero_if}
+use Rattle.std.specs.Prelude.{List, [], ◌∷◌, Bool, true, false, Option, Some, None, Result, Ok, Err}
+use Rattle.std.specs.Option.{option_or}
+use Rattle.std.proofs.Math.Option.{Option as Maybe, some, none}
+use Rattle.octets.specs.Sentences.{pick}
+use Rattle.sets.specs.declared.Entry.{Entry}
+use Rattle.sets.specs.Broken.{number_of}
 use Rattle.rules.specs.declared.Fault.{Fault}
-use Rattle.rules.specs.Findings.{Finding, asked, byte_at}
+use Rattle.rules.specs.declared.Explained.{Explained as Refused}
+use Rattle.rules.specs.Findings.{Finding}
+use Rattle.rules.specs.Frame.{no_entry}
+use Rattle.rules.specs.Explained.{Explained}
 
--- the fault that was found before, or else the one that is found now
-unfoldable pub or_broken : Fault → Finding → Fault
-or_broken f x = pick (not x.holds && eqb f.rule 0) (record { rule = x.rule; place = x.place }) f
+-- what one rule gives: the fault, where it does not hold
+unfoldable pub told_of : Finding → Option Fault
+told_of x = pick x.holds None (Some (record { rule = x.rule; place = x.place }))
 
-unfoldable pub after : Fault → List Finding → Fault
+-- the fault that was found before, or else the first of these
+unfoldable pub after : Option Fault → List Finding → Option Fault
 after f [] = f
-after f (x ∷ xs) = after (or_broken f x) xs
+after f (x ∷ xs) = after (option_or f (told_of x)) xs
 
--- ---- references, as the code judges them: whether string 0 is there, iSerialNumber, and a table of what has a string in every listed language
-abbrev pub judged : Bool → ℕ → List ℕ → ℕ → ℕ → ℕ → ℕ → List Finding
-judged there serial table start at k r =
-    asked 510 (byte_at start at k) (zero_if (is_nonzero r) there) ∷ asked 512 (byte_at start at k) (may_refer serial (has table r) r) ∷ []
+abbrev pub first_of : List Finding → Option Fault
+first_of xs = after None xs
 
-pub record Judges (set : List ℕ) (there : Bool) (serial : ℕ) (table : List ℕ) : Type 0 where
-  pub found : there ≡ is_some (string_zero set)
-  pub index : serial ≡ iSerialNumber (device_body set)
-  pub named : (j : ℕ) → j < 256 → has table j ≡ in_every (languages set) (pieces_of 3 (pieces_in set)) j
+-- the fault that a finding is
+abbrev pub fault_in : Maybe Finding → Option Fault
+fault_in none = None
+fault_in (some x) = Some (record { rule = x.rule; place = x.place })
 
--- string 0 of a set, empty where there is none
-pub record StringZero (set zero : List ℕ) (there : Bool) : Type 0 where
-  pub listed : words (drop 2 zero) ≡ languages set
-  pub found : there ≡ is_some (string_zero set)
-  pub small : length zero < 65536
+-- the entry before another, where it is not the first
+abbrev pub is_first : Option Entry → Bool
+is_first None = true
+is_first (Some e) = false
+
+abbrev pub last_of : Option Entry → Entry
+last_of None = no_entry
+last_of (Some e) = e
+
+-- what explaining gives, as its definition has it: number 0, rule 0 and byte 0 of what is accepted
+abbrev pub told : Result (Unit {0}) Refused → Explained
+told (Ok _) = record { number = 0; rule = 0; place = 0 }
+told (Err e) = record { number = number_of e.broken; rule = e.rule; place = e.place }

@@ -5,8 +5,6 @@ use Rattle.octets.specs.Sentences.{pick, first}
 use Rattle.descriptors.specs.declared.limits.Limits.{Limits}
 use Rattle.sets.specs.Device.{device_body, iSerialNumber}
 use Rattle.sets.specs.Opening.{Board, opening}
-use Rattle.rules.specs.declared.Fault.{Fault}
-use Rattle.rules.specs.declared.Explained.{Explained}
 use Rattle.rules.specs.Findings.{Finding}
 use Rattle.rules.specs.Frame.{frame_findings, contents_findings}
 use Rattle.rules.specs.Device.{device_findings, serial_findings}
@@ -26,6 +24,11 @@ findings limits b =
 abbrev pub is_broken : Finding → Bool
 is_broken x = not x.holds
 
+-- the first rule that is broken, and its byte
+pub record Fault : Type 0 where
+  pub rule : ℕ
+  pub place : ℕ
+
 -- rule 0 where nothing is broken
 abbrev pub fault_of : Option Finding → Fault
 fault_of none = record { rule = 0; place = 0 }
@@ -38,6 +41,12 @@ inside bytes place = pick (ltb place (length bytes)) place (length bytes - 1)
 -- the slice that a group is about: the serial block in group 6, else the set
 abbrev pub lent_for : Board → ℕ → List ℕ
 lent_for b number = pick (eqb number 6) b.serial b.set
+
+-- opening's number, the rule, and the byte of the set, or of the serial block in group 6
+pub record Explained : Type 0 where
+  pub number : ℕ
+  pub rule : ℕ
+  pub place : ℕ
 
 unfoldable pub explained : Limits → Board → Explained
 explained limits b =

@@ -6,3 +6,4 @@ pub mod Configuration
 pub mod Strings
 pub mod Explained
 pub mod After
+pub mod Judges

@@ -1,82 +1,68 @@
 // Groups 1 and 2, rule by rule.
 ghost use Rattle.std.specs.Prelude.{◌≡◌};
 ghost use Rattle.rules.specs.Frame.{frame_findings, entry_findings, contents_findings};
-ghost use Rattle.rules.specs.After.{after};
+ghost use Rattle.rules.specs.After.{first_of, is_first, last_of};
 
-use crate::{Fault, ask};
-use descriptors::limits::Limits;
+use crate::{Fault, Place};
+use descriptors::limits::{Limits, is_named};
 use sets::Entry;
-use sets::contents::entry_at;
+use sets::contents::{MOST_BYTES, MOST_ENTRIES, entry_at, precedes};
 
 // Group 1.
-pub fn frame_fault(set: &[u8], found: Fault) -> Fault
-    ensures { result ≡ after found (frame_findings set.now) }
+pub fn frame_fault(set: &[u8]) -> Option<Fault>
+    ensures { result ≡ first_of (frame_findings set.now) }
 {
     let size = set.len();
     let total = octets::word(set, 0) as usize;
     let count = octets::peek(set, 2) as usize;
-    let found = ask(found, 101, 0, 0, 3, 4 <= size);
-    let found = ask(found, 102, 16384, 0, 0, size <= 16384);
-    let found = ask(found, 103, 0, 0, 0, total == size);
-    let found = ask(found, 104, 0, 0, 2, 1 <= count);
-    let found = ask(found, 105, 0, 0, 2, count <= 64);
-    let found = ask(found, 106, 0, 0, 3, octets::peek(set, 3) == 0);
-    ask(found, 107, 0, 0, 2, 4 + 8 * count <= total)
+    let start = Place { start: 0, at: 0 };
+    let end = Place {
+        start: MOST_BYTES as u16,
+        at: 0,
+    };
+    start
+        .ask(101, 3, 4 <= size)
+        .or(end.ask(102, 0, size <= MOST_BYTES))
+        .or(start.ask(103, 0, total == size))
+        .or(start.ask(104, 2, 1 <= count))
+        .or(start.ask(105, 2, count <= MOST_ENTRIES))
+        .or(start.ask(106, 3, octets::peek(set, 3) == 0))
+        .or(start.ask(107, 2, 4 + 8 * count <= total))
 }
 
-// What an entry stands behind: the last entry, if it is not the first, and the bodies so far, which end at `end`.
-#[derive(Clone, Copy)]
-pub struct Behind {
-    pub first: bool,
-    pub last: Entry,
-    pub end: usize,
-}
-
-// An entry at `at`, by itself and after the last one.
-fn entry_fault(found: Fault, limits: Limits, at: u16, behind: Behind, e: Entry) -> Fault
-    ensures { result ≡ after found (entry_findings limits at behind.first behind.last behind.end e) }
+// An entry at `at`, by itself and after the last one, if it is not the first; the bodies so far end at `end`.
+fn entry_fault(limits: Limits, at: u16, last: Option<Entry>, end: usize, e: Entry) -> Option<Fault>
+    ensures { result ≡ first_of (entry_findings limits at (is_first last) (last_of last) end e) }
 {
-    let named = descriptors::limits::is_named(limits.entries, e.kind);
-    let ascends = behind.first | sets::contents::precedes(behind.last, e);
-    let found = ask(found, 201, 0, at, 0, named);
-    let found = ask(found, 202, 0, at, 0, ascends);
-    let found = ask(found, 203, 0, at, 6, 2 <= e.length);
-    ask(found, 204, 0, at, 4, e.offset as usize == behind.end)
+    let entry = Place { start: 0, at };
+    let ascends = match last {
+        Some(last) => precedes(last, e),
+        None => true,
+    };
+    entry
+        .ask(201, 0, is_named(limits.entries, e.kind))
+        .or(entry.ask(202, 0, ascends))
+        .or(entry.ask(203, 6, 2 <= e.length))
+        .or(entry.ask(204, 4, e.offset as usize == end))
 }
 
 // Group 2: a pass over the entries, with the last one and where the next body has to begin.
-pub fn contents_fault(set: &[u8], limits: Limits, found: Fault) -> Fault
-    ensures { result ≡ after found (contents_findings limits set.now) }
+pub fn contents_fault(set: &[u8], limits: Limits) -> Option<Fault>
+    ensures { result ≡ first_of (contents_findings limits set.now) }
 {
     let count = octets::peek(set, 2);
-    let mut found = found;
+    let mut found = None;
     let mut start = 4 + 8 * (count as usize);
-    let mut last = Entry {
-        kind: 0,
-        index: 0,
-        language: 0,
-        offset: 0,
-        length: 0,
-    };
-    let mut i: u8 = 0;
-    while i < count {
+    let mut last = None;
+    for i in 0..count {
         let e = entry_at(set, i);
-        let behind = Behind {
-            first: i == 0,
-            last,
-            end: start,
-        };
-        found = entry_fault(found, limits, 4 + 8 * (i as u16), behind, e);
+        found = found.or(entry_fault(limits, 4 + 8 * (i as u16), last, start, e));
         start += e.length as usize;
-        last = e;
-        i += 1;
+        last = Some(e);
     }
-    ask(
-        found,
-        205,
-        0,
-        2 + 8 * (count as u16),
-        0,
-        start == octets::word(set, 0) as usize,
-    )
+    let lengths = Place {
+        start: 0,
+        at: 2 + 8 * (count as u16),
+    };
+    found.or(lengths.ask(205, 0, start == octets::word(set, 0) as usize))
 }

@@ -13,12 +13,9 @@ use sets::string::is_listed;
 fn in_language(set: &[u8], language: u16, table: &[u32; 8]) -> [u32; 8]
     ensures { (j : ℕ) → j < 256 → has result j ≡ (has table.now j && any (is_string j language) (pieces_of 3 (pieces_in set.now))) }
 {
-    let count = octets::peek(set, 2);
     let mut next = [0u32; 8];
-    let mut i: u8 = 0;
-    while i < count {
+    for i in 0..octets::peek(set, 2) {
         let e = entry_at(set, i);
-        i += 1;
         if is_listed(e, language, table) {
             join(&mut next, e.index);
         }
@@ -31,10 +28,8 @@ pub fn in_every_language(set: &[u8], languages: &[u8]) -> [u32; 8]
     ensures { (j : ℕ) → j < 256 → has result j ≡ in_every (words (drop 2 languages.now)) (pieces_of 3 (pieces_in set.now)) j }
 {
     let mut table = [4294967295u32; 8];
-    let mut at = 2;
-    while at + 1 < languages.len() {
-        table = in_language(set, octets::word(languages, at), &table);
-        at += 2;
+    for i in 1..languages.len() / 2 {
+        table = in_language(set, octets::word(languages, 2 * i), &table);
     }
     table
 }

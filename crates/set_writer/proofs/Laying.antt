@@ -1,11 +1,10 @@
 -- Pieces at the places that are left. No axiom.
-use Rattle.octets.proofs.Vocabulary.{◌≡◌, ap, ◌∙◌, ℕ, ◌+◌, ◌/◌, ◌%◌, ◌≤◌, ◌<◌, List, [], ◌∷◌, ◌++◌, map, length, drop, get_or, length-map, drop_of_length-le, arith}
+use Rattle.octets.proofs.Vocabulary.{◌≡◌, refl, ap, ◌∙◌, ℕ, ◌+◌, ◌/◌, ◌%◌, ◌≤◌, ◌<◌, List, [], ◌∷◌, ◌++◌, map, length, drop, get_or, length-map, drop_of_length-le}
 use Rattle.sets.specs.Pieces.{Piece}
-use Rattle.set_writer.specs.Writer.{entry_bytes, contents, body_bytes, front, header, laid_length, laid}
-use Rattle.set_writer.proofs.Laid.{contents-none, contents-more, bodies-none, bodies-more, laid-parts, laid-length}
+use Rattle.set_writer.specs.Writer.{entry_bytes, contents, body_bytes, front, laid_length, laid}
+use Rattle.set_writer.proofs.Laid.{contents-none, contents-more, bodies-none, bodies-more, laid-parts}
 use Rattle.set_writer.specs.Places.{piece_at, pieces_at}
-use Rattle.buffers.specs.Written.{Wrote}
-use Rattle.buffers.proofs.Written.{Going, begun, next, one_more}
+use Rattle.std.proofs.lemmas.List.{drop_more}
 
 module _ (stream places : List ℕ) (i : ℕ) where
   abbrev pub left : List Piece
@@ -19,7 +18,7 @@ module _ (stream places : List ℕ) (i : ℕ) where
 
   module _ (h : i < length places) where
     places-more : left ≡ here ∷ behind
-    places-more = ap (map (piece_at stream)) (one_more places i h)
+    places-more = ap (map (piece_at stream)) (drop_more places i 0 h)
 
     pub entries-left : (offset : ℕ) → contents offset left ≡ entry_bytes here offset ++ contents (offset + length here.body) behind
     entries-left offset = ap (contents offset) places-more ∙ contents-more offset here behind
@@ -37,10 +36,10 @@ module _ (stream places : List ℕ) (i : ℕ) where
     pub no-bodies : body_bytes left ≡ []
     no-bodies = ap body_bytes places-none ∙ bodies-none
 
--- ---- the three parts, one after another
-module _ (stream places out : List ℕ) (size : ℕ) (e : size ≡ laid_length (pieces_at stream places)) (room : size ≤ length out) where
-  abbrev all : List Piece
+-- ---- the parts of the whole set, one after another
+module _ (stream places : List ℕ) where
+  abbrev pub all : List Piece
   all = pieces_at stream places
 
-  pub headed : {after : List ℕ} {end : ℕ} → Wrote out 0 (size % 256 ∷ size / 256 ∷ length places ∷ 0 ∷ []) after end → Going out 0 (laid all) after end (contents (front all) all ++ body_bytes all)
-  headed w = next (begun out 0 (laid all) (omega (arith, laid-length all))) (header all) _ (laid-parts all) (rw (e, ← length-map places (piece_at stream)) at w)
+  pub header-first : (size : ℕ) → size ≡ laid_length all → laid all ≡ (size % 256 ∷ size / 256 ∷ length places ∷ 0 ∷ []) ++ (contents (front all) all ++ body_bytes all)
+  header-first size e = laid-parts all ∙ rw (e, length-map) refl

@@ -5,7 +5,11 @@ use Rattle.octets.specs.Sentences.{pick}
 use Rattle.descriptors.specs.declared.limits.Limits.{Limits}
 use Rattle.sets.specs.Opening.{lent, opening}
 use Rattle.set_writer.specs.Writer.{ends, set_of, too_large, handing, writing, Filled}
-use Rattle.set_writer.specs.declared.Report.{Report}
+
+-- what the writer answers: its number, and the opening number of the set that the pieces make, which says why 21; 0 where no set was made
+pub record Report : Type 0 where
+  pub number : ℕ
+  pub opening : ℕ
 
 -- a set that is laid out, handed over
 pub record Handed (limits : Limits) (set serial buffer after : List ℕ) (r : Report) : Type 0 where

@@ -4,14 +4,6 @@ ghost use Rattle.octets.specs.Octets.{word};
 ghost use Rattle.set_writer.specs.Writer.{piece_of};
 ghost use Rattle.set_writer.specs.Places.{count_of};
 
-// What counting finds.
-#[derive(Clone, Copy)]
-pub enum Counted {
-    // The stream does not end where its lengths say.
-    Broken,
-    Pieces(usize),
-}
-
 // How many bytes the piece at a place says it has.
 pub fn size_at(stream: &[u8], at: usize) -> usize
     ensures { result ≡ 6 + word (drop at stream.now) 4 }
@@ -28,8 +20,8 @@ pub fn body_at(stream: &[u8], at: usize) -> &[u8]
     buffers::head(buffers::tail(rest, 6), size)
 }
 
-// Whether the stream ends where its lengths say, and how many pieces it has.
-pub fn count_pieces(stream: &[u8]) -> Counted
+// How many pieces the stream has, if it ends where its lengths say.
+pub fn count_pieces(stream: &[u8]) -> Option<usize>
     ensures { result ≡ count_of stream.now }
 {
     let mut n = 0;
@@ -37,10 +29,10 @@ pub fn count_pieces(stream: &[u8]) -> Counted
     while at < stream.len() {
         let size = size_at(stream, at);
         if stream.len() - at < size {
-            return Counted::Broken;
+            return None;
         }
         at += size;
         n += 1;
     }
-    Counted::Pieces(n)
+    Some(n)
 }

@@ -1,7 +1,7 @@
 -- The laws of a set's contents: its entries, one after another, and the bodies that they name. No axiom.
-use Rattle.octets.proofs.Vocabulary.{◌≡◌, refl, sym, ap, ◌∙◌, ℕ, zero, suc, ◌+◌, ◌-◌, ◌*◌, ◌≤◌, ◌<◌, List, [], ◌∷◌, List-as-Memᴰ, List·Memᴰ·head, List·Memᴰ·tail, Bool, true, false, ◌&&◌, ◌||◌, and-false, some, none, length, take, drop, get_elem?, length-drop, drop_of_length-le, eqb, leb, ltb, get_or-take, drop-drop, take_all, take-nil, arith, sub-zero, zero-add, eqb-true, eqb-false, ltb-true, ltb-false, lt-ltb, le-ltb, eq-eqb, ne_eqb}
+use Rattle.octets.proofs.Vocabulary.{◌≡◌, refl, sym, ap, ◌∙◌, ℕ, zero, suc, ◌+◌, ◌-◌, ◌*◌, ◌≤◌, ◌<◌, List, [], ◌∷◌, List-as-Memᴰ, List·Memᴰ·head, List·Memᴰ·tail, Bool, true, false, ◌&&◌, ◌||◌, and-false, some, none, length, take, drop, get_elem?, eqb, leb, ltb, get_or-take, drop-drop, arith, sub-zero, zero-add, eqb-true, eqb-false, ltb-true, ltb-false, lt-ltb, le-ltb, eq-eqb, ne_eqb}
 use Rattle.octets.proofs.Sentences.{cases}
-use Rattle.octets.specs.Octets.{byte, part}
+use Rattle.octets.specs.Octets.{byte}
 use Rattle.octets.specs.Sentences.{pick, every, any, only, first, neighbours}
 use Rattle.descriptors.specs.declared.limits.Limits.{Limits}
 use Rattle.descriptors.specs.Limits.{named}
@@ -15,22 +15,6 @@ pub entry_whole : (bytes : List ℕ) (n : ℕ) → 8 ≤ n → entry_of (take n 
 entry_whole bytes n h =
     let at : (i : ℕ) → i < 8 → byte (take n bytes) i ≡ byte bytes i = λ i l. get_or-take n bytes i 0 (omega arith) in
     rw (at 0 (omega arith), at 1 (omega arith), at 2 (omega arith), at 3 (omega arith), at 4 (omega arith), at 5 (omega arith), at 6 (omega arith), at 7 (omega arith))
-
-pub entry-short : (set : List ℕ) (at : ℕ) → entry_of (take (length set - at) (drop at set)) ≡ entry_of (drop at set)
-entry-short set at = ap entry_of (take_all (length set - at) (drop at set) (rw length-drop (omega arith)))
-
-pub entry-none : (set : List ℕ) (at : ℕ) → length set ≤ at → entry_of [] ≡ entry_of (drop at set)
-entry-none set at h = ap entry_of (sym (drop_of_length-le set h))
-
--- ---- a body that runs past the set's end is as much of it as is there
-pub part-short : (bytes : List ℕ) (offset size : ℕ) → length bytes ≤ offset + size → take (length bytes - offset) (drop offset bytes) ≡ part bytes offset size
-part-short bytes offset size h =
-    let l : length (drop offset bytes) ≤ length bytes - offset = rw length-drop (omega arith) in
-    let m : length (drop offset bytes) ≤ size = rw length-drop (omega arith) in
-    take_all _ _ l ∙ sym (take_all _ _ m)
-
-pub part_none : (bytes : List ℕ) (offset size : ℕ) → length bytes ≤ offset → [] ≡ part bytes offset size
-part_none bytes offset size h = rw (drop_of_length-le bytes h, take-nil)
 
 -- ---- the entries from the i-th on
 abbrev pub rest : List ℕ → ℕ → List Entry
@@ -270,6 +254,12 @@ module _ (limits : Limits) (set : List ℕ) {start rank devices configurations :
     one = counts-on set n p i h e q 1 devices o.one;
     two = counts-on set n p i h e q 2 configurations o.two;
   }
+
+-- no entry is left: the last body has to end at the total
+pub outline-end : (limits : Limits) (set : List ℕ) {start rank devices configurations : ℕ} (i : ℕ) → Outlined limits set start rank devices configurations i
+    → (n : ℕ) → n ≡ count set → n ≤ i → good_contents limits set ≡ eqb start (total set)
+outline-end limits set {start} i o n p h =
+    o.good ∙ ap (contents_from limits (total set) (eqb i 0) o.last start) (no-entry set n p i h) ∙ contents-end limits (total set) (eqb i 0) o.last start
 
 -- ---- the i-th entry is one of the entries
 from_member : (n : ℕ) (bytes : List ℕ) (i : ℕ) → i < n → List-as-Memᴰ (entry_of (drop (8 * i) bytes)) (entries_from n bytes)

@@ -12,3 +12,4 @@ pub mod Passing
 pub mod Pieces
 pub mod References
 pub mod Strings
+pub mod Opened

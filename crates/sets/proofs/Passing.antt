@@ -1,7 +1,7 @@
 -- The laws of the one pass over the strings: entries and languages ascend together. No axiom.
-use Rattle.octets.proofs.Vocabulary.{◌≡◌, refl, sym, ap, ◌∙◌, ℕ, ◌+◌, ◌≤◌, ◌<◌, List, [], ◌∷◌, map, Bool, true, false, ◌&&◌, ◌||◌, not, and-true, and-false, or-true, or-false, ◌⊎◌, inl, inr, length, drop, eqb, leb, ltb, arith, eqb-true, leb-true, leb-false, ltb-true, ltb-false, eq-eqb, ne_eqb, le-leb}
+use Rattle.octets.proofs.Vocabulary.{◌≡◌, refl, sym, ap, ◌∙◌, ℕ, ◌+◌, ◌≤◌, ◌<◌, List, [], ◌∷◌, map, Bool, true, false, ◌&&◌, ◌||◌, and-true, and-false, or-false, ◌⊎◌, inl, inr, length, drop, eqb, leb, ltb, arith, eqb-true, leb-true, ltb-true, ltb-false, eq-eqb, ne_eqb}
 use Rattle.octets.specs.Octets.{byte, word}
-use Rattle.octets.specs.Sentences.{pick, ◌⇒◌, every, any, only, neighbours, member}
+use Rattle.octets.specs.Sentences.{pick, every, any, only, neighbours, member}
 use Rattle.octets.proofs.Sentences.{cases, never, conjunct, both, either, or_right}
 use Rattle.descriptors.specs.declared.limits.Limits.{Limits}
 use Rattle.descriptors.specs.Limits.{named}
@@ -105,20 +105,6 @@ moving : (n t b r : Bool) → ((n || (t && false)) && (b && r)) ≡ ((n && b) &&
 moving true t b r = refl
 moving false true b r = refl
 moving false false b r = refl
-
--- ---- a string entry by itself: index 0, language 0, the serial number's index
-pub index-zero : (z l n : Bool) → n ≡ true → z ≡ (true && ((z ⇒ true) && (true ⇒ z)) && ((true && z) || l) && n)
-index-zero true l n p = sym p
-index-zero false l n p = refl
-
-pub not-serial : (serial : ℕ) → (leb 1 serial ⇒ not (eqb 0 serial)) ≡ true
-not-serial serial = cases (leb 1 serial) (λ p. let q = leb-true 1 serial p in rw (ne_eqb 0 serial (λ e. omega arith), or-true)) (λ p. rw p)
-
-pub serial-index : (index serial : ℕ) → index ≡ serial → (index ≡ 0 → ⊥) → (leb 1 serial ⇒ not (eqb index serial)) ≡ false
-serial-index index serial p h = rw (eq-eqb index serial p, le-leb 1 serial (some serial (λ e. h (p ∙ e))))
-  where
-    some : (n : ℕ) → (n ≡ 0 → ⊥) → 1 ≤ n
-    some n h = cases (leb 1 n) (λ p. leb-true 1 n p) (λ p. absurd (h (let q = leb-false 1 n p in omega arith)))
 
 -- ---- what holds before the i-th entry, with `language` the one listed at `at`
 module _ (set languages : List ℕ) (serial : ℕ) where

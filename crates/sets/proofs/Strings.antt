@@ -1,4 +1,5 @@
 -- The laws of strings: the languages that string 0 lists. No axiom.
+use Rattle.std.specs.Prelude.{Some, None}
 use Rattle.octets.proofs.Vocabulary.{◌≡◌, refl, sym, ap, ◌∙◌, ℕ, suc, ◌+◌, ◌-◌, ◌*◌, ◌/◌, ◌≤◌, ◌<◌, List, [], ◌∷◌, map, Bool, true, false, ◌&&◌, ◌||◌, and-false, and_assoc, or-true, or-false, or_assoc, Option, some, none, Option·map, length, drop, length-drop, eqb, leb, ltb, drop-cons, arith, leb-true, ltb-true, eqb-true, eqb-false, eq-eqb, ne_eqb, le-leb, lt-leb}
 use native.Mathlib.Numerals.{add-one}
 use Rattle.octets.specs.Octets.{byte, word}
@@ -7,7 +8,6 @@ use Rattle.octets.proofs.Sentences.{cases, both, joined, same_test, first_alike,
 use Rattle.octets.specs.Table.{has, with}
 use Rattle.octets.proofs.Tables.{with-long, has-with, all_of, has-none}
 use Rattle.sets.specs.declared.Entry.{Entry}
-use Rattle.sets.specs.declared.EntryFound.TheVariants.{At, Nothing}
 use Rattle.sets.specs.Contents.{is_kind, entries, entries_of}
 use Rattle.sets.specs.Pieces.{Piece, piece_for, pieces_in, pieces_of, kind_of}
 use Rattle.sets.specs.Strings.{words, is_string, is_string_zero, string_zero, languages_in, languages_of, languages, good_languages}
@@ -133,19 +133,19 @@ string-zero set =
     ∙ first-map (piece_for set) (λ p. kind_of 3 p && is_string_zero p) (entries set)
     ∙ ap (Option·map (piece_for set)) (first_alike _ (is_at 3 0 0) (entries set) (λ e m. sym (and_assoc (is_kind 3 e) (eqb e.index 0) (eqb e.language 0))))
 
-pub found_some : (o : Option Entry) {e : Entry} → found o ≡ At e → o ≡ some e
+pub found_some : (o : Option Entry) {e : Entry} → found o ≡ Some e → o ≡ some e
 found_some none p = at-missing (sym p)
 found_some (some d) p = ap some (at_same p)
 
-pub found_none : (o : Option Entry) → found o ≡ Nothing → o ≡ none
+pub found_none : (o : Option Entry) → found o ≡ None → o ≡ none
 found_none none p = refl
 found_none (some d) p = at-missing p
 
 module _ (set : List ℕ) where
-  pub zero-some : {e : Entry} → found (first (is_at 3 0 0) (entries set)) ≡ At e → string_zero set ≡ some (piece_for set e)
+  pub zero-some : {e : Entry} → found (first (is_at 3 0 0) (entries set)) ≡ Some e → string_zero set ≡ some (piece_for set e)
   zero-some p = string-zero set ∙ ap (Option·map (piece_for set)) {x = first (is_at 3 0 0) (entries set)} (found_some _ p)
 
-  pub zero-none : found (first (is_at 3 0 0) (entries set)) ≡ Nothing → string_zero set ≡ none
+  pub zero-none : found (first (is_at 3 0 0) (entries set)) ≡ None → string_zero set ≡ none
   zero-none p = string-zero set ∙ ap (Option·map (piece_for set)) {x = first (is_at 3 0 0) (entries set)} (found_none _ p)
 
   pub languages-of : {o : Option Piece} → string_zero set ≡ o → languages set ≡ languages_in o

@@ -31,11 +31,11 @@ good_entry limits first last start e = good_placed limits e start (is_next first
 abbrev pub rank_of : Entry → ℕ
 rank_of e = 16777216 * e.kind + 256 * e.language + e.index
 
--- what the one pass over the contents tells
+-- what the one pass over the contents tells, where they meet group 2
 pub record Outlines (limits : Limits) (set : List ℕ) (o : Outline) : Type 0 where
-  pub good : o.good ≡ good_contents limits set
-  pub devices : o.good ≡ true → o.devices ≡ length (entries_of 1 set)
-  pub configurations : o.good ≡ true → o.configurations ≡ length (entries_of 2 set)
+  pub good : good_contents limits set ≡ true
+  pub devices : o.devices ≡ length (entries_of 1 set)
+  pub configurations : o.configurations ≡ length (entries_of 2 set)
 
 -- the one device entry, beside the number of configurations
 abbrev pub good_device_entry : Limits → List ℕ → Entry → ℕ → Bool

@@ -4,7 +4,6 @@ ghost use Rattle.sets.specs.Pieces.{pieces_in, pieces_of, sole};
 ghost use Rattle.sets.specs.Device.{good_store};
 ghost use Rattle.sets.specs.Opening.{one_store};
 
-use crate::EntryFound;
 use crate::contents::{body_of, count_of, entry_of};
 use descriptors::limits::Limits;
 use descriptors::types::BOS;
@@ -15,6 +14,7 @@ fn good_store(body: &[u8]) -> bool
     (5 <= body.len()) & (octets::word(body, 2) as usize == body.len())
 }
 
+// Kept: one for this and `pairs::agreement::qualifies` would be handed the body's rule, a function, and the board's crates have none.
 fn good_store_entries(set: &[u8]) -> bool
     ensures { result ≡ sole good_store (pieces_of 15 (pieces_in set.now)) }
 {
@@ -22,8 +22,8 @@ fn good_store_entries(set: &[u8]) -> bool
         return false;
     }
     match entry_of(set, BOS, 0) {
-        EntryFound::At(e) => (e.index == 0) & (e.language == 0) & good_store(body_of(set, e)),
-        EntryFound::Nothing => false,
+        Some(e) => (e.index == 0) & (e.language == 0) & good_store(body_of(set, e)),
+        None => false,
     }
 }
 

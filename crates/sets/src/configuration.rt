@@ -9,8 +9,8 @@ ghost use Rattle.sets.specs.Opening.{good_configurations};
 ghost use Rattle.sets.specs.View.{entry_by_index};
 ghost use Rattle.sets.specs.Checks.{good_numbered, Begins};
 
+use crate::Entry;
 use crate::contents::{body_of, body_whole, entry_at, entry_of, entry_whole};
-use crate::{Entry, EntryFound};
 use descriptors::check::Verdict;
 use descriptors::limits::Limits;
 use descriptors::types::CONFIGURATION;
@@ -50,6 +50,7 @@ pub fn good_configurations(set: &[u8], limits: Limits, names: &[u32; 8], many: u
     let mut seen = [0u32; 8];
     let mut refers = true;
     let mut i: u8 = 0;
+    // Kept: it ends with the last configuration; a `for` over the entries would read those of the strings too.
     while index < many {
         let e = entry_whole(set, i);
         i += 1;
@@ -70,30 +71,28 @@ pub fn good_configurations(set: &[u8], limits: Limits, names: &[u32; 8], many: u
 }
 
 // The entry of the configuration at an index.
-pub fn by_index(set: &[u8], index: ConfigurationIndex) -> EntryFound
+pub fn by_index(set: &[u8], index: ConfigurationIndex) -> Option<Entry>
     ensures { result ≡ found (entry_by_index index (entries set.now)) }
 {
     entry_of(set, CONFIGURATION, index.0)
 }
 
 // The entry of the configuration with a bConfigurationValue.
-pub fn by_value(set: &[u8], value: ConfigurationValue) -> EntryFound
+pub fn by_value(set: &[u8], value: ConfigurationValue) -> Option<Entry>
     ensures { result ≡ found (first (valued set.now value.0) (entries_of 2 set.now)) }
 {
     // A slice that is named whole before it is handed on is lent in registers.
     let all = &set[..];
     let count = octets::peek(all, 2);
-    let mut i: u8 = 0;
-    while i < count {
+    for i in 0..count {
         let e = entry_at(all, i);
-        i += 1;
         if e.kind == CONFIGURATION {
             if octets::peek(body_of(all, e), 5) == value.0 {
-                return EntryFound::At(e);
+                return Some(e);
             }
         }
     }
-    EntryFound::Nothing
+    None
 }
 
 // Whether some configuration supports remote wakeup: bit 5 of its attributes.
@@ -101,10 +100,8 @@ pub fn wakes(set: &[u8]) -> bool
     ensures { result ≡ any can_wake (bodies 2 set.now) }
 {
     let count = octets::peek(set, 2);
-    let mut i: u8 = 0;
-    while i < count {
+    for i in 0..count {
         let e = entry_at(set, i);
-        i += 1;
         if e.kind == CONFIGURATION {
             if octets::peek(body_of(set, e), 7) / 32 % 2 == 1 {
                 return true;

@@ -2,7 +2,6 @@
 ghost use Rattle.std.specs.Prelude.{◌≡◌, ◌&&◌, ◌+◌, ◌≤◌, length, eqb};
 ghost use Rattle.std.proofs.Math.ListN.{get_elem?};
 ghost use Rattle.octets.specs.Sentences.{pick};
-ghost use Rattle.sets.specs.declared.EntryFound.TheVariants.{Nothing};
 ghost use Rattle.sets.specs.Contents.{entries_of};
 ghost use Rattle.sets.specs.Pieces.{pieces_in};
 ghost use Rattle.sets.specs.Device.{good_device, device_body, iSerialNumber};
@@ -10,9 +9,9 @@ ghost use Rattle.sets.specs.Opening.{one_store, good_serial};
 ghost use Rattle.sets.specs.Found.{found};
 ghost use Rattle.sets.specs.Checks.{good_device_entry, device_refers};
 
+use crate::Entry;
 use crate::capabilities::good_capabilities;
 use crate::contents::{body_of, body_whole, entry_of};
-use crate::{Entry, EntryFound};
 use descriptors::limits::Limits;
 use descriptors::types::{DEVICE, STRING};
 use octets::table::holds;
@@ -39,19 +38,19 @@ pub fn device_body(set: &[u8]) -> &[u8]
     ensures { result.now ≡ device_body set.now }
 {
     match entry_of(set, DEVICE, 0) {
-        EntryFound::At(e) => body_of(set, e),
-        EntryFound::Nothing => &set[0..0],
+        Some(e) => body_of(set, e),
+        None => &set[0..0],
     }
 }
 
 // The device entry, where there is one alone.
-pub fn sole_entry(set: &[u8], devices: u8) -> EntryFound
-    ensures { result ≡ pick (eqb devices 1) (found (get_elem? (entries_of 1 set.now) 0)) Nothing }
+pub fn sole_entry(set: &[u8], devices: u8) -> Option<Entry>
+    ensures { result ≡ pick (eqb devices 1) (found (get_elem? (entries_of 1 set.now) 0)) None }
 {
     if devices == 1 {
         return entry_of(set, DEVICE, 0);
     }
-    EntryFound::Nothing
+    None
 }
 
 // Group 3, of the device entry and so many configurations, once the contents are good.

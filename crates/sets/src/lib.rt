@@ -9,18 +9,11 @@ pub mod opening;
 pub mod string;
 
 // One entry of the contents: what a body is, and where it lies.
-#[derive(Clone, Copy)]
+#[derive(Clone, Copy, PartialEq, Eq)]
 pub struct Entry {
     pub kind: u8,
     pub index: u8,
     pub language: u16,
     pub offset: u16,
     pub length: u16,
-}
-
-// An entry that is looked up.
-#[derive(Clone, Copy)]
-pub enum EntryFound {
-    At(Entry),
-    Nothing,
 }

@@ -1,5 +1,5 @@
 -- What the walk finds is what a survey sees: one descriptor after another. No axiom.
-use Rattle.octets.proofs.Vocabulary.{◌≡◌, refl, sym, ap, ◌∙◌, ℕ, ◌+◌, ◌*◌, ◌/◌, ◌%◌, ◌≤◌, ◌<◌, List, Bool, true, false, ◌&&◌, ◌||◌, or-false, get_or, eqb, leb, arith, lt_of_not-le, add-mul-mod_self_left, mod-eq_of_lt, eq-eqb, ne_eqb, le-leb, lt-leb, lt-ltb, eqb-true, eqb-false, leb-true, leb-false}
+use Rattle.octets.proofs.Vocabulary.{◌≡◌, refl, sym, ap, ◌∙◌, ℕ, ◌+◌, ◌*◌, ◌/◌, ◌%◌, ◌≤◌, ◌<◌, List, Bool, true, false, ◌&&◌, ◌||◌, or-false, get_or, eqb, leb, arith, lt_of_not-le, eq-eqb, ne_eqb, le-leb, lt-leb, lt-ltb, eqb-true, eqb-false, leb-true, leb-false}
 use Rattle.octets.specs.Bit.{bit, set_bit}
 use Rattle.octets.specs.Octets.{byte, word}
 use Rattle.octets.specs.Sentences.{pick}
@@ -8,8 +8,6 @@ use Rattle.octets.proofs.Bits.{bit-zero}
 use Rattle.octets.proofs.Words.{set-digit}
 use Rattle.descriptors.specs.declared.Setting.{Setting}
 use Rattle.descriptors.specs.declared.walk.Stand.{Stand}
-use Rattle.descriptors.specs.declared.lookup.EndpointFound.{EndpointFound}
-use Rattle.descriptors.specs.declared.lookup.EndpointFound.TheVariants.{At, Nothing}
 use Rattle.descriptors.specs.declared.survey.Asked.{Asked}
 use Rattle.descriptors.specs.declared.survey.Survey.{Survey}
 use Rattle.descriptors.specs.Descriptor.{is_interface, is_endpoint, bInterfaceNumber, bAlternateSetting, bEndpointAddress, bmAttributes}
@@ -21,33 +19,38 @@ use Rattle.descriptors.specs.Survey.{is_setting, earlier, found_here, nothing_se
 use Rattle.descriptors.specs.Survey.{at_current as seen_at_current, at_other as seen_at_other}
 use Rattle.descriptors.proofs.Surveying.{earlier-none, current-adds, other-adds, outside-adds}
 use Rattle.single_walk.specs.declared.walk.Finds.{Finds}
-use Rattle.single_walk.specs.Course.{wanted_of, role_of, with_setting, first_found, with_endpoint, endpoint_in, setting_out, Tells}
+use Rattle.single_walk.specs.declared.walk.Wanted.{Wanted}
+use Rattle.single_walk.specs.declared.course.Role.{Role}
+use Rattle.single_walk.specs.declared.course.Role.TheVariants.{Other, AskedFor, Current, CurrentAskedFor}
+use Rattle.single_walk.specs.Course.{wanted_of, role_of, begin_current, begin_other, with_setting, endpoint_of, first_found, with_endpoint, setting_out, Tells}
 
 -- the role of the setting under which a descriptor stands
-abbrev role_at : List ℕ → Asked → Stand → ℕ
+abbrev role_at : List ℕ → Asked → Stand → Role
 role_at alternates asked stand =
     pick stand.inside
-    (pick (eqb stand.alternate (get_or alternates stand.interface 0)) (pick (eqb stand.interface asked.interface) 3 2)
-    (pick (is_setting asked.interface asked.alternate (setting_at stand)) 1 0))
-    0
+    (pick (eqb stand.alternate (get_or alternates stand.interface 0)) (pick (eqb stand.interface asked.interface) CurrentAskedFor Current)
+    (pick (is_setting asked.interface asked.alternate (setting_at stand)) AskedFor Other))
+    Other
 
 -- what was found and the role of the setting, beside what a survey has seen
-pub record Found (alternates : List ℕ) (asked : Asked) (f : Finds) (role : ℕ) (s : Survey) (last : Stand) : Type 0 where
+pub record Found (alternates : List ℕ) (asked : Asked) (f : Finds) (role : Role) (s : Survey) (last : Stand) : Type 0 where
   pub tells : Tells asked s f
   pub plays : role ≡ role_at alternates asked last
   pub exists : (k : ℕ) → k < 32 → bit s.existing k ≡ (last.inside && leb k last.interface)
 
-pub found-begin : (alternates : List ℕ) (asked : Asked) → Found alternates asked setting_out.finds 0 nothing_seen before
+pub found-begin : (alternates : List ℕ) (asked : Asked) → Found alternates asked setting_out.finds Other nothing_seen before
 found-begin alternates asked = record {
   tells = record { current = refl; halting = refl; bits = refl; endpoint = refl; there = refl };
   plays = refl;
   exists = λ k _. bit-zero k;
 }
 
-wraps : (a m : ℕ) → a ≤ 15 → (a + 1 + 256 * m + 255) % 256 ≡ a
-wraps a m l =
-    let e : a + 1 + 256 * m + 255 ≡ a + 256 * (m + 1) = omega arith in
-    rw e (add-mul-mod_self_left a 256 (m + 1) ∙ mod-eq_of_lt (omega arith))
+-- what is found once a setting is begun, by what it is
+begun-as : (f : Finds) (n : ℕ) (w : Wanted) (h m a : Bool) → with_setting f n (pick h (pick m CurrentAskedFor Current) (pick a AskedFor Other)) w ≡ pick h (begin_current f n w) (pick a (begin_other f) f)
+begun-as f n w true true a = refl
+begun-as f n w true false a = refl
+begun-as f n w false m true = refl
+begun-as f n w false m false = refl
 
 -- the number of a setting is the one that is asked for
 pub wanted-same : (high : Bool) (asked : Asked) (d : List ℕ) → bInterfaceNumber d < 256 → bAlternateSetting d < 256
@@ -84,7 +87,7 @@ begins-next stand t k p = cases stand.inside
     (λ u. let v = eqb-false t.interface k u in rw (u, lt-leb k t.interface (lt_of_not-le (λ m. v (omega arith))))))
     (λ y. never p (rw (x, y)))))
 
-module _ {alternates : List ℕ} {asked : Asked} {f : Finds} {role : ℕ} {s : Survey} {last : Stand} (high : Bool) (g : Found alternates asked f role s last) (d : List ℕ) where
+module _ {alternates : List ℕ} {asked : Asked} {f : Finds} {role : Role} {s : Survey} {last : Stand} (high : Bool) (g : Found alternates asked f role s last) (d : List ℕ) where
   module _ (i : is_interface d ≡ true) (low : bInterfaceNumber d < 16) (j : bAlternateSetting d < 256) (may : placed last (begun_by d) ≡ true) where
     abbrev stand : Stand
     stand = record { inside = true; interface = bInterfaceNumber d; alternate = bAlternateSetting d }
@@ -105,8 +108,8 @@ module _ {alternates : List ℕ} {asked : Asked} {f : Finds} {role : ℕ} {s : S
     alternate : word d 2 / 256 ≡ bAlternateSetting d
     alternate = omega arith
 
-    role_same : pick here (pick (eqb (bInterfaceNumber d) asked.interface) 3 2) (pick (eqb (word d 2) (wanted_of high asked).setting) 1 0) ≡ role_at alternates asked stand
-    role_same = ap (λ (b : Bool). pick here (pick (eqb (bInterfaceNumber d) asked.interface) 3 2) (pick b 1 0)) same
+    role_same : role_of alternates (wanted_of high asked) (word d 2) ≡ role_at alternates asked stand
+    role_same = rw (number, alternate, same)
 
     no-endpoint : is_endpoint d ≡ false
     no-endpoint = ap (λ (n : ℕ). eqb n 5) (eqb-true (byte d 1) 4 i)
@@ -124,31 +127,28 @@ module _ {alternates : List ℕ} {asked : Asked} {f : Finds} {role : ℕ} {s : S
     seen_next : onward alternates asked s stand d ≡ next
     seen_next = rw (i, no-endpoint, lt-ltb (bInterfaceNumber d) 32 (omega arith), earlier-none s.endpoint)
 
-    told : (h m a : Bool) → Tells asked (record {
+    abbrev begun : Bool → Finds
+    begun a = record { current = set_bit f.current (bInterfaceNumber d); halting = f.halting; bits = f.bits; endpoint = f.endpoint; there = f.there || a }
+
+    told : (h a : Bool) → Tells asked (record {
       existing = set_bit s.existing (bInterfaceNumber d);
       current = pick h (set_bit s.current (bInterfaceNumber d)) s.current;
       halting = s.halting;
       endpoint = s.endpoint;
       there = s.there || a;
       bits = s.bits;
-    }) (pick (eqb (pick h (pick m 3 2) (pick a 1 0)) 0) f (record {
-      current = pick (leb 2 (pick h (pick m 3 2) (pick a 1 0))) (set_bit f.current (bInterfaceNumber d)) f.current;
-      halting = f.halting;
-      bits = f.bits;
-      endpoint = f.endpoint;
-      there = pick a 1 f.there;
-    }))
-    told true true true = record { current = rw g.tells.current; halting = g.tells.halting; bits = g.tells.bits; endpoint = g.tells.endpoint; there = sym (or-true s.there) }
-    told true false true = record { current = rw g.tells.current; halting = g.tells.halting; bits = g.tells.bits; endpoint = g.tells.endpoint; there = sym (or-true s.there) }
-    told true true false = record { current = rw g.tells.current; halting = g.tells.halting; bits = g.tells.bits; endpoint = g.tells.endpoint; there = g.tells.there ∙ sym (or-false s.there) }
-    told true false false = record { current = rw g.tells.current; halting = g.tells.halting; bits = g.tells.bits; endpoint = g.tells.endpoint; there = g.tells.there ∙ sym (or-false s.there) }
-    told false m true = record { current = g.tells.current; halting = g.tells.halting; bits = g.tells.bits; endpoint = g.tells.endpoint; there = sym (or-true s.there) }
-    told false m false = record { current = g.tells.current; halting = g.tells.halting; bits = g.tells.bits; endpoint = g.tells.endpoint; there = g.tells.there ∙ sym (or-false s.there) }
+    }) (pick h (begun a) (pick a (begin_other f) f))
+    told true a = record { current = rw g.tells.current; halting = g.tells.halting; bits = g.tells.bits; endpoint = g.tells.endpoint; there = ap (λ (b : Bool). b || a) g.tells.there }
+    told false true = record { current = g.tells.current; halting = g.tells.halting; bits = g.tells.bits; endpoint = g.tells.endpoint; there = sym (or-true s.there) }
+    told false false = record { current = g.tells.current; halting = g.tells.halting; bits = g.tells.bits; endpoint = g.tells.endpoint; there = g.tells.there ∙ sym (or-false s.there) }
 
-    pub found-interface : (v : Finds) (r : ℕ) → v ≡ with_setting f (word d 2) (role_of alternates (wanted_of high asked) (word d 2)) (wanted_of high asked) → r ≡ role_of alternates (wanted_of high asked) (word d 2)
+    finds_same : with_setting f (word d 2) (role_of alternates (wanted_of high asked) (word d 2)) (wanted_of high asked) ≡ pick here (begun asks) (pick asks (begin_other f) f)
+    finds_same = rw (number, alternate, same) (begun-as f (word d 2) (wanted_of high asked) here (eqb (bInterfaceNumber d) asked.interface) asks ∙ rw (number, same))
+
+    pub found-interface : (v : Finds) (r : Role) → v ≡ with_setting f (word d 2) (role_of alternates (wanted_of high asked) (word d 2)) (wanted_of high asked) → r ≡ role_of alternates (wanted_of high asked) (word d 2)
         → Found alternates asked v r (onward alternates asked s stand d) stand
-    found-interface v r p q = rw (p, q, seen_next, number, alternate) (record {
-      tells = rw same (told here (eqb (bInterfaceNumber d) asked.interface) asks);
+    found-interface v r p q = rw (p, q, seen_next) (record {
+      tells = rw finds_same (told here asks);
       plays = role_same;
       exists = λ k l. set-digit s.existing (bInterfaceNumber d) k ∙ ap (λ (b : Bool). b || eqb (bInterfaceNumber d) k) (g.exists k l) ∙ begins-next last (begun_by d) k may;
     })
@@ -160,31 +160,20 @@ module _ {alternates : List ℕ} {asked : Asked} {f : Finds} {role : ℕ} {s : S
     current = eqb last.alternate (get_or alternates last.interface 0)
 
     module _ (p : last.inside ≡ true) where
-      first-same : endpoint_in (first_found f.endpoint setting d (wanted_of high asked)) asked.address
-          ≡ earlier s.endpoint (found_here (eqb (bEndpointAddress d) asked.address) last d)
-      first-same = cases (eqb (bEndpointAddress d) asked.address)
-          (λ q. cases (eqb f.endpoint 0)
-          (λ z.
+      listed-same : endpoint_of setting d ≡ listed last d
+      listed-same =
           let x = stands p in
-          let a = eqb-true (bEndpointAddress d) asked.address q in
-          let n : s.endpoint ≡ Nothing = sym g.tells.endpoint ∙ rw z in
-          let number : (setting + 256 + 65536 * bmAttributes d) % 256 ≡ last.interface = omega (arith, x.0, x.1, x.2) in
-          let quotient : (setting + 256 + 65536 * bmAttributes d) / 256 ≡ last.alternate + 1 + 256 * bmAttributes d = omega (arith, x.0, x.1, x.2) in
-          let alternate : ((setting + 256 + 65536 * bmAttributes d) / 256 + 255) % 256 ≡ last.alternate = rw quotient (wraps last.alternate (bmAttributes d) x.1) in
-          let third : (setting + 256 + 65536 * bmAttributes d) / 65536 ≡ bmAttributes d = omega (arith, x.0, x.1, x.2) in
-          let attributes : (setting + 256 + 65536 * bmAttributes d) / 65536 % 256 ≡ bmAttributes d = rw third (mod-eq_of_lt few) in
-          let address : asked.address % 256 ≡ bEndpointAddress d = omega arith in
-          rw (q, z, n, ne_eqb (setting + 256 + 65536 * bmAttributes d) 0 (λ e. omega (arith, x.2)), number, alternate, attributes, address))
-          (λ z. rw (q, z) (stays s.endpoint f.endpoint asked.address z g.tells.endpoint (At (listed last d)))))
-          (λ q. rw q (g.tells.endpoint ∙ sym (earlier-none s.endpoint)))
-        where
-          stays : (now : EndpointFound) (e address : ℕ) → eqb e 0 ≡ false → endpoint_in e address ≡ now → (later : EndpointFound) → endpoint_in e address ≡ earlier now later
-          stays now e address z h later = rw (← h, z)
+          let interface : setting % 256 ≡ last.interface = omega (arith, x.0, x.1, x.2) in
+          let alternate : setting / 256 % 256 ≡ last.alternate = omega (arith, x.0, x.1, x.2) in
+          rw (interface, alternate)
 
-      role-current : current ≡ true → role ≡ pick (eqb last.interface asked.interface) 3 2
+      first-same : first_found f.endpoint setting d (wanted_of high asked) ≡ earlier s.endpoint (found_here (eqb (bEndpointAddress d) asked.address) last d)
+      first-same = rw (g.tells.endpoint, listed-same)
+
+      role-current : current ≡ true → role ≡ pick (eqb last.interface asked.interface) CurrentAskedFor Current
       role-current c = g.plays ∙ rw (p, c)
 
-      role-other : current ≡ false → role ≡ pick (is_setting asked.interface asked.alternate (setting_at last)) 1 0
+      role-other : current ≡ false → role ≡ pick (is_setting asked.interface asked.alternate (setting_at last)) AskedFor Other
       role-other c = g.plays ∙ rw (p, c)
 
       at-current : current ≡ true → Tells asked (seen_at_current asked s last d) (with_endpoint f d setting role (wanted_of high asked))
@@ -205,7 +194,7 @@ module _ {alternates : List ℕ} {asked : Asked} {f : Finds} {role : ℕ} {s : S
         (λ p. cases (eqb last.alternate (get_or alternates last.interface 0))
         (λ c. rw (← current-adds alternates asked s last d k p c) (at-current p c))
         (λ c. rw (← other-adds alternates asked s last d k p c) (at_other p c)))
-        (λ p. let z : role ≡ 0 = g.plays ∙ rw p in rw (← outside-adds alternates asked s last d k p, z) g.tells)
+        (λ p. let z : role ≡ Other = g.plays ∙ rw p in rw (← outside-adds alternates asked s last d k p, z) g.tells)
 
     pub found-endpoint : Found alternates asked (with_endpoint f d setting role (wanted_of high asked)) role (onward alternates asked s last d) last
     found-endpoint = record { tells = tells-endpoint; plays = g.plays; exists = λ e l. rw existing-same (g.exists e l) }

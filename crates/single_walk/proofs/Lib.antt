@@ -5,3 +5,4 @@ pub mod Whole
 pub mod Learning
 pub mod AtSpeed
 pub mod InUse
+pub mod Opened

@@ -1,15 +1,14 @@
 -- The loop: beside what the check knows at a place, what a survey has seen there, and that what was found says the same. No axiom.
-use Rattle.octets.proofs.Vocabulary.{◌≡◌, refl, sym, ◌∙◌, ℕ, ◌+◌, ◌-◌, ◌≤◌, ◌<◌, List, [], ◌∷◌, Bool, true, false, ◌&&◌, and-true, and-false, length, drop, eqb, leb, ltb, arith, ne_eqb, le-leb, lt-leb, eqb-true, ltb-true, ltb-false, not-true}
+use Rattle.std.specs.Prelude.{Option, Some, None, is_some, IfSome}
+use Rattle.octets.proofs.Vocabulary.{false≢true, ◌≡◌, refl, sym, ◌∙◌, ℕ, ◌+◌, ◌-◌, ◌≤◌, ◌<◌, List, [], ◌∷◌, Bool, true, false, ◌&&◌, length, drop, eqb, leb, ltb, arith, ne_eqb, le-leb, lt-leb, eqb-true, ltb-true, ltb-false, not-true}
 use Rattle.octets.specs.Octets.{byte, word, Bytes}
-use Rattle.octets.specs.Sentences.{pick}
-use Rattle.octets.specs.Table.{has}
-use Rattle.octets.proofs.Sentences.{cases, never, both, conjunct}
+use Rattle.octets.proofs.Sentences.{cases, both, conjunct}
 use Rattle.descriptors.specs.declared.limits.Limits.{Limits}
 use Rattle.descriptors.specs.declared.walk.Stand.{Stand}
 use Rattle.descriptors.specs.declared.survey.Asked.{Asked}
 use Rattle.descriptors.specs.declared.survey.Survey.{Survey}
 use Rattle.descriptors.specs.Limits.{refused_types, named}
-use Rattle.descriptors.specs.Descriptor.{bDescriptorType, is_interface, is_endpoint, bInterfaceNumber, bAlternateSetting, iInterface}
+use Rattle.descriptors.specs.Descriptor.{bDescriptorType, is_interface, is_endpoint, bInterfaceNumber, bAlternateSetting}
 use Rattle.descriptors.specs.Cut.{cut}
 use Rattle.descriptors.specs.Walk.{before, stand_of, setting_after, Plain, Plains, walked}
 use Rattle.descriptors.specs.Check.{Progress, at_endpoint, beginning}
@@ -23,10 +22,10 @@ use Rattle.descriptors.proofs.CheckOrder.{kinds}
 use Rattle.descriptors.proofs.Surveying.{adds-nothing}
 use Rattle.descriptors.proofs.Models.{models-ended}
 use Rattle.descriptors.proofs.Reaching.{verdict_of, Reached, reached-begin, is-step, goes_on, reached-other, reached-endpoint, low, may-stand, reached-interface, reached-skip, refers-so, reached-end}
-use Rattle.single_walk.specs.declared.walk.Course.{Course}
+use Rattle.single_walk.specs.declared.course.Course.{Course}
 use Rattle.single_walk.specs.declared.walk.Turned.{Turned}
 use Rattle.single_walk.specs.declared.walk.Walked.{Walked}
-use Rattle.single_walk.specs.Course.{wanted_of, setting_out, listed_by, StartedBy, Turns, Rests}
+use Rattle.single_walk.specs.Course.{wanted_of, setting_out, ListedBy, StartedBy, Turns, Ends, RestsOf, Rests}
 use Rattle.single_walk.proofs.Finding.{Found, found-begin, found-interface, found-endpoint}
 
 -- ---- what is known at a place: the check's state, which the order stands for, and what a survey has seen are no locals
@@ -37,7 +36,7 @@ pub record Gathered (limits : Limits) (n : ℕ) (names alternates : List ℕ) (a
   pub w : Progress
   pub last : Stand
   pub s : Survey
-  pub reached : Reached limits n names body from c.order (eqb c.refers 1) w last at
+  pub reached : Reached limits n names body from c.order c.refers w last at
   pub finds : Found alternates asked c.finds c.role s last
   pub gathers : at ≤ length body → Walking (surveying alternates asked) body (survey_of alternates asked body from) s last at
 
@@ -88,14 +87,14 @@ module _ {limits : Limits} {n : ℕ} {names alternates : List ℕ} {asked : Aske
     }
 
   module _ (high : Bool) (b2 : byte d 2 < 256) (b3 : byte d 3 < 256) where
-    gathered-endpoint : is_interface d ≡ false → is_endpoint d ≡ true → listable limits c.order d ≡ true
-        → Gathered limits n names alternates asked body from (listed_by (wanted_of high asked) c d) end
-    gathered-endpoint i k may = record {
+    gathered-endpoint : is_interface d ≡ false → is_endpoint d ≡ true → listable limits c.order d ≡ true → (next : Course) → ListedBy (wanted_of high asked) c d next
+        → Gathered limits n names alternates asked body from next end
+    gathered-endpoint i k may next t = record {
       w = at_endpoint g.w d;
       last = g.last;
       s = seen_on alternates asked g.s g.last d;
-      reached = reached-endpoint alone g.reached h two end e l b2 b3 i k may;
-      finds = found-endpoint high g.finds d k b2 b3 c.order.last g.reached.models.inside;
+      reached = rw (t.order, t.refers) (reached-endpoint alone g.reached h two end e l b2 b3 i k may);
+      finds = rw (t.finds, t.role) (found-endpoint high g.finds d k b2 b3 c.order.last g.reached.models.inside);
       gathers = λ _. rw (stands_on i) at seen_next;
     }
 
@@ -105,17 +104,10 @@ module _ {limits : Limits} {n : ℕ} {names alternates : List ℕ} {asked : Aske
       w = checked_on g.w g.last stand d;
       last = stand;
       s = seen_on alternates asked g.s stand d;
-      reached = rw still (reached-interface alone g.reached h two end e l b2 b3 i may next.order t.order);
+      reached = rw t.refers (reached-interface alone g.reached h two end e l b2 b3 i may next.order t.order);
       finds = rw (stands-new i) (found-interface high g.finds d i (low alone g.reached h two end e l b2 b3 i may) b3 (may-stand alone g.reached h two end e l b2 b3 i may) next.finds next.role t.finds t.role);
       gathers = λ _. seen_next;
     }
-      where
-        one : (a : Bool) (x : ℕ) → eqb (pick a x 0) 1 ≡ (eqb x 1 && a)
-        one true x = sym (and-true (eqb x 1))
-        one false x = sym (and-false (eqb x 1))
-
-        still : eqb next.refers 1 ≡ (eqb c.refers 1 && has names (iInterface d))
-        still = rw t.refers (one (has names (iInterface d)) c.refers)
 
     -- any descriptor that may come
     pub gathered-turn : {setting : ℕ} {turned : Turned} → setting ≡ setting_after c.order.last d → Turns limits names alternates (wanted_of high asked) c setting d turned → turned.good ≡ true
@@ -124,7 +116,7 @@ module _ {limits : Limits} {n : ℕ} {names alternates : List ℕ} {asked : Aske
         let p = sym t.may ∙ good in
         kinds d
         (λ i k. let n : setting ≡ word d 2 = told ∙ rw i in gathered-interface i (rw (k, i, n) at p) turned.course (rw n at (t.starts i good)))
-        (λ i k. rw (t.lists k good) (gathered-endpoint i k (rw k at p)))
+        (λ i k. gathered-endpoint i k (rw k at p) turned.course (t.lists k good))
         (λ i k. rw (t.passes i k) (gathered-other i k (not-true (named refused_types (bDescriptorType d)) (rw (k, i) at p))))
 
 -- ---- descriptors that are stepped over, by their types alone: one, and behind it the others
@@ -145,12 +137,17 @@ gathered-behind {limits} {n} {names} {alternates} {asked} {body} {from} {c} {at}
     }
 
 -- ---- the end
+-- a body that is not good has nothing found in it
+nothing-of : (P : Walked → Type 0) (v : Option Walked) → is_some v ≡ false → IfSome v P
+nothing-of P None p = tt
+nothing-of P (Some w) p = absurd (false≢true (sym p))
+
 -- the walk was broken off, and its place put one byte before the body's end
-pub rests-stopped : {limits : Limits} {names alternates : List ℕ} {asked : Asked} {body : List ℕ} {n from : ℕ} {v : Walked} (at : ℕ) (follows over : Bool) → 1 ≤ length body → at ≡ length body - 1
-    → v.good ≡ (eqb at (length body) && follows && over) → verdict_of limits n body from ≡ false → Rests limits names alternates asked body n from v
-rests-stopped {body = body} {v = v} at follows over some_bytes e p t =
-    let q : v.good ≡ false = p ∙ rw (ne_eqb at (length body) (λ x. omega arith)) in
-    record { good = q ∙ sym t; refers = λ good. never good q; tells = λ good. never good q; exists = λ good. never good q }
+pub rests-stopped : {limits : Limits} {names alternates : List ℕ} {asked : Asked} {body : List ℕ} {n from : ℕ} {v : Option Walked} (c : Course) (at : ℕ) → 1 ≤ length body → at ≡ length body - 1
+    → Ends c (eqb at (length body)) n v → verdict_of limits n body from ≡ false → Rests limits names alternates asked body n from v
+rests-stopped {body = body} {v = v} c at some_bytes e p t =
+    let q : is_some v ≡ false = p.good ∙ rw (ne_eqb at (length body) (λ x. omega arith)) in
+    record { good = q ∙ sym t; on = nothing-of _ v q }
 
 module _ {limits : Limits} {n : ℕ} {names alternates : List ℕ} {asked : Asked} {body : List ℕ} {from : ℕ} {c : Course} {at : ℕ}
     (alone : limits.companions ≡ false) (g : Gathered limits n names alternates asked body from c at) where
@@ -161,31 +158,32 @@ module _ {limits : Limits} {n : ℕ} {names alternates : List ℕ} {asked : Aske
   over = eqb c.order.coming 0
 
   -- the walk went on to the end
-  pub rests-end : (v : Walked) → 1 ≤ n → length body ≤ at + 1 → v.good ≡ (eqb at (length body) && follows && over) → v.refers ≡ eqb c.refers 1 → v.finds ≡ c.finds
-      → Rests limits names alternates asked body n from v
-  rests-end v one b p q f = record {
-    good = p ∙ reached-end alone g.reached one b;
-    refers = λ t. q ∙ sym (refers-so alone g.reached (here t));
-    tells = λ t. rw (f, ← seen_all t) g.finds.tells;
-    exists = λ t k h. rw (← seen_all t) (g.finds.exists k h) ∙ known t k;
-  }
+  pub rests-end : (v : Option Walked) → 1 ≤ n → length body ≤ at + 1 → Ends c (eqb at (length body)) n v → Rests limits names alternates asked body n from v
+  rests-end v one b e = record { good = e.good ∙ reached-end alone g.reached one b; on = rests v e.good e.on }
     where
-      at-end : v.good ≡ true → eqb at (length body) ≡ true
-      at-end t = conjunct 0 (eqb at (length body) ∷ follows ∷ over ∷ []) (sym p ∙ t)
+      at-end : (eqb at (length body) && follows && over) ≡ true → eqb at (length body) ≡ true
+      at-end t = conjunct 0 (eqb at (length body) ∷ follows ∷ over ∷ []) t
 
-      here : v.good ≡ true → at ≡ length body
-      here t = eqb-true at (length body) (at-end t)
-
-      seen_all : v.good ≡ true → g.s ≡ survey_of alternates asked body from
-      seen_all t = let x = here t in walk_end (g.gathers (omega arith)) (omega arith)
+      seen_all : at ≡ length body → g.s ≡ survey_of alternates asked body from
+      seen_all x = walk_end (g.gathers (omega arith)) (omega arith)
 
       -- every interface below n was begun
-      known : v.good ≡ true → (k : ℕ) → (g.last.inside && leb k g.last.interface) ≡ ltb k n
+      known : (eqb at (length body) && follows && over) ≡ true → (k : ℕ) → (g.last.inside && leb k g.last.interface) ≡ ltb k n
       known t k =
-          let r : (follows && over) ≡ true = rw (at-end t) at (sym p ∙ t) in
+          let r : (follows && over) ≡ true = rw (at-end t) at t in
           let (x, _) = both (g.last.inside && eqb (g.last.interface + 1) n) (eqb g.w.coming 0) (sym (models-ended g.reached.models n one) ∙ r) in
           let (y, z) = both g.last.inside (eqb (g.last.interface + 1) n) x in
           let q = eqb-true (g.last.interface + 1) n z in
           rw y (cases (ltb k n)
           (λ u. let v = ltb-true k n u in rw u (le-leb k g.last.interface (omega arith)))
           (λ u. let v = ltb-false k n u in rw u (lt-leb k g.last.interface (omega arith))))
+
+      rests : (v : Option Walked) → is_some v ≡ (eqb at (length body) && follows && over) → IfSome v (λ w. (w.refers ≡ c.refers) × (w.finds ≡ c.finds)) → IfSome v (RestsOf names alternates asked body n from)
+      rests None p q = tt
+      rests (Some w) p q =
+          let here : at ≡ length body = eqb-true at (length body) (at-end (sym p)) in
+          record {
+            refers = q.0 ∙ sym (refers-so alone g.reached here);
+            tells = rw (q.1, ← seen_all here) g.finds.tells;
+            exists = λ k h. rw (← seen_all here) (g.finds.exists k h) ∙ known (sym p) k;
+          }

@@ -1,21 +1,23 @@
 -- Working definitions for the contracts of opening with what an event asks; no promise cites them.
-use Rattle.std.specs.Prelude.{ℕ, ◌≡◌, Bool, true, false, ◌&&◌, not, List, eqb, leb}
+use Rattle.std.specs.Prelude.{ℕ, ◌≡◌, Bool, true, false, ◌&&◌, not, List, eqb, leb, Option, Result, is_some, IfSome, IfOk, IfErr}
 use Rattle.octets.specs.Sentences.{every}
 use Rattle.descriptors.specs.declared.limits.Limits.{Limits}
 use Rattle.descriptors.specs.declared.limits.Speed.{Speed}
 use Rattle.descriptors.specs.declared.limits.Speed.TheVariants.{Full, High, Super}
 use Rattle.descriptors.specs.declared.survey.Asked.{Asked}
-use Rattle.descriptors.specs.Check.{verdict, configuration_refers}
+use Rattle.descriptors.specs.Check.{configuration_refers}
 use Rattle.descriptors.specs.Configuration.{configuration_of, good_configuration}
 use Rattle.descriptors.specs.Survey.{Surveys}
 use Rattle.single_walk.specs.declared.collect.Collected.{Collected}
 use Rattle.single_walk.specs.Course.{limits_at}
 use Rattle.sets.specs.declared.Entry.{Entry}
+use Rattle.sets.specs.declared.opening.Broken.{Broken}
+use Rattle.sets.specs.Broken.{number_of}
 use Rattle.sets.specs.Contents.{bodies}
 use Rattle.sets.specs.Pieces.{pieces_in}
 use Rattle.sets.specs.Opening.{good_configurations}
+use Rattle.steps.specs.declared.facts.Selected.{Selected}
 use Rattle.steps.specs.Selected.{Knows}
-use Rattle.single_walk.specs.declared.Opened.{Opened}
 use Rattle.single_walk.specs.declared.pass.Passed.{Passed}
 
 -- a configuration entry with index n and this value, beside its body
@@ -31,17 +33,25 @@ is_high Super = false
 abbrev pub AtSpeed : Limits → Type 0
 AtSpeed limits = (body : List ℕ) → good_configuration limits body ≡ good_configuration (limits_at (is_high limits.speed)) body
 
--- one walk through a body: the verdict of the check, and of a good body that is selected what is asked of it
-pub record Walks (selected : Bool) (limits : Limits) (names alternates : List ℕ) (asked : Asked) (body : List ℕ) (r : Collected) : Type 0 where
-  pub verdict : r.verdict ≡ verdict (good_configuration limits body) (configuration_refers names body)
-  pub surveyed : selected ≡ true → r.verdict.good ≡ true → Surveys (configuration_of body) alternates asked r.survey
+-- one walk through a body: whether it is good; of a good body its references, and if it is selected what is asked of it
+pub record WalksOf (selected : Bool) (names alternates : List ℕ) (asked : Asked) (body : List ℕ) (c : Collected) : Type 0 where
+  pub refers : c.refers ≡ configuration_refers names body
+  pub surveyed : selected ≡ true → Surveys (configuration_of body) alternates asked c.survey
 
--- the pass over the configurations: the verdict of the check, and if it is good what is known
-pub record Passes (limits : Limits) (set names : List ℕ) (value : ℕ) (alternates : List ℕ) (asked : Asked) (r : Passed) : Type 0 where
-  pub verdict : r.verdict ≡ verdict (good_configurations limits (pieces_in set)) (every (configuration_refers names) (bodies 2 set))
-  pub known : r.verdict.good ≡ true → Knows set value alternates asked r.known
+pub record Walks (selected : Bool) (limits : Limits) (names alternates : List ℕ) (asked : Asked) (body : List ℕ) (r : Option Collected) : Type 0 where
+  pub good : is_some r ≡ good_configuration limits body
+  pub on : IfSome r (WalksOf selected names alternates asked body)
 
--- opening: its number, and if that is 0 what is known of the set
-pub record Tells (gives : ℕ) (set : List ℕ) (value : ℕ) (alternates : List ℕ) (asked : Asked) (r : Opened) : Type 0 where
-  pub number : r.number ≡ gives
-  pub known : r.number ≡ 0 → Knows set value alternates asked r.known
+-- the pass over the configurations: whether they are good; of good ones the references, and what is known
+pub record PassesOf (set names : List ℕ) (value : ℕ) (alternates : List ℕ) (asked : Asked) (p : Passed) : Type 0 where
+  pub refers : p.refers ≡ every (configuration_refers names) (bodies 2 set)
+  pub known : Knows set value alternates asked p.known
+
+pub record Passes (limits : Limits) (set names : List ℕ) (value : ℕ) (alternates : List ℕ) (asked : Asked) (r : Option Passed) : Type 0 where
+  pub good : is_some r ≡ good_configurations limits (pieces_in set)
+  pub on : IfSome r (PassesOf set names value alternates asked)
+
+-- opening: what is known of a set that opens, or why it does not, by its number
+pub record Tells (gives : ℕ) (set : List ℕ) (value : ℕ) (alternates : List ℕ) (asked : Asked) (r : Result Selected Broken) : Type 0 where
+  pub opens : IfOk r (λ k. (gives ≡ 0) × Knows set value alternates asked k)
+  pub refuses : IfErr r (λ broken. number_of broken ≡ gives)

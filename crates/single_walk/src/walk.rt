@@ -1,18 +1,18 @@
 // One walk that checks a configuration body and collects what is asked of it. A descriptor's type is asked first, and that a descriptor which is only
-// stepped over ends inside the body only by where the walk ends. What the walk keeps are numbers of one width, so that a compiler keeps them in registers.
-ghost use Rattle.std.specs.Prelude.{◌≡◌, Bool, true, ◌&&◌, ◌%◌, ◌<◌, eqb};
-ghost use Rattle.octets.specs.Bit.{set_bit};
-ghost use Rattle.octets.specs.Sentences.{pick};
+// stepped over ends inside the body only by where the walk ends.
+ghost use Rattle.std.specs.Prelude.{◌≡◌, Bool, ◌&&◌, ◌%◌, ◌<◌};
 ghost use Rattle.octets.specs.Table.{has};
 ghost use Rattle.descriptors.specs.declared.survey.Asked.{Asked};
-ghost use Rattle.descriptors.specs.Sequence.{Low, next_of, good_kind, listable};
-ghost use Rattle.single_walk.specs.Course.{limits_at, wanted_of, role_of, with_setting, first_found, at_other, at_current, with_endpoint, setting_out, Starts, Lists, Turns, Ready, Rests};
+ghost use Rattle.descriptors.specs.Sequence.{good_kind, listable, Ready};
+ghost use Rattle.single_walk.specs.Course.{limits_at, wanted_of, role_of, with_setting, endpoint_of, first_found, at_other, at_current, with_endpoint, begin_current, begin_other, setting_out, Starts, Lists, Turns, Ends, Rests};
 
-use descriptors::limits::is_refused;
+use crate::course::{Course, Role};
+use crate::names::Names;
+use descriptors::limits::{Speed, is_refused};
 use descriptors::lookup::with_bit;
 use descriptors::sequence::Order;
 use descriptors::survey::Asked;
-use descriptors::{limits, sequence, types};
+use descriptors::{Endpoint, sequence, types};
 use octets::table::holds;
 
 // What is asked, as the walk compares it: whether at high speed, an address, an interface, and a setting by one number.
@@ -24,36 +24,27 @@ pub struct Wanted {
     pub setting: u32,
 }
 
-// What was found so far: a survey's words; the endpoint asked for, in one number, or 0; 1 if the setting asked for is there.
+// What was found so far: a survey's words, the endpoint asked for, and whether the setting asked for is there.
 #[derive(Clone, Copy)]
 pub struct Finds {
     pub current: u32,
     pub halting: u32,
     pub bits: u32,
-    pub endpoint: u32,
-    pub there: u32,
-}
-
-// How far the walk is; the role of this setting, and 1 if every string reference so far is in the table.
-#[derive(Clone, Copy)]
-struct Course {
-    order: Order,
-    finds: Finds,
-    role: u32,
-    refers: u32,
+    pub endpoint: Option<Endpoint>,
+    pub there: bool,
 }
 
 // One more descriptor: whether it may come, and how far the walk is then.
+// Kept: as an Option of the Course it becomes, an event takes 8 to 11 in a hundred instructions more (35,829 for 33,128 on 4,000 plain bytes).
 #[derive(Clone, Copy)]
 struct Turned {
     good: bool,
     course: Course,
 }
 
-// Whether the body is good; if so, whether the references are in the table, and what was found.
+// Of a good body: whether the references are among the names, and what was found.
 #[derive(Clone, Copy)]
 pub struct Walked {
-    pub good: bool,
     pub refers: bool,
     pub finds: Finds,
 }
@@ -79,11 +70,11 @@ fn set_out() -> Course
             current: 0,
             halting: 0,
             bits: 0,
-            endpoint: 0,
-            there: 0,
+            endpoint: None,
+            there: false,
         },
-        role: 0,
-        refers: 1,
+        role: Role::Other,
+        refers: true,
     }
 }
 
@@ -92,9 +83,9 @@ fn good_kind(high: bool, attributes: u8, size: u16, interval: u8) -> bool
     ensures { result ≡ good_kind (limits_at high) attributes size interval }
 {
     if high {
-        return sequence::good_kind_in(limits::high_ranges(), attributes, size, interval);
+        return sequence::good_kind_in(Speed::High.ranges(), attributes, size, interval);
     }
-    sequence::good_kind_in(limits::full_ranges(), attributes, size, interval)
+    sequence::good_kind_in(Speed::Full.ranges(), attributes, size, interval)
 }
 
 // An endpoint descriptor may come; every speed allows its type.
@@ -112,91 +103,106 @@ fn may_list(d: &[u8], order: Order, high: bool) -> bool
     false
 }
 
-// Whether every reference is in `names`, after one more: number 0 is, and is the most frequent.
-fn still_refers(refers: u32, k: u8, names: &[u32; 8]) -> u32
-    requires { has names.now 0 ≡ true }
-    ensures { result ≡ pick (has names.now k) refers 0 }
+// Whether every reference is among the names, after one more.
+fn still_refers(refers: bool, k: u8, names: Names) -> bool
+    ensures { result ≡ (refers && has names.entry.table.now k) }
 {
     if k == 0 {
         return refers;
     }
-    if holds(names, k) {
+    if holds(names.table, k) {
         return refers;
     }
-    0
-}
-
-fn wide(x: u8) -> u32
-    ensures { result ≡ x }
-{
-    x as u32
+    false
 }
 
 // The role of a setting, by its number.
-fn role_of(setting: u32, alternates: &[u8; 16], wanted: Wanted) -> u32
+fn role_of(setting: u32, alternates: &[u8; 16], wanted: Wanted) -> Role
     requires { setting % 256 < 16 }
     ensures { result ≡ role_of alternates.now wanted setting }
 {
     let number = setting % 256;
-    if setting / 256 == wide(alternates[number as usize]) {
+    let alternate = alternates[number as usize];
+    if setting / 256 == alternate as u32 {
         if number == wanted.interface {
-            return 3;
+            return Role::CurrentAskedFor;
         }
-        return 2;
+        return Role::Current;
     }
     if setting == wanted.setting {
-        return 1;
+        return Role::AskedFor;
     }
-    0
+    Role::Other
 }
 
-// The word, with an interface's bit if it is `wanted`.
-fn joined(word: u32, number: u32, wanted: bool) -> u32
-    requires { number < 16 }
-    ensures { result ≡ pick wanted (set_bit word number) word }
+// What is found once a current setting is begun.
+fn begin_current(finds: Finds, setting: u32, wanted: Wanted) -> Finds
+    requires { setting % 256 < 16 }
+    ensures { result ≡ begin_current finds setting wanted }
 {
-    if wanted {
-        return octets::set_bit(word, number);
+    let endpoint = finds.endpoint;
+    Finds {
+        current: octets::set_bit(finds.current, setting % 256),
+        halting: finds.halting,
+        bits: finds.bits,
+        endpoint,
+        there: finds.there | (setting == wanted.setting),
     }
-    word
 }
 
-// 1 if it is `so`, or else what it was.
-fn raised(flag: u32, so: bool) -> u32
-    ensures { result ≡ pick so 1 flag }
+// The same of the setting that is asked for, if it is not current.
+fn begin_other(finds: Finds) -> Finds
+    ensures { result ≡ begin_other finds }
 {
-    if so {
-        return 1;
+    let endpoint = finds.endpoint;
+    Finds {
+        current: finds.current,
+        halting: finds.halting,
+        bits: finds.bits,
+        endpoint,
+        there: true,
     }
-    flag
 }
 
-// What is found once a setting with this role is begun; most have none.
-fn with_setting(finds: Finds, setting: u32, role: u32, wanted: Wanted) -> Finds
+// The same of a setting with this role; most have none.
+fn with_setting(finds: Finds, setting: u32, role: Role, wanted: Wanted) -> Finds
     requires { setting % 256 < 16 }
     ensures { result ≡ with_setting finds setting role wanted }
 {
-    if role == 0 {
-        return finds;
+    match role {
+        Role::Other => finds,
+        Role::AskedFor => begin_other(finds),
+        Role::Current => begin_current(finds, setting, wanted),
+        Role::CurrentAskedFor => begin_current(finds, setting, wanted),
     }
-    Finds {
-        current: joined(finds.current, setting % 256, 2 <= role),
-        halting: finds.halting,
-        bits: finds.bits,
-        endpoint: finds.endpoint,
-        there: raised(finds.there, setting == wanted.setting),
+}
+
+// The endpoint that a descriptor lists, in a setting.
+fn endpoint_of(setting: u32, d: &[u8]) -> Endpoint
+    ensures { result ≡ endpoint_of setting d.now }
+{
+    Endpoint {
+        interface: (setting % 256) as u8,
+        alternate: (setting / 256 % 256) as u8,
+        address: octets::peek(d, 2),
+        attributes: octets::peek(d, 3),
     }
 }
 
 // The endpoint that was found before, or else the one that a descriptor lists, if its address is asked for.
-fn first_found(endpoint: u32, setting: u32, d: &[u8], wanted: Wanted) -> u32
-    requires { setting < 131072 }
+fn first_found(
+    endpoint: Option<Endpoint>,
+    setting: u32,
+    d: &[u8],
+    wanted: Wanted,
+) -> Option<Endpoint>
     ensures { result ≡ first_found endpoint setting d.now wanted }
 {
     if octets::peek(d, 2) as u32 == wanted.address {
-        if endpoint == 0 {
-            return setting + 256 + 65536 * octets::peek(d, 3) as u32;
-        }
+        return match endpoint {
+            Some(e) => Some(e),
+            None => Some(endpoint_of(setting, d)),
+        };
     }
     endpoint
 }
@@ -205,57 +211,56 @@ fn first_found(endpoint: u32, setting: u32, d: &[u8], wanted: Wanted) -> u32
 fn at_other(finds: Finds, d: &[u8]) -> Finds
     ensures { result ≡ at_other finds d.now }
 {
+    let endpoint = finds.endpoint;
     Finds {
         current: finds.current,
         halting: finds.halting,
         bits: with_bit(finds.bits, d, true),
-        endpoint: finds.endpoint,
+        endpoint,
         there: finds.there,
     }
 }
 
-// The same in a current setting.
-fn at_current(finds: Finds, d: &[u8], setting: u32, role: u32, wanted: Wanted) -> Finds
-    requires { setting < 131072 }
-    ensures { result ≡ at_current finds d.now setting role wanted }
+// The same in a current setting, of the interface asked for or not.
+fn at_current(finds: Finds, d: &[u8], setting: u32, asked_for: bool, wanted: Wanted) -> Finds
+    ensures { result ≡ at_current finds d.now setting asked_for wanted }
 {
+    let endpoint = finds.endpoint;
     Finds {
         current: finds.current,
         halting: with_bit(finds.halting, d, 2 <= octets::peek(d, 3) % 4),
-        bits: with_bit(finds.bits, d, role == 3),
-        endpoint: first_found(finds.endpoint, setting, d, wanted),
+        bits: with_bit(finds.bits, d, asked_for),
+        endpoint: first_found(endpoint, setting, d, wanted),
         there: finds.there,
     }
 }
 
 // The same in a setting with this role; most have none.
-fn with_endpoint(finds: Finds, d: &[u8], setting: u32, role: u32, wanted: Wanted) -> Finds
-    requires { setting < 131072 }
+fn with_endpoint(finds: Finds, d: &[u8], setting: u32, role: Role, wanted: Wanted) -> Finds
     ensures { result ≡ with_endpoint finds d.now setting role wanted }
 {
-    if role == 0 {
-        return finds;
+    match role {
+        Role::Other => finds,
+        Role::AskedFor => at_other(finds, d),
+        Role::Current => at_current(finds, d, setting, false, wanted),
+        Role::CurrentAskedFor => at_current(finds, d, setting, true, wanted),
     }
-    if role == 1 {
-        return at_other(finds, d);
-    }
-    at_current(finds, d, setting, role, wanted)
 }
 
 // An endpoint descriptor.
 fn list(d: &[u8], course: Course, wanted: Wanted) -> Turned
-    requires { Low course.order.last }
     ensures { Lists (limits_at wanted.high) wanted course d.now result }
 {
     let order = course.order;
     let finds = course.finds;
+    let role = course.role;
     if may_list(d, order, wanted.high) {
         return Turned {
             good: true,
             course: Course {
                 order: sequence::list(d, order),
-                finds: with_endpoint(finds, d, order.last, course.role, wanted),
-                role: course.role,
+                finds: with_endpoint(finds, d, order.last, role, wanted),
+                role,
                 refers: course.refers,
             },
         };
@@ -271,32 +276,29 @@ fn start(
     d: &[u8],
     setting: u32,
     course: Course,
-    names: &[u32; 8],
+    names: Names,
     alternates: &[u8; 16],
     wanted: Wanted,
 ) -> Turned
-    requires { Low course.order.last × (has names.now 0 ≡ true) }
-    ensures { Starts names.now alternates.now wanted course setting d.now result }
+    ensures { Starts names.entry.table.now alternates.now wanted course setting d.now result }
 {
     let order = course.order;
     let finds = course.finds;
-    let begun = sequence::begin(d, setting, order);
-    if begun.good {
-        let next = begun.order;
-        let role = role_of(setting, alternates, wanted);
+    let Some(next) = sequence::begin(d, setting, order) else {
         return Turned {
-            good: true,
-            course: Course {
-                order: next,
-                finds: with_setting(finds, setting, role, wanted),
-                role,
-                refers: still_refers(course.refers, octets::peek(d, 8), names),
-            },
+            good: false,
+            course,
         };
-    }
+    };
+    let role = role_of(setting, alternates, wanted);
     Turned {
-        good: false,
-        course,
+        good: true,
+        course: Course {
+            order: next,
+            finds: with_setting(finds, setting, role, wanted),
+            role,
+            refers: still_refers(course.refers, octets::peek(d, 8), names),
+        },
     }
 }
 
@@ -305,12 +307,11 @@ fn turn(
     d: &[u8],
     setting: u32,
     course: Course,
-    names: &[u32; 8],
+    names: Names,
     alternates: &[u8; 16],
     wanted: Wanted,
 ) -> Turned
-    requires { Low course.order.last × (has names.now 0 ≡ true) }
-    ensures { Turns (limits_at wanted.high) names.now alternates.now wanted course setting d.now result }
+    ensures { Turns (limits_at wanted.high) names.entry.table.now alternates.now wanted course setting d.now result }
 {
     let t = octets::peek(d, 1);
     if t == types::ENDPOINT {
@@ -326,16 +327,18 @@ fn turn(
 }
 
 // How the walk ends, for so many interfaces: `whole` is whether it came to the body's end.
-fn told(course: Course, whole: bool, interfaces: u8) -> Walked
-    ensures { (result.good ≡ (whole && eqb (next_of course.order.last) interfaces && eqb course.order.coming 0)) × (result.refers ≡ eqb course.refers 1) × (result.finds ≡ course.finds) }
+fn told(course: Course, whole: bool, interfaces: u8) -> Option<Walked>
+    ensures { Ends course whole interfaces result }
 {
     let order = course.order;
     let finds = course.finds;
-    Walked {
-        good: whole & (sequence::next_of(order.last) == interfaces as u32) & (order.coming == 0),
-        refers: course.refers == 1,
-        finds,
+    if whole & (sequence::next_of(order.last) == interfaces as u32) & (order.coming == 0) {
+        return Some(Walked {
+            refers: course.refers,
+            finds,
+        });
     }
+    None
 }
 
 // The descriptors from `from` on, for so many interfaces; no speed refuses a type from 8 on. A refusal is told by the place alone, which then is
@@ -344,13 +347,13 @@ pub fn rest(
     body: &[u8],
     from: usize,
     interfaces: u8,
-    names: &[u32; 8],
+    names: Names,
     alternates: &[u8; 16],
     wanted: Wanted,
-) -> Walked
-    requires { Ready names.now body.now interfaces from wanted }
+) -> Option<Walked>
+    requires { Ready body.now interfaces from }
     ensures { (high : Bool) (asked : Asked) → wanted ≡ wanted_of high asked
-        → Rests (limits_at high) names.now alternates.now asked body.now interfaces from result }
+        → Rests (limits_at high) names.entry.table.now alternates.now asked body.now interfaces from result }
 {
     let mut course = set_out();
     let mut at = from;
@@ -371,7 +374,8 @@ pub fn rest(
             at = last;
             break;
         }
-        let step = descriptors::walk::step_over(body, at, course.order.last);
+        let order = course.order;
+        let step = descriptors::walk::step_over(body, at, order.last);
         let next = step.end;
         let turned = turn(
             &body[at..next],

@@ -1,5 +1,6 @@
 -- The configurations of a set, from what is looked up in it; and what an accepted board tells of the selected one's body. No axiom.
-use Rattle.octets.proofs.Vocabulary.{◌≡◌, refl, sym, ◌∙◌, ℕ, ◌%◌, ◌<◌, List, [], List-as-Memᴰ, Bool, true, false, ◌&&◌, false≢true, Option, some, none, length, eqb, ltb, arith, eqb-true, ne_eqb, leb-true, ltb-true, ltb-false}
+use Rattle.std.specs.Prelude.{Option, Some, None}
+use Rattle.octets.proofs.Vocabulary.{◌≡◌, refl, sym, ◌∙◌, ℕ, ◌<◌, List, [], List-as-Memᴰ, Bool, true, false, ◌&&◌, false≢true, Option as Maybe, some, none, length, eqb, ltb, arith, eqb-true, ne_eqb, leb-true, ltb-true, ltb-false}
 use Rattle.octets.specs.Bit.{bit}
 use Rattle.octets.specs.Sentences.{pick, every, any, first}
 use Rattle.octets.proofs.Sentences.{both, every_map, every-member, any-map, any-member, none_any, first_some}
@@ -9,8 +10,6 @@ use Rattle.descriptors.specs.Interfaces.{grouped, endpoints_of}
 use Rattle.descriptors.specs.Configuration.{Configuration, bConfigurationValue, has_interface, good_descriptors, good_configuration, groups_of, configuration_of}
 use Rattle.descriptors.specs.Survey.{TellsInterfaces}
 use Rattle.sets.specs.declared.Entry.{Entry}
-use Rattle.sets.specs.declared.EntryFound.{EntryFound}
-use Rattle.sets.specs.declared.EntryFound.TheVariants.{At, Nothing}
 use Rattle.sets.specs.Contents.{body_of, bodies, entries_of}
 use Rattle.sets.specs.Opening.{Board, value_nonzero, opening}
 use Rattle.sets.specs.Found.{found, valued, configuration_found}
@@ -24,13 +23,9 @@ use Rattle.steps.specs.Gathering.{configurations_in, body_found, selected_body, 
 use Rattle.events.specs.Requests.{body_at}
 
 -- ---- an entry that was looked up
-pub located-found : (o : Option Entry) → located (found o) ≡ body_at o
-located-found none = refl
-located-found (some e) = refl
-
--- ---- a byte is its own remainder
-pub byte-mod : {n : ℕ} → n < 256 → n % 256 ≡ n
-byte-mod p = omega (arith, p)
+pub located_found : (o : Maybe Entry) → located (found o) ≡ body_at o
+located_found none = refl
+located_found (some e) = refl
 
 -- ---- an interface, by the survey's word
 pub among : {c : Configuration} {alternates : List ℕ} {existing current : ℕ} → ((j : ℕ) → has_interface c j ≡ true → j < 16)
@@ -43,10 +38,10 @@ among {c = c} {existing = existing} few tells n = go (ltb n 16) refl (has_interf
     go false p false q = sym q
 
 module _ (set : List ℕ) where
-  body-found : (f : EntryFound) → configuration_of (body_found set f) ≡ configuration_found set f
+  body-found : (f : Option Entry) → configuration_of (body_found set f) ≡ configuration_found set f
   unfolding configuration_of groups_of grouped cut_after descriptors_of endpoints_of
-  body-found Nothing = refl
-  body-found (At e) = refl
+  body-found None = refl
+  body-found (Some e) = refl
 
   pub selected-by-value : (value : ℕ) → configuration_of (selected_body set value) ≡ by_value (record { 0 = value }) (configurations_in set)
   selected-by-value value = body-found (found (first (valued set value) (entries_of 2 set))) ∙ sym (value_found set (record { 0 = value }))
@@ -89,9 +84,9 @@ module _ (limits : Limits) (b : Board) (h : Bytes b.set) (g : Groups limits b) (
   in-groups : Usable (selected_body b.set value)
   in-groups = go (found (first (valued b.set value) (entries_of 2 b.set))) refl
     where
-      go : (f : EntryFound) → found (first (valued b.set value) (entries_of 2 b.set)) ≡ f → Usable (body_found b.set f)
-      go Nothing q = none-usable
-      go (At e) q = entry-usable e (first_some (valued b.set value) (entries_of 2 b.set) (found_some (first (valued b.set value) (entries_of 2 b.set)) q)).0
+      go : (f : Option Entry) → found (first (valued b.set value) (entries_of 2 b.set)) ≡ f → Usable (body_found b.set f)
+      go None q = none-usable
+      go (Some e) q = entry-usable e (first_some (valued b.set value) (entries_of 2 b.set) (found_some (first (valued b.set value) (entries_of 2 b.set)) q)).0
 
 pub usable : (limits : Limits) (b : Board) → Bytes b.set → opening limits b ≡ 0 → (value : ℕ) → Usable (selected_body b.set value)
 usable limits b h p = in-groups limits b h (groups limits b p)

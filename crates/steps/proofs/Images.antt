@@ -12,15 +12,14 @@ use Rattle.records.specs.Device.{Sized}
 use Rattle.records.specs.Image.{device_of, image_of}
 use Rattle.records.specs.Fits.{fits}
 use Rattle.records.specs.Change.{with_setting, changed, settled_if, after, misfit, record_in, renewed}
-use Rattle.records.proofs.Image.{device-image}
+pub use Rattle.records.proofs.Image.{device-image as image_back}
 use Rattle.records.specs.contracts.Change as C
 use Rattle.records.proofs.Change.TheLaws as C'
 use Rattle.events.specs.declared.Event.{Event}
 use Rattle.events.specs.declared.reaction.Reaction.{Reaction}
+use Rattle.events.specs.Coded.{answer_in}
 use Rattle.events.specs.Facts.{outcome_of}
-use Rattle.events.specs.declared.Outcome.{Outcome}
-use Rattle.events.specs.declared.Answer.TheVariants.{Refused}
-use Rattle.events.specs.Answer.{gives, refused}
+use Rattle.events.specs.Answer.{Refused, Outcome, gives, refused}
 use Rattle.steps.specs.Gathering.{step_in, event_in}
 
 -- ---- a change of the types that the code has leaves a record of the size that the code has
@@ -56,33 +55,33 @@ pub after-sized : (settles : Bool) (c : Change) (vs : List Val) → Is C.the_row
 after-sized settles c vs is d z = changed-sized c vs is (settled_if settles d) (settled-sized settles d z)
 
 -- ---- the event, by the reaction at the record that is read, and the record of the renewed image
-pub replied : (n : ℕ) (v : View) (image : List ℕ) (e : Event) (r : Reaction) → length image ≡ 32 → Sized (after r.settles r.next (device_of image))
-    → outcome_of r (record_in image) ≡ step_in n v (record_in image) e → gives r.answer (device_of (renewed r.settles r.next image)) ≡ step_in n v (device_of image) e
+pub replied : (accepted : Bool) (v : View) (image : List ℕ) (e : Event) (r : Reaction) → length image ≡ 32 → Sized (after r.settles r.next (device_of image))
+    → outcome_of r (record_in image) ≡ step_in accepted v (record_in image) e → gives (answer_in r.answer) (device_of (renewed r.settles r.next image)) ≡ step_in accepted v (device_of image) e
 unfolding renewed
-replied n v image e r long z s = rw (eq-eqb (length image) 32 long, device-image (after r.settles r.next (device_of image)) z) (rw (eq-eqb (length image) 32 long) at s)
+replied accepted v image e r long z s = rw (eq-eqb (length image) 32 long, image_back (after r.settles r.next (device_of image)) z) (rw (eq-eqb (length image) 32 long) at s)
 
 -- a record that fits no set
 misfits : (v : View) → fits v misfit ≡ false
 unfolding fits
 misfits v = refl
 
--- an event on an image of any length, with what opening gives and the view of the set in use, by the reaction at the record that is read from it
-module _ (n : ℕ) (v : View) (image : List ℕ) (e : Event) (r : Reaction) (s : outcome_of r (record_in image) ≡ step_in n v (record_in image) e) where
-  pub answered : r.answer ≡ (event_in n v image e).answer
+-- an event on an image of any length, with whether what is lent opens and the view of the set in use, by the reaction at the record that is read from it
+module _ (accepted : Bool) (v : View) (image : List ℕ) (e : Event) (r : Reaction) (s : outcome_of r (record_in image) ≡ step_in accepted v (record_in image) e) where
+  pub answered : answer_in r.answer ≡ (event_in accepted v image e).answer
   answered = go (eqb (length image) 32) refl
     where
       refusals : (t : Bool) → (pick t (refused 8 misfit) (refused 7 misfit)).answer ≡ Refused (pick t 8 7)
       refusals true = refl
       refusals false = refl
 
-      go : (t : Bool) → eqb (length image) 32 ≡ t → r.answer ≡ (event_in n v image e).answer
+      go : (t : Bool) → eqb (length image) 32 ≡ t → answer_in r.answer ≡ (event_in accepted v image e).answer
       go true p = ap (λ (o : Outcome). o.answer) s ∙ rw p
-      go false p = ap (λ (o : Outcome). o.answer) s ∙ rw (p, misfits v) (refusals (eqb n 0))
+      go false p = ap (λ (o : Outcome). o.answer) s ∙ rw (p, misfits v) (refusals accepted)
 
-  pub left_behind : renewed r.settles r.next image ≡ (event_in n v image e).image
+  pub left_behind : renewed r.settles r.next image ≡ (event_in accepted v image e).image
   unfolding renewed
   left_behind = go (eqb (length image) 32) refl
     where
-      go : (t : Bool) → eqb (length image) 32 ≡ t → renewed r.settles r.next image ≡ (event_in n v image e).image
+      go : (t : Bool) → eqb (length image) 32 ≡ t → renewed r.settles r.next image ≡ (event_in accepted v image e).image
       go true p = rw p (ap (λ (o : Outcome). image_of o.device) (rw p at s))
       go false p = rw p

@@ -1,10 +1,10 @@
 -- The step by its order of refusals, and what it knows past them. No axiom.
-use Rattle.octets.proofs.Vocabulary.{◌≡◌, refl, ap, subst, ◌∙◌, ℕ, ◌<◌, List, [], ◌∷◌, true, false, eqb, leb, arith, eq-eqb, ne_eqb, leb-true}
+use Rattle.octets.proofs.Vocabulary.{◌≡◌, refl, ap, subst, ◌∙◌, ℕ, ◌<◌, List, [], ◌∷◌, Bool, true, false, eqb, leb, arith, leb-true}
 use Rattle.octets.specs.Sentences.{◌⇒◌, is_some}
 use Rattle.octets.proofs.Sentences.{conjunct}
 use Rattle.descriptors.specs.Configuration.{Configuration, configuration_of}
 use Rattle.sets.specs.Opening.{Board}
-use Rattle.sets.specs.View.{View, view_of, has_value, wakes, opening_of}
+use Rattle.sets.specs.View.{View, view_of, has_value, wakes, accepted}
 use Rattle.records.specs.declared.Device.{Device}
 use Rattle.records.specs.Device.{in_configured}
 use Rattle.records.specs.Change.{valued}
@@ -22,24 +22,20 @@ use Rattle.steps.specs.Gathering.{view_in, step_in, event_in, selected_body}
 use Rattle.steps.proofs.Configurations.{selected-by-value}
 
 -- the step is that of the set in use
-pub step_in_lem : (b : Board) (d : Device) (e : Event) → step b d e ≡ step_in (opening_of b) (view_in (is_some b.high) (set_for b d.speed) b.serial) d e
+pub step_in_lem : (b : Board) (d : Device) (e : Event) → step b d e ≡ step_in (accepted b) (view_in (is_some b.high) (set_for b d.speed) b.serial) d e
 unfolding step view_of
 step_in_lem b d e = refl
 
-pub event-in : (b : Board) (image : List ℕ) (e : Event) → event b image e ≡ event_in (opening_of b) (view_in (is_some b.high) (set_for b (device_of image).speed) b.serial) image e
+pub event-in : (b : Board) (image : List ℕ) (e : Event) → event b image e ≡ event_in (accepted b) (view_in (is_some b.high) (set_for b (device_of image).speed) b.serial) image e
 unfolding event step view_of
 event-in b image e = refl
 
-module _ (opening : ℕ) (v : View) (d : Device) (e : Event) where
-  pub set-refused : (opening ≡ 0 → ⊥) → step_in opening v d e ≡ refused 7 d
-  set-refused p = rw (ne_eqb opening 0 p)
+module _ (accepted : Bool) (v : View) (d : Device) (e : Event) (p : accepted ≡ true) where
+  pub record-refused : fits v d ≡ false → step_in accepted v d e ≡ refused 8 d
+  record-refused q = rw (p, q)
 
-  module _ (p : opening ≡ 0) where
-    pub record-refused : fits v d ≡ false → step_in opening v d e ≡ refused 8 d
-    record-refused q = rw (eq-eqb opening 0 p, q)
-
-    pub responds : fits v d ≡ true → step_in opening v d e ≡ respond v d e
-    responds q = rw (eq-eqb opening 0 p, q)
+  pub responds : fits v d ≡ true → step_in accepted v d e ≡ respond v d e
+  responds q = rw (p, q)
 
 -- the body that was looked up is, in Configured, the selected configuration's
 pub is-selected : (b : Board) (d : Device) {body : List ℕ} → eqb d.state in_configured ≡ true → body ≡ selected_body b.set d.configuration → configuration_of body ≡ selected (view_of b) d

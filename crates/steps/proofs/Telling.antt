@@ -40,9 +40,9 @@ told_in paired set serial d e bytes o k s =
     }
 
 -- the serial block of a set that opens is short
-pub serial-short : (set serial : List ℕ) → Openable set serial → length serial < 65536
+pub serial_short : (set serial : List ℕ) → Openable set serial → length serial < 65536
 unfolding good_block
-serial-short set serial o = go (eqb (iSerialNumber (device_body_of (pieces_in set))) 0) (groups o.0 (lent set serial) o.1).serial
+serial_short set serial o = go (eqb (iSerialNumber (device_body_of (pieces_in set))) 0) (groups o.0 (lent set serial) o.1).serial
   where
     go : (t : Bool) → pick t (block_empty serial) (at_least4 serial && up_to254 serial && even_length serial && says_its_length serial && typed_string serial) ≡ true → length serial < 65536
     go true p = omega (arith, eqb-true (length serial) 0 p)

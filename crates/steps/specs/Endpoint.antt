@@ -15,8 +15,7 @@ use Rattle.records.specs.Device.{in_configured}
 use Rattle.records.specs.Image.{device_of}
 use Rattle.records.specs.Current.{set_at}
 use Rattle.records.specs.Fits.{fits_on}
-use Rattle.events.specs.declared.Answer.{Answer}
-use Rattle.events.specs.declared.Answer.TheVariants.{SetPart, Refused}
+use Rattle.events.specs.Answer.{Answer, SetPart, Refused}
 
 -- the selected configuration's entry
 abbrev pub selected_entry : List ℕ → Device → Option Entry

@@ -1,14 +1,12 @@
 -- Working definitions for the contracts that gather facts from a set; no promise cites them.
-use Rattle.std.specs.Prelude.{ℕ, ◌+◌, ◌<◌, ◌≡◌, Bool, true, List, [], map, length, eqb}
+use Rattle.std.specs.Prelude.{ℕ, ◌+◌, ◌<◌, ◌≡◌, Bool, true, List, [], map, length, eqb, Option, Some, None}
 use Rattle.std.proofs.Math.ListN.{get_elem?}
 use Rattle.octets.specs.Sentences.{pick, first}
 use Rattle.descriptors.specs.declared.limits.Limits.{Limits}
 use Rattle.descriptors.specs.Cut.{cut, well_cut}
 use Rattle.descriptors.specs.Configuration.{Configuration, configuration_of, has_interface, has_setting}
-use Rattle.descriptors.specs.declared.endpoints.DescriptorFound.{DescriptorFound}
-use Rattle.descriptors.specs.declared.endpoints.DescriptorFound.TheVariants.{At as Standing, Nothing as Missing}
-use Rattle.sets.specs.declared.EntryFound.{EntryFound}
-use Rattle.sets.specs.declared.EntryFound.TheVariants.{At, Nothing}
+use Rattle.descriptors.specs.declared.endpoints.DescriptorPlace.{DescriptorPlace}
+use Rattle.sets.specs.declared.Entry.{Entry}
 use Rattle.sets.specs.Contents.{body_of, bodies, entries, entries_of}
 use Rattle.sets.specs.Device.{device_body, iSerialNumber}
 use Rattle.sets.specs.Strings.{languages}
@@ -18,11 +16,8 @@ use Rattle.sets.specs.View.{View}
 use Rattle.records.specs.declared.Device.{Device}
 use Rattle.records.specs.Image.{device_of}
 use Rattle.records.specs.Fits.{fits}
-use Rattle.events.specs.declared.Answer.{Answer}
-use Rattle.events.specs.declared.Answer.TheVariants.{SetPart, Refused}
 use Rattle.events.specs.declared.Event.{Event}
-use Rattle.events.specs.declared.Outcome.{Outcome}
-use Rattle.events.specs.Answer.{refused}
+use Rattle.events.specs.Answer.{Answer, SetPart, Refused, Outcome, refused}
 use Rattle.events.specs.Step.{respond, Reply, reply_of}
 use Rattle.events.specs.declared.facts.Located.{Located}
 use Rattle.events.specs.declared.facts.Located.TheVariants.{Body, Nowhere}
@@ -48,31 +43,31 @@ view_in paired set serial = record {
   paired = paired;
 }
 
--- the step, from the number that opening gives and the view of the set in use
-abbrev pub step_in : ℕ → View → Device → Event → Outcome
-step_in opening v d e = pick (eqb opening 0) (pick (fits v d) (respond v d e) (refused 8 d)) (refused 7 d)
+-- the step, from whether what is lent opens and the view of the set in use
+abbrev pub step_in : Bool → View → Device → Event → Outcome
+step_in accepted v d e = pick accepted (pick (fits v d) (respond v d e) (refused 8 d)) (refused 7 d)
 
 -- on images of any length
-abbrev pub event_in : ℕ → View → List ℕ → Event → Reply
-event_in opening v image e =
-    pick (eqb (length image) 32) (reply_of (step_in opening v (device_of image) e)) (record { answer = Refused (pick (eqb opening 0) 8 7); image = image })
+abbrev pub event_in : Bool → View → List ℕ → Event → Reply
+event_in accepted v image e =
+    pick (eqb (length image) 32) (reply_of (step_in accepted v (device_of image) e)) (record { answer = Refused (pick accepted 8 7); image = image })
 
 -- the endpoint descriptor with a number
-abbrev pub endpoint_in : ℕ → View → List ℕ → Device → ℕ → Answer
-endpoint_in opening v set d k = pick (eqb opening 0) (pick (fits v d) (endpoint_part (get_elem? (endpoint_descriptors set d) k)) (Refused 8)) (Refused 7)
+abbrev pub endpoint_in : Bool → View → List ℕ → Device → ℕ → Answer
+endpoint_in accepted v set d k = pick accepted (pick (fits v d) (endpoint_part (get_elem? (endpoint_descriptors set d) k)) (Refused 8)) (Refused 7)
 
-abbrev pub endpoint_on_in : ℕ → View → List ℕ → List ℕ → ℕ → Answer
-endpoint_on_in opening v set image k = pick (eqb (length image) 32) (endpoint_in opening v set (device_of image) k) (Refused (pick (eqb opening 0) 8 7))
+abbrev pub endpoint_on_in : Bool → View → List ℕ → List ℕ → ℕ → Answer
+endpoint_on_in accepted v set image k = pick (eqb (length image) 32) (endpoint_in accepted v set (device_of image) k) (Refused (pick accepted 8 7))
 
 -- ---- lookups
 -- an entry that was looked up: its body, empty where there is none; and where that lies
-abbrev pub body_found : List ℕ → EntryFound → List ℕ
-body_found set Nothing = []
-body_found set (At e) = body_of set e
+abbrev pub body_found : List ℕ → Option Entry → List ℕ
+body_found set None = []
+body_found set (Some e) = body_of set e
 
-abbrev pub located : EntryFound → Located
-located Nothing = Nowhere
-located (At e) = Body e.offset e.length
+abbrev pub located : Option Entry → Located
+located None = Nowhere
+located (Some e) = Body e.offset e.length
 
 -- the body of the configuration with a value
 abbrev pub selected_body : List ℕ → ℕ → List ℕ
@@ -85,12 +80,12 @@ pub record Usable (body : List ℕ) : Type 0 where
   pub small : (j a : ℕ) → has_setting (configuration_of body) j a ≡ true → (j < 16) × (a < 16)
 
 -- a descriptor that was found in the body of an entry, as a part of the set; and where that ends
-abbrev pub standing : EntryFound → DescriptorFound → Answer
-standing entry Missing = Refused 16
-standing Nothing (Standing offset size) = Refused 16
-standing (At e) (Standing offset size) = SetPart (e.offset + offset) size
+abbrev pub standing : Option Entry → Option DescriptorPlace → Answer
+standing None found = Refused 16
+standing (Some e) None = Refused 16
+standing (Some e) (Some p) = SetPart (e.offset + p.offset) p.length
 
-abbrev pub ending : EntryFound → DescriptorFound → ℕ
-ending entry Missing = 0
-ending Nothing (Standing offset size) = 0
-ending (At e) (Standing offset size) = e.offset + offset + size
+abbrev pub ending : Option Entry → Option DescriptorPlace → ℕ
+ending None found = 0
+ending (Some e) None = 0
+ending (Some e) (Some p) = e.offset + p.offset + p.length

@@ -1,46 +1,45 @@
 // The endpoint descriptors of the current settings, counted from 0: for a board that opens its endpoints.
-ghost use Rattle.std.specs.Prelude.{◌≡◌, ◌≤◌};
+ghost use Rattle.std.specs.Prelude.{◌≡◌, ◌≤◌, true};
+ghost use Rattle.events.specs.Coded.{answer_in};
 ghost use Rattle.steps.specs.Gathering.{Openable, view_in, endpoint_in, ending, standing};
 
 use crate::facts;
-use descriptors::endpoints::DescriptorFound;
+use descriptors::endpoints::DescriptorPlace;
 use descriptors::{ConfigurationValue, endpoints, survey};
-use events::{Answer, refusals};
+use events::{Answer, Refusal};
 use records::Device;
-use sets::{EntryFound, configuration};
+use sets::{Entry, configuration};
 
 // A descriptor that was found in an entry's body, as a part of the set.
-fn part_of(entry: EntryFound, found: DescriptorFound) -> Answer
+fn part_of(entry: Option<Entry>, found: Option<DescriptorPlace>) -> Answer
     requires { ending entry found ≤ 65535 }
-    ensures { result ≡ standing entry found }
+    ensures { answer_in result ≡ standing entry found }
 {
-    match found {
-        DescriptorFound::At { offset, length } => match entry {
-            EntryFound::At(e) => Answer::SetPart {
-                offset: e.offset + offset as u16,
-                length: length as u16,
-            },
-            EntryFound::Nothing => Answer::Refused(refusals::ENDPOINT_UNFIT),
+    match (entry, found) {
+        (Some(e), Some(place)) => Answer::SetPart {
+            offset: e.offset + place.offset as u16,
+            length: place.length as u16,
         },
-        DescriptorFound::Nothing => Answer::Refused(refusals::ENDPOINT_UNFIT),
+        _ => Answer::Refused(Refusal::EndpointUnfit),
     }
 }
 
-// The nth from 0 on, on a board that was checked: `opening` is what opening gives, `set` is the set in use, one of two if `paired`. Opening
+// The nth from 0 on, on a board that was checked: `accepted`: what is lent opens; `set` is the set in use, one of two if `paired`. Opening
 // is asked before this frame stands, to spare the stack.
+// Kept: set, serial block and whether they open go side by side: a struct lends slices by address, 16 bytes of stack at each level.
 pub fn endpoint(
-    opening: u8,
+    accepted: bool,
     paired: bool,
     set: &[u8],
     serial: &[u8],
     device: Device,
     nth: u8,
 ) -> Answer
-    requires { opening ≡ 0 → Openable set.now serial.now }
-    ensures { result ≡ endpoint_in opening (view_in paired set.now serial.now) set.now device nth }
+    requires { accepted ≡ true → Openable set.now serial.now }
+    ensures { answer_in result ≡ endpoint_in accepted (view_in paired set.now serial.now) set.now device nth }
 {
-    if opening != 0 {
-        return Answer::Refused(refusals::SET_NOT_ACCEPTABLE);
+    if !accepted {
+        return Answer::Refused(Refusal::SetNotAcceptable);
     }
     let selected = configuration::by_value(set, ConfigurationValue(device.configuration));
     let body = facts::body_found(set, selected);
@@ -53,15 +52,15 @@ pub fn endpoint(
     let survey = survey::walk(body, alternates, nothing);
     if !records::fits(
         survey,
-        facts::is_found(selected),
+        selected.is_some(),
         configuration::wakes(set),
         paired,
         device,
     ) {
-        return Answer::Refused(refusals::RECORD_DOES_NOT_FIT);
+        return Answer::Refused(Refusal::RecordDoesNotFit);
     }
     if device.state != records::CONFIGURED {
-        return Answer::Refused(refusals::ENDPOINT_UNFIT);
+        return Answer::Refused(Refusal::EndpointUnfit);
     }
     part_of(selected, endpoints::find(body, alternates, nth))
 }

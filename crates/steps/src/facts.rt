@@ -1,8 +1,7 @@
 // What an event has to know of a board, gathered from its set and its serial block.
-ghost use Rattle.std.specs.Prelude.{◌≡◌, Bool, false, List, ℕ, ◌<◌, ltb, length};
+ghost use Rattle.std.specs.Prelude.{◌≡◌, Bool, true, false, List, ℕ, ◌<◌, ltb, length};
 ghost use Rattle.octets.specs.Bit.{bit};
 ghost use Rattle.octets.specs.Sentences.{pick};
-ghost use Rattle.sets.specs.Found.{is_found};
 ghost use Rattle.sets.specs.View.{has_value};
 ghost use Rattle.events.specs.Requests.{language_for, locate_string, locate};
 ghost use Rattle.records.specs.Change.{record_in};
@@ -10,14 +9,13 @@ ghost use Rattle.events.specs.Facts.{naming, question_of, asked_by};
 ghost use Rattle.steps.specs.Gathering.{configurations_in, Openable, view_in, body_found, located};
 ghost use Rattle.steps.specs.Selected.{nothing_known, Knows, Seeks, facts_of};
 
-use descriptors::lookup::EndpointFound;
 use descriptors::survey::{Asked, Survey};
 use descriptors::{ConfigurationIndex, ConfigurationValue, survey, types};
 use events::Event;
 use events::facts::{Facts, Located};
 use records::Device;
 use requests::Setup;
-use sets::{EntryFound, configuration, contents};
+use sets::{Entry, configuration, contents};
 
 // The question of a function event, or of one that asks nothing.
 fn naming(address: u8) -> Setup
@@ -38,46 +36,30 @@ fn question_of(event: Event) -> Setup
 {
     match event {
         Event::Request(setup) => setup,
-        Event::Malformed => naming(0),
-        Event::StatusEnd => naming(0),
-        Event::BusReset(_) => naming(0),
-        Event::Halt(address) => naming(address),
-        Event::PacketPassed(address) => naming(address),
-        Event::Power(_) => naming(0),
-        Event::Suspend => naming(0),
-        Event::Resume => naming(0),
-        Event::Wake => naming(0),
+        Event::Halt(address) | Event::PacketPassed(address) => naming(address),
+        _ => naming(0),
     }
 }
 
-// An entry that was looked up: whether it is there, its body, and where that lies.
-pub fn is_found(entry: EntryFound) -> bool
-    ensures { result ≡ is_found entry }
-{
-    match entry {
-        EntryFound::At(_) => true,
-        EntryFound::Nothing => false,
-    }
-}
-
-pub fn body_found(set: &[u8], entry: EntryFound) -> &[u8]
+// An entry that was looked up: its body, and where that lies.
+pub fn body_found(set: &[u8], entry: Option<Entry>) -> &[u8]
     ensures { result.now ≡ body_found set.now entry }
 {
     match entry {
-        EntryFound::At(e) => contents::body_of(set, e),
-        EntryFound::Nothing => &set[0..0],
+        Some(e) => contents::body_of(set, e),
+        None => &set[0..0],
     }
 }
 
-fn place(entry: EntryFound) -> Located
+fn place(entry: Option<Entry>) -> Located
     ensures { result ≡ located entry }
 {
     match entry {
-        EntryFound::At(e) => Located::Body {
+        Some(e) => Located::Body {
             offset: e.offset,
             length: e.length,
         },
-        EntryFound::Nothing => Located::Nowhere,
+        None => Located::Nowhere,
     }
 }
 
@@ -85,19 +67,17 @@ fn place(entry: EntryFound) -> Located
 fn is_among(existing: u32, interface: u16) -> bool
     ensures { result ≡ pick (ltb interface 16) (bit existing interface) false }
 {
-    if interface < 16 {
-        return octets::test_bit(existing, interface as u32);
-    }
-    false
+    interface < 16 && octets::test_bit(existing, interface as u32)
 }
 
 // Whether the set has the configuration that SET_CONFIGURATION asks for, by its value.
+#[tactic(auto, using(sets::proofs::Lookups::value_there))]
 fn has_asked(set: &[u8], setup: Setup) -> bool
     ensures { setup.bRequest ≡ 0x09 → setup.wValue < 256 → result ≡ has_value (record { 0 = setup.wValue }) (configurations_in set.now) }
 {
     if setup.bRequest == requests::SET_CONFIGURATION {
-        let value = ConfigurationValue((setup.wValue % 256) as u8);
-        return is_found(configuration::by_value(set, value));
+        let [value, _] = setup.wValue.to_le_bytes();
+        return configuration::by_value(set, ConfigurationValue(value)).is_some();
     }
     false
 }
@@ -133,28 +113,25 @@ fn locate_string(set: &[u8], serial: &[u8], index: u8, language: u16) -> Located
 
 // Where the descriptor lies that GET_DESCRIPTOR asks for: a configuration by its index, another type by its entry. In a set that is lent alone there
 // is no entry of type 6 or 7.
+#[tactic(auto, using(crate::proofs::Configurations::located_found), unfolding(events::specs::Requests::locate))]
 fn locate(set: &[u8], serial: &[u8], setup: Setup) -> Located
     requires { length serial.now < 65536 }
     ensures { (paired : Bool) → setup.bRequest ≡ 0x06 → result ≡ locate (view_in paired set.now serial.now) setup }
 {
-    let kind = (setup.wValue / 256) as u8;
-    let index = (setup.wValue % 256) as u8;
+    let [index, kind] = setup.wValue.to_le_bytes();
     if setup.bRequest != requests::GET_DESCRIPTOR {
         return Located::Nowhere;
     }
-    if kind == types::STRING {
-        return locate_string(set, serial, index, language_for(set, index, setup.wIndex));
+    match kind {
+        types::STRING => {
+            locate_string(set, serial, index, language_for(set, index, setup.wIndex))
+        }
+        types::CONFIGURATION => place(configuration::by_index(set, ConfigurationIndex(index))),
+        types::DEVICE | types::DEVICE_QUALIFIER | types::OTHER_SPEED_CONFIGURATION => {
+            place(contents::find_entry(set, kind, index, 0))
+        }
+        _ => Located::Nowhere,
     }
-    if kind == types::CONFIGURATION {
-        return place(configuration::by_index(set, ConfigurationIndex(index)));
-    }
-    if (kind == types::DEVICE)
-        | (kind == types::DEVICE_QUALIFIER)
-        | (kind == types::OTHER_SPEED_CONFIGURATION)
-    {
-        return place(contents::find_entry(set, kind, index, 0));
-    }
-    Located::Nowhere
 }
 
 // What an event asks of the selected configuration.
@@ -169,6 +146,7 @@ pub fn asked_of(event: Event) -> Asked
     }
 }
 
+// Kept: `configured` beside the survey, since a record whose value no configuration has is judged by the empty survey (records::fits).
 // What an event knows of the configurations: whether the selected one is there, whether some one supports remote wakeup, and the selected one's survey.
 #[derive(Clone, Copy)]
 pub struct Selected {
@@ -188,13 +166,14 @@ pub fn nothing_known() -> Selected
             existing: 0,
             current: 0,
             halting: 0,
-            endpoint: EndpointFound::Nothing,
+            endpoint: None,
             there: false,
             bits: 0,
         },
     }
 }
 
+// Kept: the set, the serial block and that they open are handed on side by side: as one struct the slices are lent by address, 16 bytes of stack at each level.
 // What is known of the configuration that the record selects, looked up: one lookup and one walk through it.
 fn look_up(set: &[u8], serial: &[u8], device: Device, event: Event) -> Selected
     requires { Openable set.now serial.now }
@@ -205,7 +184,7 @@ fn look_up(set: &[u8], serial: &[u8], device: Device, event: Event) -> Selected
     let alternates = device.alternates;
     let survey = survey::walk(body, alternates, asked_of(event));
     Selected {
-        configured: is_found(selected),
+        configured: selected.is_some(),
         waking: configuration::wakes(set),
         survey,
     }
@@ -213,11 +192,11 @@ fn look_up(set: &[u8], serial: &[u8], device: Device, event: Event) -> Selected
 
 // What an event has to know of the configuration that the record selects; nothing where the set does not open. It is asked beside the reaction, to spare the stack. A slice that is
 // named whole before it is handed on is lent in registers.
-pub fn learn(opening: u8, set: &[u8], serial: &[u8], image: &[u8], event: Event) -> Selected
-    requires { opening ≡ 0 → Openable set.now serial.now }
-    ensures { opening ≡ 0 → Knows set.now (record_in image.now).configuration (record_in image.now).alternates (asked_by (question_of event)) result }
+pub fn learn(accepted: bool, set: &[u8], serial: &[u8], image: &[u8], event: Event) -> Selected
+    requires { accepted ≡ true → Openable set.now serial.now }
+    ensures { accepted ≡ true → Knows set.now (record_in image.now).configuration (record_in image.now).alternates (asked_by (question_of event)) result }
 {
-    if opening != 0 {
+    if !accepted {
         return nothing_known();
     }
     let all = &set[..];
@@ -233,11 +212,11 @@ pub struct Sought {
 }
 
 // It is looked up for that request alone; nothing is sought where the set does not open.
-pub fn seek(opening: u8, set: &[u8], serial: &[u8], event: Event) -> Sought
-    requires { opening ≡ 0 → Openable set.now serial.now }
-    ensures { opening ≡ 0 → (paired : Bool) → Seeks (view_in paired set.now serial.now) (question_of event) result }
+pub fn seek(accepted: bool, set: &[u8], serial: &[u8], event: Event) -> Sought
+    requires { accepted ≡ true → Openable set.now serial.now }
+    ensures { accepted ≡ true → (paired : Bool) → Seeks (view_in paired set.now serial.now) (question_of event) result }
 {
-    if opening != 0 {
+    if !accepted {
         return Sought {
             configuration: false,
             located: Located::Nowhere,
@@ -257,15 +236,13 @@ pub fn gather(paired: bool, event: Event, known: Selected, sought: Sought) -> Fa
     ensures { result ≡ facts_of paired (question_of event) known sought }
 {
     let question = question_of(event);
-    let survey = known.survey;
-    let located = sought.located;
     Facts {
         paired,
         configured: known.configured,
         waking: known.waking,
-        interface: is_among(survey.existing, question.wIndex),
-        survey,
+        interface: is_among(known.survey.existing, question.wIndex),
+        survey: known.survey,
         configuration: sought.configuration,
-        located,
+        located: sought.located,
     }
 }

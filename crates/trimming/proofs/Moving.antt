@@ -7,6 +7,7 @@ use Rattle.sets.specs.declared.Entry.{Entry}
 use Rattle.sets.specs.Contents.{body_of, end_to_end}
 use Rattle.sets.proofs.Entries.{only_here, only-later, only-empty}
 use Rattle.set_writer.proofs.Laid.{bodies-none, bodies-more}
+use Rattle.buffers.specs.declared.Writer.{Writer}
 use Rattle.buffers.specs.Written.{Wrote}
 use Rattle.sets.specs.Pieces.{piece_for}
 use Rattle.trimming.specs.Entries.{entry_with, contents_with, lengths, bodies_with}
@@ -79,28 +80,29 @@ pub room-bodies : (set : List ℕ) (f : Entry → Bool) (es : List Entry) {at st
 room-bodies set f es {at} {start} h p = omega (arith, bodies-fit set f es start (length set) p)
 
 -- ---- a body moves down over what is read already
-module _ (start out : List ℕ) (to from size : ℕ) (same : drop from out ≡ drop from start) where
-  pub still : drop (from + size) out ≡ drop (from + size) start
-  still = sym (drop-drop size from out) ∙ ap (drop size) same ∙ drop-drop size from start
+pub still : (start out : List ℕ) (from size : ℕ) → drop from out ≡ drop from start → drop (from + size) out ≡ drop (from + size) start
+still start out from size same = sym (drop-drop size from out) ∙ ap (drop size) same ∙ drop-drop size from start
 
-  module _ (l : to ≤ from) (h : from + size ≤ length out) {after : List ℕ} (e : after ≡ paste out to (drop from out) size) where
-    long : size ≤ length (drop from out)
-    long = rw length-drop (omega arith)
+module _ (start : List ℕ) (w : Writer) (from size : ℕ) (same : drop from w.out.now ≡ drop from start) (l : w.at ≤ from) (h : from + size ≤ length w.out.now) where
+  long : size ≤ length (drop from w.out.now)
+  long = rw length-drop (omega arith)
 
-    part-long : length (part out from size) ≡ size
-    part-long = length-take-le size (drop from out) long
+  part-long : length (part w.out.now from size) ≡ size
+  part-long = length-take-le size (drop from w.out.now) long
 
-    pub moved-text : Wrote out to (part start from size) after (to + size)
-    moved-text =
-        let w : Wrote out to (part out from size) after (to + size) = record {
-          bytes = e ∙ ap (λ (n : ℕ). take to out ++ part out from size ++ drop (to + n) out) (sym part-long) ∙ sym (sets-eq (part out from size) out to (omega (arith, part-long)));
-          place = rw part-long;
-        } in
-        rw (ap (take size) same) at w
+  pub moved-text : {is : Writer} → is.out.now ≡ paste w.out.now w.at (drop from w.out.now) size → is.at ≡ w.at + size → is.out.ghost_name ≡ w.out.ghost_name → Wrote w (part start from size) is
+  moved-text {is} e p n =
+      let out = w.out.now in
+      let r : Wrote w (part out from size) is = record {
+        bytes = e ∙ ap (λ (n : ℕ). take w.at out ++ part out from size ++ drop (w.at + n) out) (sym part-long) ∙ sym (sets-eq (part out from size) out w.at (omega (arith, part-long)));
+        place = p ∙ ap (λ (n : ℕ). w.at + n) (sym part-long);
+        same = n;
+      } in
+      rw (ap (take size) same) at r
 
-    pub moved-behind : drop (from + size) after ≡ drop (from + size) start
-    moved-behind =
-        let k : to + size + (from - to) ≡ from + size = omega arith in
-        ap (λ (n : ℕ). drop n after) (sym k) ∙ sym (drop-drop (from - to) (to + size) after)
-        ∙ ap (drop (from - to)) (ap (drop (to + size)) e ∙ drop-paste out to (drop from out) size (omega arith) long)
-        ∙ drop-drop (from - to) (to + size) out ∙ ap (λ (n : ℕ). drop n out) k ∙ still
+  pub moved-behind : {after : List ℕ} → after ≡ paste w.out.now w.at (drop from w.out.now) size → drop (from + size) after ≡ drop (from + size) start
+  moved-behind {after} e =
+      let k : w.at + size + (from - w.at) ≡ from + size = omega arith in
+      ap (λ (n : ℕ). drop n after) (sym k) ∙ sym (drop-drop (from - w.at) (w.at + size) after)
+      ∙ ap (drop (from - w.at)) (ap (drop (w.at + size)) e ∙ drop-paste w.out.now w.at (drop from w.out.now) size (omega arith) long)
+      ∙ drop-drop (from - w.at) (w.at + size) w.out.now ∙ ap (λ (n : ℕ). drop n w.out.now) k ∙ still start w.out.now from size same

@@ -1,5 +1,5 @@
 -- The set anew: contents, bodies, zeros and header, one after another, are the set of the pieces that stay. No axiom.
-use Rattle.octets.proofs.Vocabulary.{◌≡◌, refl, sym, ap, ◌∙◌, ℕ, zero, suc, ◌+◌, ◌-◌, ◌*◌, ◌/◌, ◌%◌, ◌≤◌, ◌<◌, List, [], ◌∷◌, ◌++◌, map, append_assoc, append-nil, Bool, true, false, length, take, drop, set, replicate, length-append, length-drop, length-map, length-replicate, drop_of_length-le, take-append-drop, eqb, leb, sets, sets-eq, length-sets, drop-set-lt, drop_at, length-take-le, drop-append-le, arith, sub-zero, eqb-true, leb-true}
+use Rattle.octets.proofs.Vocabulary.{◌≡◌, refl, sym, ap, ◌∙◌, ℕ, zero, suc, ◌+◌, ◌-◌, ◌*◌, ◌/◌, ◌%◌, ◌≤◌, ◌<◌, List, [], ◌∷◌, ◌++◌, map, append_assoc, append-nil, Bool, true, false, length, take, drop, set, replicate, length-append, length-drop, length-map, length-replicate, drop_of_length-le, take-append-drop, eqb, leb, sets, sets-eq, length-sets, drop-set-lt, drop_at, length-take-le, drop-append-le, arith, eqb-true, leb-true}
 use Rattle.octets.specs.Octets.{byte, part}
 use Rattle.octets.specs.Sentences.{pick, only}
 use Rattle.octets.proofs.Sentences.{cases, conjunct}
@@ -10,7 +10,8 @@ use Rattle.sets.specs.Pieces.{Piece, piece_for}
 use Rattle.set_writer.specs.Writer as pieces
 use Rattle.set_writer.specs.Writer.{contents, body_bytes, front, header, laid}
 use Rattle.set_writer.proofs.Laid.{laid-parts, laid-length}
-use Rattle.buffers.specs.Written.{Room, Wrote}
+use Rattle.buffers.specs.declared.Writer.{Writer}
+use Rattle.buffers.specs.Written.{Wrote}
 use Rattle.buffers.proofs.Written.{wrote-both}
 use Rattle.trimming.specs.Entries.{contents_with, lengths, bodies_with}
 use Rattle.trimming.specs.Trim.{zero_filled}
@@ -41,7 +42,7 @@ module _ (f : Entry → Bool) where
   same-bodies a b [] start end p e = ap (bodies_with a) (only-empty f) ∙ sym (ap (bodies_with b) (only-empty f))
   same-bodies a b (x ∷ es) start end p e =
       let n : Next start end x es = next-body refl p in
-      let ih = same-bodies a b es (start + x.length) end n.later (still b a 0 start x.length e) in
+      let ih = same-bodies a b es (start + x.length) end n.later (still b a start x.length e) in
       cases (f x)
       (λ q. bodies-here a f refl q n ∙ ap (λ (l : List ℕ). take x.length l ++ bodies_with a (only f es)) e ∙ ap (λ (l : List ℕ). part b start x.length ++ l) ih ∙ sym (bodies-here b f refl q n))
       (λ q. ap (bodies_with a) (only-later f x es q) ∙ ih ∙ sym (ap (bodies_with b) (only-later f x es q)))
@@ -107,59 +108,59 @@ module _ {set : List ℕ} {f : Entry → Bool} {all : List Entry} {k n : ℕ} (r
   sizes : length (bodies_with set es) ≡ lengths es
   sizes = same-lengths f set all k ends
 
-  pub contents-room : Room set 4 (contents_with (4 + 8 * n) es)
+  pub contents-room : 4 + length (contents_with (4 + 8 * n) es) ≤ length set
   contents-room = omega (arith, contents-long (4 + 8 * n) es, e, less, fit, begins)
 
   pub contents-small : 4 + 8 * n + lengths es < 65536
   contents-small = omega (arith, e, less, fit, begins, sizes, small)
 
-  module _ {out : List ℕ} {next : ℕ} (w : Wrote set 4 (contents_with (4 + 8 * n) es) out next) where
-    at : next ≡ 4 + 8 * n
-    at = omega (arith, w.place, contents-long (4 + 8 * n) es, e)
+  module _ {w w₁ : Writer} (four : w.at ≡ 4) (given : w.out.now ≡ set) (c : Wrote w (contents_with (4 + 8 * n) es) w₁) where
+    at : w₁.at ≡ 4 + 8 * n
+    at = omega (arith, c.place, contents-long (4 + 8 * n) es, e, four)
 
-    pub bodies-at : next ≤ k
+    pub bodies-at : w₁.at ≤ k
     bodies-at = omega (arith, at, less, begins)
 
-    long : length out ≡ length set
-    long = ap length w.bytes ∙ length-sets set 4 (contents_with (4 + 8 * n) es)
+    bytes₁ : w₁.out.now ≡ sets set 4 (contents_with (4 + 8 * n) es)
+    bytes₁ = c.bytes ∙ rw (four, given)
 
-    pub ends-still : end_to_end k (length out) all ≡ true
+    long : length w₁.out.now ≡ length set
+    long = ap length bytes₁ ∙ length-sets set 4 (contents_with (4 + 8 * n) es)
+
+    pub ends-still : end_to_end k (length w₁.out.now) all ≡ true
     ends-still = rw long ends
 
-    behind : drop k out ≡ drop k set
-    behind = ap (drop k) w.bytes ∙ drop-sets k set 4 (contents_with (4 + 8 * n) es) (omega (arith, contents-long (4 + 8 * n) es, e, less, begins))
+    behind : drop k w₁.out.now ≡ drop k set
+    behind = ap (drop k) bytes₁ ∙ drop-sets k set 4 (contents_with (4 + 8 * n) es) (omega (arith, contents-long (4 + 8 * n) es, e, less, begins))
 
-    same : bodies_with out es ≡ bodies_with set es
-    same = same-bodies f out set all k (length set) ends behind
+    same : bodies_with w₁.out.now es ≡ bodies_with set es
+    same = same-bodies f w₁.out.now set all k (length set) ends behind
 
-    module _ {out₂ : List ℕ} {end : ℕ} (v : Wrote out next (bodies_with out es) out₂ end) where
-      long₂ : length out₂ ≡ length set
-      long₂ = ap length v.bytes ∙ length-sets out next (bodies_with out es) ∙ long
+    module _ {w₂ : Writer} (v : Wrote w₁ (bodies_with w₁.out.now es) w₂) where
+      long₂ : length w₂.out.now ≡ length set
+      long₂ = ap length v.bytes ∙ length-sets w₁.out.now w₁.at (bodies_with w₁.out.now es) ∙ long
 
-      end_is : end ≡ 4 + 8 * n + length (bodies_with set es)
+      end_is : w₂.at ≡ 4 + 8 * n + length (bodies_with set es)
       end_is = omega (arith, v.place, ap length same, at)
 
-      pub end-in : end ≤ length out₂
+      pub end-in : w₂.at ≤ length w₂.out.now
       end-in = omega (arith, end_is, less, fit, begins, long₂)
 
-      pub end-small : end ≤ 16384
+      pub end-small : w₂.at ≤ 16384
       end-small = omega (arith, end-in, long₂, small)
 
-      total-is : end ≡ pieces.laid_length ps
+      total-is : w₂.at ≡ pieces.laid_length ps
       total-is = omega (arith, end_is, e, length-map es (piece_for set))
 
-      both-written : Wrote set 4 (contents_with (4 + 8 * n) es ++ bodies_with set es) out₂ end
-      both-written = wrote-both w (rw same at v)
+      abbrev zeros : List ℕ
+      zeros = replicate (length w₂.out.now - w₂.at) 0
 
-      module _ {out₃ : List ℕ} {r : ℕ} (z : Wrote out₂ end (replicate (length out₂ - end) 0) out₃ r) where
-        long₃ : length out₃ ≡ length set
-        long₃ = ap length z.bytes ∙ length-sets out₂ end (replicate (length out₂ - end) 0) ∙ long₂
+      module _ {w₃ : Writer} (z : Wrote w₂ zeros w₃) where
+        long₃ : length w₃.out.now ≡ length set
+        long₃ = ap length z.bytes ∙ length-sets w₂.out.now w₂.at zeros ∙ long₂
 
-        pub header-room : 4 ≤ length out₃
+        pub header-room : 0 + 4 ≤ length w₃.out.now
         header-room = omega (arith, long₃, end-in, end_is, long₂)
-
-        abbrev zeros : List ℕ
-        zeros = replicate (length out₂ - end) 0
 
         abbrev text : List ℕ
         text = (contents_with (4 + 8 * n) es ++ bodies_with set es) ++ zeros
@@ -171,22 +172,25 @@ module _ {set : List ℕ} {f : Entry → Bool} {all : List Entry} {k n : ℕ} (r
               length-append (contents_with (4 + 8 * n) es ++ bodies_with set es) zeros,
               length-append (contents_with (4 + 8 * n) es) (bodies_with set es),
               contents-long (4 + 8 * n) es,
-              length-replicate {A = ℕ} (length out₂ - end) 0,
+              length-replicate {A = ℕ} (length w₂.out.now - w₂.at) 0,
               end_is,
               end-in,
               long₂,
               e,
             )
 
-        three : out₃ ≡ take 4 set ++ text
+        all-written : Wrote w text w₃
+        all-written = wrote-both (wrote-both c (rw same at v)) z
+
+        three : w₃.out.now ≡ take 4 set ++ text
         three =
-            (wrote-both both-written z).bytes ∙ sets-eq text set 4 (omega (arith, text-long))
+            all-written.bytes ∙ rw (four, given) (sets-eq text set 4 (omega (arith, text-long)))
             ∙ (let h : length set ≤ 4 + length text = omega (arith, text-long) in ap (λ (l : List ℕ). take 4 set ++ text ++ l) (drop_of_length-le set h)) ∙ append-nil (take 4 set ++ text)
 
-        tail : drop 4 out₃ ≡ text
+        tail : drop 4 w₃.out.now ≡ text
         tail = ap (drop 4) three ∙ drop_at (take 4 set) text 4 (length-take-le 4 set (omega (arith, text-long)))
 
-        head : end % 256 ∷ end / 256 ∷ n ∷ 0 ∷ [] ≡ header ps
+        head : w₂.at % 256 ∷ w₂.at / 256 ∷ n ∷ 0 ∷ [] ≡ header ps
         head = rw (← total-is, length-map es (piece_for set), ← e)
 
         laid-is : laid ps ≡ header ps ++ (contents_with (4 + 8 * n) es ++ bodies_with set es)
@@ -195,12 +199,12 @@ module _ {set : List ℕ} {f : Entry → Bool} {all : List Entry} {k n : ℕ} (r
             laid-parts ps ∙ ap (λ (l : List ℕ). header ps ++ (l ++ body_bytes ps)) s
 
         zeros-are : zeros ≡ replicate (length set - length (laid ps)) 0
-        zeros-are = ap (λ (m : ℕ). replicate {A = ℕ} m 0) (let q : length out₂ - end ≡ length set - length (laid ps) = omega (arith, long₂, total-is, laid-length ps) in q)
+        zeros-are = ap (λ (m : ℕ). replicate {A = ℕ} m 0) (let q : length w₂.out.now - w₂.at ≡ length set - length (laid ps) = omega (arith, long₂, total-is, laid-length ps) in q)
 
-        pub rebuilt : {out₄ : List ℕ} {q : ℕ} → Wrote out₃ 0 (end % 256 ∷ end / 256 ∷ n ∷ 0 ∷ []) out₄ q → out₄ ≡ zero_filled (laid ps) (length set)
-        rebuilt h =
-            h.bytes ∙ sets-eq (end % 256 ∷ end / 256 ∷ n ∷ 0 ∷ []) out₃ 0 header-room
-            ∙ ap (λ (l : List ℕ). (end % 256 ∷ end / 256 ∷ n ∷ 0 ∷ []) ++ l) tail
+        pub rebuilt : {w₄ w₅ : Writer} {after : List ℕ} → w₄.at ≡ 0 → w₄.out.now ≡ w₃.out.now → Wrote w₄ (w₂.at % 256 ∷ w₂.at / 256 ∷ n ∷ 0 ∷ []) w₅ → after ≡ w₅.out.now → after ≡ zero_filled (laid ps) (length set)
+        rebuilt first kept h left =
+            left ∙ h.bytes ∙ rw (first, kept) (sets-eq (w₂.at % 256 ∷ w₂.at / 256 ∷ n ∷ 0 ∷ []) w₃.out.now 0 header-room)
+            ∙ ap (λ (l : List ℕ). (w₂.at % 256 ∷ w₂.at / 256 ∷ n ∷ 0 ∷ []) ++ l) tail
             ∙ ap (λ (l : List ℕ). l ++ text) head
             ∙ sym (append_assoc (header ps) (contents_with (4 + 8 * n) es ++ bodies_with set es) zeros)
             ∙ ap (λ (l : List ℕ). l ++ zeros) (sym laid-is)
@@ -283,14 +287,14 @@ module _ (set rest : List ℕ) (g : Frame set) {size : ℕ} (s : size ≡ bodies
   aside-entries = ap entries e ∙ alike (take size set) rest (drop size set) (omega (arith, front_long, here)) ∙ ap entries (sym split)
 
 -- what was copied, as the code has it: the part from 0 on, and behind it what was there
-module _ (set : List ℕ) (g : Frame set) (p : ℕ) (c : p ≡ count set) {written : List ℕ} (e : written ≡ take (4 + 8 * p - 0) set) (rest : List ℕ) where
+module _ (set : List ℕ) (g : Frame set) (p : ℕ) (c : p ≡ count set) {written : List ℕ} (e : written ≡ take (4 + 8 * p) set) (rest : List ℕ) where
   abbrev aside : List ℕ
   aside = written ++ rest
 
-  size_is : 4 + 8 * p - 0 ≡ bodies_at set
-  size_is = rw (sub-zero, c)
+  size_is : 4 + 8 * p ≡ bodies_at set
+  size_is = rw c
 
-  copied : aside ≡ take (4 + 8 * p - 0) set ++ rest
+  copied : aside ≡ take (4 + 8 * p) set ++ rest
   copied = ap (λ (l : List ℕ). l ++ rest) e
 
   pub copied-entries : entries aside ≡ entries set

@@ -1,5 +1,5 @@
 -- Trimmed: what opening tells that trimming needs. No axiom.
-use Rattle.octets.proofs.Vocabulary.{◌≡◌, sym, ap, ◌∙◌, ℕ, zero, suc, ◌+◌, ◌<◌, List, [], ◌∷◌, map, List-as-Memᴰ, List·Memᴰ·cases-cons, List·Memᴰ·not-nil, Bool, true, ◌||◌, ⊎_elim, length, drop, eqb, leb, get_or-drop, eqb-true}
+use Rattle.octets.proofs.Vocabulary.{◌≡◌, ap, ◌∙◌, ℕ, zero, suc, ◌+◌, ◌<◌, List, [], ◌∷◌, map, List-as-Memᴰ, List·Memᴰ·cases-cons, List·Memᴰ·not-nil, Bool, true, ◌||◌, ⊎_elim, length, drop, eqb, leb, get_or-drop, eqb-true}
 use Rattle.octets.specs.Octets.{byte, Bytes}
 use Rattle.octets.specs.Sentences.{every, neighbours, only, any}
 use Rattle.octets.proofs.Sentences.{both, conjunct, every-member, member-every}
@@ -49,14 +49,14 @@ indices (suc n) bytes h e m = ⊎_elim (λ q. rw q (h 1)) (λ k. indices n (drop
 index-small : (set : List ℕ) → Bytes set → (e : Entry) → List-as-Memᴰ e (entries set) → e.index < 256
 index-small set h = indices (count set) (drop 4 set) (λ i. rw (get_or-drop 4 set i 0) (h (4 + i)))
 
--- ---- the answer 0
-module _ (limits : Limits) (set serial : List ℕ) (small : Bytes set) (n : ℕ) (e : n ≡ opening limits (lent set serial)) (z : n ≡ 0) (table : List ℕ)
-    (names : (j : ℕ) → j < 256 → has table j ≡ keeping.referenced set j) (a : Bool) (first : a ≡ any (table_names table) (entries set)) (s : ℕ) (serially : s ≡ iSerialNumber (device_body set)) where
-  stays : (a || leb 1 s) ≡ zero_stays set
-  stays = rw (first ∙ same-named set table names (index-small set small), serially)
+-- ---- a set that opens
+module _ (limits : Limits) (set serial : List ℕ) (small : Bytes set) (opens : 0 ≡ opening limits (lent set serial)) (table : List ℕ) (names : (j : ℕ) → j < 256 → has table j ≡ keeping.referenced set j)
+    (zero_too : Bool) (said : zero_too ≡ (any (table_names table) (entries set) || leb 1 (iSerialNumber (device_body set)))) where
+  stays : zero_too ≡ zero_stays set
+  stays = said ∙ rw (same-named set table names (index-small set small))
 
-  pub trims : {after : List ℕ} → after ≡ zero_filled (laid (map (piece_for set) (only (keeps_by table (a || leb 1 s)) (entries set)))) (length set) → Trims limits set serial after 0
+  pub trims : {after : List ℕ} → after ≡ zero_filled (laid (map (piece_for set) (only (keeps_by table zero_too) (entries set)))) (length set) → Trims limits set serial after 0
   trims h = record {
-    number = sym z ∙ e;
-    bytes = h ∙ ap (λ (es : List Entry). zero_filled (laid (map (piece_for set) es)) (length set)) (same_kept set table names (index-small set small) (a || leb 1 s) stays);
+    number = opens;
+    bytes = h ∙ ap (λ (es : List Entry). zero_filled (laid (map (piece_for set) es)) (length set)) (same_kept set table names (index-small set small) zero_too stays);
   }

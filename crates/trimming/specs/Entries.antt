@@ -1,12 +1,12 @@
 -- Working definitions for the contracts: contents by the entries' own lengths, and the bodies that entries name; no promise cites them.
-use Rattle.std.specs.Prelude.{ℕ, ◌+◌, ◌/◌, ◌%◌, List, [], ◌∷◌, ◌++◌, map}
+use Rattle.std.specs.Prelude.{ℕ, ◌+◌, List, [], ◌∷◌, ◌++◌, map}
 use Rattle.sets.specs.declared.Entry.{Entry}
 use Rattle.set_writer.specs.Writer.{body_bytes}
+use Rattle.set_writer.specs.Places.{bytes_of}
 use Rattle.sets.specs.Pieces.{piece_for}
 
 abbrev pub entry_with : Entry → ℕ → List ℕ
-entry_with e offset =
-    e.kind ∷ e.index ∷ e.language % 256 ∷ e.language / 256 ∷ offset % 256 ∷ offset / 256 ∷ e.length % 256 ∷ e.length / 256 ∷ []
+entry_with e offset = bytes_of (record e { offset = offset })
 
 unfoldable pub contents_with : ℕ → List Entry → List ℕ
 contents_with start [] = []

@@ -12,6 +12,6 @@ unfolding renewed
 returns c =
     let long = c.if-image-ne-IMAGE_LENGTH.false in
     record {
-      opens = open-whole _ _ long _ _ c.opening.ensures (c.renew.ensures ∙ rw (eq-eqb _ _ long));
+      opens = open-whole _ _ long _ _ (c.number.ensures ∙ c.opening.ensures) (c.renew.ensures ∙ rw (eq-eqb _ _ long));
       octets = (λ k. omega (arith, c.type_inv.set k), tt);
     }

@@ -1,7 +1,7 @@
 -- `board::hk_record_event` meets its contract: the answer at the record, handed out. No axiom.
 use Rattle.octets.proofs.Vocabulary.{ap, ◌∙◌}
 use Rattle.sets.specs.Opening.{lent}
-use Rattle.events.specs.declared.Outcome.{Outcome}
+use Rattle.events.specs.Answer.{Outcome}
 use Rattle.events.specs.Step.{step}
 use Rattle.promises.specs.Refusals.{step_inside}
 use Rattle.board.specs.Exports.{numbered}

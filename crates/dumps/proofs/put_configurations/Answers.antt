@@ -7,8 +7,8 @@ use Rattle.dumps.proofs.Splitting.{dump-bodies, dump-least, dump-fits, dump-spli
 use Rattle.dumps.proofs.Streaming.{zeroed-length, stream-here, stream-over}
 use Rattle.dumps.proofs.put_configurations.Goals as goal
 
-pub put_head-here-requires : goal.put_head-here-requires
-put_head-here-requires c =
+pub put_head-requires : goal.put_head-requires
+put_head-requires c =
     let dump = c.args.dump.now in
     let s = c.loop-from in
     let h = c.loop-from-test.true in
@@ -17,14 +17,14 @@ put_head-here-requires c =
       size_bound = c.size_at-size.ensures.1;
     }
 
-pub put_configuration-next-requires : goal.put_configuration-next-requires
-put_configuration-next-requires c =
+pub put_configuration-requires : goal.put_configuration-requires
+put_configuration-requires c =
     let dump = c.args.dump.now in
     let s = c.loop-from in
     let h = c.loop-from-test.true in
     let e = c.size_at-size.ensures.0 in
     let q = rw c.tail.ensures at c.head.ensures in
-    let g = next s.invariant.3 (headed 2 s.index _) _ (stream-here dump s.from h s.invariant.1 _ e s.index) c.put_head-here.ensures in
+    let g = next s.invariant.3 (headed 2 s.index _) _ (stream-here dump s.from h s.invariant.1 _ e s.index) c.put_head.ensures in
     let b = take c.size_at-size.result (drop s.from dump) in
     rw q (omega (arith, room_for g (zeroed_configuration b) _ refl, zeroed-length b))
 
@@ -53,11 +53,11 @@ loop-from-preserved c =
     let q = rw c.tail.ensures at c.head.ensures in
     let f = dump-fits dump s.from h _ e s.invariant.1 in
     let l = dump-least dump s.from h _ e s.invariant.1 in
-    let g = next s.invariant.3 (headed 2 s.index _) _ (stream-here dump s.from h s.invariant.1 _ e s.index) c.put_head-here.ensures in (
+    let g = next s.invariant.3 (headed 2 s.index _) _ (stream-here dump s.from h s.invariant.1 _ e s.index) c.put_head.ensures in (
       omega arith,
       sym (dump-splits dump s.from h _ e l f) ∙ s.invariant.1,
       omega (arith, s.invariant.2, ap length (dump-bodies dump s.from h _ e l)),
-      next g (zeroed_configuration (take c.size_at-size.result (drop s.from dump))) _ refl (rw q at c.put_configuration-next.ensures),
+      next g (zeroed_configuration (take c.size_at-size.result (drop s.from dump))) _ refl (rw q at c.put_configuration.ensures),
     )
 
 pub returns : goal.returns

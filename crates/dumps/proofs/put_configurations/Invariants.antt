@@ -11,7 +11,7 @@ invariant-loop-from l =
     (l.from ≤ length l.dump) ×
     (splitting (drop l.from l.dump) ≡ true) ×
     (l.index + length (bodies (drop l.from l.dump)) < 256) ×
-    Going l.initial.out l.at (streamed 0 (configurations_in l.dump)) l.out l.next (streamed l.index (bodies (drop l.from l.dump)))
+    Going l.initial.w (streamed 0 (configurations_in l.dump)) l.w (streamed l.index (bodies (drop l.from l.dump)))
 
 abbrev pub decreases-loop-from : goal.decreases-loop-from
 decreases-loop-from l = length l.dump - l.from

@@ -1,9 +1,14 @@
--- `dumps::put_device` meets its contract: written, and three places blanked. No axiom.
-use Rattle.octets.proofs.Vocabulary.{[], ◌∷◌, true}
-use Rattle.dumps.proofs.Blanking.{begun, one, over}
+-- `dumps::put_device` meets its contract: what was written is zeroed. No axiom.
+use Rattle.octets.proofs.Vocabulary.{refl, ap, ◌∙◌, [], ◌∷◌}
+use Rattle.buffers.proofs.Written.{inside, stands, replaced}
+use Rattle.dumps.specs.Dump.{zeroed_device}
+use Rattle.dumps.proofs.Blanking.{blanked-length}
 use Rattle.dumps.proofs.put_device.Goals as goal
+
+pub slice_bounds-zero_device-end : goal.slice_bounds-zero_device-end
+slice_bounds-zero_device-end c = inside c.requires c.put_bytes.ensures
 
 pub returns : goal.returns
 returns c =
-    let b = begun (14 ∷ 15 ∷ 16 ∷ []) c.put_bytes-end.ensures in
-    over c.put_bytes-end.ensures.place (one 16 true c.blank-3.ensures (one 15 true c.blank-2.ensures (one 14 true c.blank.ensures b)))
+    let zeroed = c.zero_device.ensures ∙ ap zeroed_device (stands c.requires c.put_bytes.ensures) in
+    replaced c.requires c.put_bytes.ensures _ (blanked-length (14 ∷ 15 ∷ 16 ∷ []) c.args.body.now) (rw zeroed refl) refl refl

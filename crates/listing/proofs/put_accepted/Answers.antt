@@ -2,8 +2,9 @@
 use Rattle.octets.proofs.Vocabulary.{◌≡◌, refl, sym, ◌∙◌, ℕ, List, [], ◌∷◌, flat_map, length, length-map}
 use Rattle.sets.specs.Contents.{body_of, bodies, entries_of}
 use Rattle.listing.specs.Listing.{line, accepted_word, configuration_lines}
+use Rattle.buffers.specs.declared.Writer.{Writer}
 use Rattle.buffers.specs.Written.{Wrote}
-use Rattle.buffers.proofs.Written.{begun, room_for, next, wrote-both}
+use Rattle.buffers.proofs.Written.{begun, next, wrote-both}
 use Rattle.listing.proofs.put_accepted.Goals as goal
 
 abbrev first_line : List ℕ → List ℕ
@@ -16,18 +17,13 @@ counted : (set : List ℕ) (n : ℕ) → n ≡ length (entries_of 2 set) → n �
 counted set n e = e ∙ sym (length-map (entries_of 2 set) (body_of set))
 
 -- the first line is written
-headed : (set out : List ℕ) (n : ℕ) {after : List ℕ} {end : ℕ} → n ≡ length (entries_of 2 set) → Wrote out 0 (line accepted_word (n ∷ [])) after end → Wrote out 0 (first_line set) after end
-headed set out n e w = rw (counted set n e) at w
-
-pub put_line-next-requires : goal.put_line-next-requires
-put_line-next-requires c =
-    let set = c.args.set.now in
-    rw (counted set _ c.count_of-configurations.ensures) (room_for (begun c.args.out.now _ _ c.requires.room) (first_line set) (others set) refl)
+headed : (set : List ℕ) (n : ℕ) {w is : Writer} → n ≡ length (entries_of 2 set) → Wrote w (line accepted_word (n ∷ [])) is → Wrote w (first_line set) is
+headed set n e r = rw (counted set n e) at r
 
 pub put_configurations-requires-clause-room : goal.put_configurations-requires-clause-room
 put_configurations-requires-clause-room c =
     let set = c.args.set.now in
-    (next (begun c.args.out.now _ _ c.requires.room) (first_line set) (others set) refl (headed set _ _ c.count_of-configurations.ensures c.put_line-next.ensures)).room
+    (next (begun c.args.w.now _ c.requires.room) (first_line set) (others set) refl (headed set _ c.count_of-configurations.ensures c.put_line.ensures)).room
 
 pub returns : goal.returns
-returns c = wrote-both (headed c.args.set.now _ _ c.count_of-configurations.ensures c.put_line-next.ensures) c.put_configurations.ensures
+returns c = wrote-both (headed c.args.set.now _ c.count_of-configurations.ensures c.put_line.ensures) c.put_configurations.ensures

@@ -27,22 +27,13 @@ module _ (body : List ℕ) (at last : ℕ) (step : Step) where
 pub loop-from-init : goal.loop-from-init
 loop-from-init c =
     let b = at_first c.args.body.now _ c.requires.body_value c.peek-from.ensures in
-    (b.place, rw c.peek-from.ensures (begun c.args.out.now _ _ c.requires.room))
+    (b.place, rw c.peek-from.ensures (begun _ _ c.requires.room))
 
 pub step_over-step-requires : goal.step_over-step-requires
 step_over-step-requires c = steps _ _ c.loop-from.invariant.0 c.loop-from-test.true
 
-pub slice_bounds-put_descriptor-count : goal.slice_bounds-put_descriptor-count
-slice_bounds-put_descriptor-count c = let t = turned _ _ _ _ c.loop-from.invariant.0 c.loop-from-test.true c.step_over-step.ensures in omega (arith, t.on)
-
-pub slice_bounds-put_descriptor-start : goal.slice_bounds-put_descriptor-start
-slice_bounds-put_descriptor-start c = let t = turned _ _ _ _ c.loop-from.invariant.0 c.loop-from-test.true c.step_over-step.ensures in omega (arith, t.on)
-
-pub slice_bounds-put_descriptor-end : goal.slice_bounds-put_descriptor-end
-slice_bounds-put_descriptor-end c = (turned _ _ _ _ c.loop-from.invariant.0 c.loop-from-test.true c.step_over-step.ensures).place.inside
-
-pub put_descriptor-next-requires : goal.put_descriptor-next-requires
-put_descriptor-next-requires c =
+pub put_descriptor-requires : goal.put_descriptor-requires
+put_descriptor-requires c =
     let body = c.args.body.now in
     let at = c.loop-from.from in
     let last = c.loop-from.last in
@@ -61,7 +52,7 @@ loop-from-preserved c =
     let place = c.loop-from.invariant.0 in
     let e = c.step_over-step.ensures in (
       (turned body at last step place c.loop-from-test.true e).place,
-      next c.loop-from.invariant.1 (here body at last step) (behind body at last step) (lines body at last step place c.loop-from-test.true e) c.put_descriptor-next.ensures,
+      next c.loop-from.invariant.1 (here body at last step) (behind body at last step) (lines body at last step place c.loop-from-test.true e) c.put_descriptor.ensures,
     )
 
 pub returns : goal.returns

@@ -7,7 +7,7 @@ use Rattle.buffers.proofs.Written.{Going}
 use Rattle.listing.proofs.put_descriptors.Given as goal
 
 abbrev pub invariant-loop-from : goal.invariant-loop-from
-invariant-loop-from l = Place l.body l.from × Going l.initial.out l.at (descriptor_lines l.body) l.out l.next (collected telling l.body (stand_in l.last) l.from)
+invariant-loop-from l = Place l.body l.from × Going l.initial.w (descriptor_lines l.body) l.w (collected telling l.body (stand_in l.last) l.from)
 
 abbrev pub decreases-loop-from : goal.decreases-loop-from
 decreases-loop-from l = length l.body - l.from

@@ -1,40 +1,32 @@
 -- `listing::put_fields` meets its contract: the fields that are left are written. No axiom.
-use Rattle.octets.proofs.Vocabulary.{refl, ℕ, ◌+◌, ◌<◌, ◌≤◌, List, [], ◌∷◌, ◌++◌, length, drop, get_or, arith}
+use Rattle.octets.proofs.Vocabulary.{refl, ℕ, ◌+◌, ◌<◌, ◌≤◌, List, [], ◌∷◌, ◌++◌, length, drop, get_or}
 use Rattle.listing.specs.Listing.{decimal, fields}
+use Rattle.buffers.specs.declared.Writer.{Writer}
 use Rattle.buffers.specs.Written.{Wrote}
-use Rattle.buffers.proofs.Written.{Going, begun, room_for, next, done}
+use Rattle.buffers.proofs.Written.{Going, room_for, next, done}
 use Rattle.listing.proofs.Lines.{next_field, no_field}
 use Rattle.listing.proofs.put_fields.Goals as goal
 
-module _ {start : List ℕ} {from : ℕ} {whole out : List ℕ} {at : ℕ} (numbers : List ℕ) (i : ℕ) (g : Going start from whole out at (fields (drop i numbers))) where
+module _ {start w : Writer} {whole : List ℕ} (numbers : List ℕ) (i : ℕ) (g : Going start whole w (fields (drop i numbers))) where
   -- the space is written
-  spaced : {after : List ℕ} {end : ℕ} → i < length numbers → Wrote out at (32 ∷ []) after end → Going start from whole after end (decimal (get_or numbers i 0) ++ fields (drop (i + 1) numbers))
-  spaced h w = next g (32 ∷ []) _ (next_field numbers i h) w
+  spaced : {is : Writer} → i < length numbers → Wrote w (32 ∷ []) is → Going start whole is (decimal (get_or numbers i 0) ++ fields (drop (i + 1) numbers))
+  spaced h r = next g (32 ∷ []) _ (next_field numbers i h) r
 
   -- the line feed is written
-  ended : {after : List ℕ} {end : ℕ} → length numbers ≤ i → Wrote out at (10 ∷ []) after end → Going start from whole after end []
-  ended h w = next g (10 ∷ []) [] (no_field numbers i h) w
-
-pub loop-i-init : goal.loop-i-init
-loop-i-init c = (omega arith, begun _ _ _ c.requires)
-
-pub put-digits-requires : goal.put-digits-requires
-put-digits-requires c = room_for c.loop-i.invariant.1 (32 ∷ []) _ (next_field c.args.numbers.now c.loop-i.i c.loop-i-test.true)
-
-pub put_decimal-next-requires : goal.put_decimal-next-requires
-put_decimal-next-requires c =
-    let numbers = c.args.numbers.now in
-    let i = c.loop-i.i in
-    room_for (spaced numbers i c.loop-i.invariant.1 c.loop-i-test.true c.put-digits.ensures) (decimal (get_or numbers i 0)) (fields (drop (i + 1) numbers)) refl
-
-pub loop-i-preserved : goal.loop-i-preserved
-loop-i-preserved c =
-    let numbers = c.args.numbers.now in
-    let i = c.loop-i.i in
-    (omega arith, next (spaced numbers i c.loop-i.invariant.1 c.loop-i-test.true c.put-digits.ensures) (decimal (get_or numbers i 0)) (fields (drop (i + 1) numbers)) refl c.put_decimal-next.ensures)
+  ended : {is : Writer} → length numbers ≤ i → Wrote w (10 ∷ []) is → Going start whole is []
+  ended h r = next g (10 ∷ []) [] (no_field numbers i h) r
 
 pub put-requires : goal.put-requires
-put-requires c = room_for c.loop-i.invariant.1 (10 ∷ []) [] (no_field c.args.numbers.now c.loop-i.i c.loop-i-test.false)
+put-requires c = room_for c.loop-number.invariant (32 ∷ []) _ (next_field c.args.numbers.now c.loop-number.number-index c.loop-number-test.true)
+
+pub put_decimal-requires : goal.put_decimal-requires
+put_decimal-requires c = room_for (spaced c.args.numbers.now c.loop-number.number-index c.loop-number.invariant c.loop-number-test.true c.put.ensures) _ _ refl
+
+pub loop-number-preserved : goal.loop-number-preserved
+loop-number-preserved c = next (spaced c.args.numbers.now c.loop-number.number-index c.loop-number.invariant c.loop-number-test.true c.put.ensures) _ _ refl c.put_decimal.ensures
+
+pub put-requires-2 : goal.put-requires-2
+put-requires-2 c = room_for c.loop-number.invariant (10 ∷ []) [] (no_field c.args.numbers.now c.loop-number.number-index c.loop-number-test.false)
 
 pub returns : goal.returns
-returns c = done (ended c.args.numbers.now c.loop-i.i c.loop-i.invariant.1 c.loop-i-test.false c.put.ensures) refl
+returns c = done (ended c.args.numbers.now c.loop-number.number-index c.loop-number.invariant c.loop-number-test.false c.put-2.ensures) refl

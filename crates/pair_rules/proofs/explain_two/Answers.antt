@@ -1,76 +1,57 @@
--- `pair_rules::explain_two` meets its contract: one list of rules after the other. No axiom.
-use Rattle.octets.proofs.Vocabulary.{◌≡◌, refl, ◌∙◌, ℕ, List, true}
-use Rattle.octets.specs.Sentences.{every, first}
-use Rattle.descriptors.specs.declared.limits.Limits.{Limits}
-use Rattle.descriptors.specs.Limits.{paired_full, high_speed}
-use Rattle.sets.specs.Opening.{lent}
-use Rattle.rules.specs.Explained.{findings, is_broken, fault_of}
-use Rattle.rules.proofs.Grouped.{all-rules, has-number}
-use Rattle.rules.proofs.After.{is_numbered}
-use Rattle.pair_rules.specs.Pair.{pair_findings}
-use Rattle.pair_rules.proofs.Grouped.{pair-numbered}
-use Rattle.pair_rules.proofs.First.{all-lists, at-list, past-list, at-end, past_end}
+-- `pair_rules::explain_two` meets its contract. No axiom.
+use Rattle.std.specs.Prelude.{Option, Some, None, IsSome}
+use Rattle.octets.proofs.Vocabulary.{◌≡◌, refl, sym, ap, ◌∙◌, ℕ, List, Option as Maybe, some, none}
+use Rattle.sets.specs.Broken.{number_of}
+use Rattle.sets.specs.Pair.{opening_two}
+use Rattle.rules.specs.Explained.{inside}
+use Rattle.pair_rules.specs.declared.BlockFault.{BlockFault}
+use Rattle.pair_rules.specs.Explained.{Placed, ExplainedTwo, lent_as, told_two, explained_two}
+use Rattle.pair_rules.specs.Placed.{About, block_number, about, told_in}
+use Rattle.rules.proofs.Told.{refused}
+use Rattle.pair_rules.proofs.RulePair.{named, none-there, some-there}
 use Rattle.pair_rules.proofs.explain_two.Goals as goal
+use Rattle.pair_rules.proofs.explain_two.Goals.{in-Full, in-High, in-Serial}
 
--- the rules of each set, and of each beside the other, with their numbers
-numbered : (limits : Limits) (set serial : List ℕ) → every is_numbered (findings limits (lent set serial)) ≡ true
-numbered limits set serial = all-rules is_numbered has-number limits (lent set serial)
-
-pub returns-then-found-ne0 : goal.returns-then-found-ne0
-returns-then-found-ne0 c =
+pub returns-in-Ok : goal.returns-in-Ok
+unfolding explained_two
+returns-in-Ok c =
     let a = c.args in
-    let slow : c.first_fault-found.result ≡ fault_of (first is_broken (findings paired_full (lent a.full.now a.serial.now))) = cc in
-    c.placed.ensures
-    ∙ at-list a.full.now a.high.now a.serial.now 0 (findings paired_full (lent a.full.now a.serial.now)) slow _
-    (all-lists a.full.now a.high.now a.serial.now) c.opening_two-number.ensures a.full.now refl c.if-found-ne0.true
+    let accepted : 0 ≡ opening_two a.full.now a.high.now a.serial.now = c.in-Ok.ensures in
+    rw (none-there a.full.now a.high.now a.serial.now (sym accepted), ← accepted)
 
-pub returns-then-found-ne0-2 : goal.returns-then-found-ne0-2
-returns-then-found-ne0-2 c =
-    let a = c.args in
-    let slow : c.first_fault-found.result ≡ fault_of (first is_broken (findings paired_full (lent a.full.now a.serial.now))) = cc in
-    let second = past-list a.full.now a.high.now a.serial.now 0 (findings paired_full (lent a.full.now a.serial.now)) slow _
-    (all-lists a.full.now a.high.now a.serial.now) (numbered paired_full a.full.now a.serial.now) c.if-found-ne0.false in
-    let fast : c.first_fault-found-2.result ≡ fault_of (first is_broken (findings high_speed (lent a.high.now a.serial.now))) = cc in
-    c.placed-then-found-ne0-2.ensures
-    ∙ at-list a.full.now a.high.now a.serial.now 1 (findings high_speed (lent a.high.now a.serial.now)) fast _ second
-    c.opening_two-number.ensures a.high.now refl c.if-found-ne0-2.true
+is_there : (o : Maybe Placed) → (o ≡ none → ⊥) → (r : Option BlockFault) → about r ≡ told_in o → IsSome r
+is_there none p r q = absurd (p refl)
+is_there (some x) p None q = cc
+is_there (some x) p (Some f) q = refl
 
-pub returns-then-found-ne0-3 : goal.returns-then-found-ne0-3
-returns-then-found-ne0-3 c =
+pub unwrap-block-requires : goal.unwrap-block-requires
+unwrap-block-requires c =
     let a = c.args in
-    let slow : c.first_fault-found.result ≡ fault_of (first is_broken (findings paired_full (lent a.full.now a.serial.now))) = cc in
-    let fast : c.first_fault-found-2.result ≡ fault_of (first is_broken (findings high_speed (lent a.high.now a.serial.now))) = cc in
-    let second = past-list a.full.now a.high.now a.serial.now 0 (findings paired_full (lent a.full.now a.serial.now)) slow _
-    (all-lists a.full.now a.high.now a.serial.now) (numbered paired_full a.full.now a.serial.now) c.if-found-ne0.false in
-    let third = past-list a.full.now a.high.now a.serial.now 1 (findings high_speed (lent a.high.now a.serial.now)) fast _
-    second (numbered high_speed a.high.now a.serial.now) c.if-found-ne0-2.false in
-    c.placed-then-found-ne0-3.ensures
-    ∙ at-list a.full.now a.high.now a.serial.now 0 (pair_findings a.full.now a.high.now) c.pair_fault-found.ensures _ third c.opening_two-number.ensures a.full.now refl c.if-found-ne0-3.true
+    let number : number_of c.in-Err.broken ≡ opening_two a.full.now a.high.now a.serial.now = c.in-Err.ensures in
+    is_there (named a.full.now a.high.now a.serial.now) (some-there a.full.now a.high.now a.serial.now (λ p. refused c.in-Err.broken (number ∙ p))) c.first_placed.result c.first_placed.ensures
 
-pub returns-then-found-ne0-4 : goal.returns-then-found-ne0-4
-returns-then-found-ne0-4 c =
-    let a = c.args in
-    let slow : c.first_fault-found.result ≡ fault_of (first is_broken (findings paired_full (lent a.full.now a.serial.now))) = cc in
-    let fast : c.first_fault-found-2.result ≡ fault_of (first is_broken (findings high_speed (lent a.high.now a.serial.now))) = cc in
-    let second = past-list a.full.now a.high.now a.serial.now 0 (findings paired_full (lent a.full.now a.serial.now)) slow _
-    (all-lists a.full.now a.high.now a.serial.now) (numbered paired_full a.full.now a.serial.now) c.if-found-ne0.false in
-    let third = past-list a.full.now a.high.now a.serial.now 1 (findings high_speed (lent a.high.now a.serial.now)) fast _
-    second (numbered high_speed a.high.now a.serial.now) c.if-found-ne0-2.false in
-    let fourth = past-list a.full.now a.high.now a.serial.now 0 (pair_findings a.full.now a.high.now) c.pair_fault-found.ensures _
-    third (pair-numbered a.full.now a.high.now) c.if-found-ne0-3.false in
-    c.placed-then-found-ne0-4.ensures
-    ∙ at-end a.full.now a.high.now a.serial.now 1 (pair_findings a.high.now a.full.now) c.pair_fault-found-2.ensures fourth c.opening_two-number.ensures a.high.now refl c.if-found-ne0-4.true
+-- the rule that is named, its block and its byte
+told-named : (full high serial : List ℕ) (n : ℕ) (f : BlockFault) (place : ℕ) → n ≡ opening_two full high serial → about (Some f) ≡ told_in (named full high serial)
+    → place ≡ inside (lent_as full high serial (block_number f.block)) f.fault.place
+    → ◌≡◌ {A = ExplainedTwo} (record { number = n; block = block_number f.block; rule = f.fault.rule; place = place }) (explained_two full high serial)
+unfolding explained_two
+told-named full high serial n f place e q p = go (named full high serial) q
+  where
+    go : (o : Maybe Placed) → about (Some f) ≡ told_in o
+        → ◌≡◌ {A = ExplainedTwo} (record { number = n; block = block_number f.block; rule = f.fault.rule; place = place }) (told_two full high serial o)
+    go none q = cc
+    go (some x) q =
+        let same : ◌≡◌ {A = About} (record { block = block_number f.block; fault = f.fault }) (record { block = x.block; fault = record { rule = x.finding.rule; place = x.finding.place } }) = cc in
+        let block : block_number f.block ≡ x.block = ap (λ t. t.block) same in
+        let fault : f.fault ≡ record { rule = x.finding.rule; place = x.finding.place } = ap (λ t. t.fault) same in
+        rw (p, e, block, fault)
 
-pub returns : goal.returns
-returns c =
+pub returns-after-block : goal.returns-after-block
+returns-after-block c =
     let a = c.args in
-    let slow : c.first_fault-found.result ≡ fault_of (first is_broken (findings paired_full (lent a.full.now a.serial.now))) = cc in
-    let fast : c.first_fault-found-2.result ≡ fault_of (first is_broken (findings high_speed (lent a.high.now a.serial.now))) = cc in
-    let second = past-list a.full.now a.high.now a.serial.now 0 (findings paired_full (lent a.full.now a.serial.now)) slow _
-    (all-lists a.full.now a.high.now a.serial.now) (numbered paired_full a.full.now a.serial.now) c.if-found-ne0.false in
-    let third = past-list a.full.now a.high.now a.serial.now 1 (findings high_speed (lent a.high.now a.serial.now)) fast _
-    second (numbered high_speed a.high.now a.serial.now) c.if-found-ne0-2.false in
-    let fourth = past-list a.full.now a.high.now a.serial.now 0 (pair_findings a.full.now a.high.now) c.pair_fault-found.ensures _
-    third (pair-numbered a.full.now a.high.now) c.if-found-ne0-3.false in
-    rw c.opening_two-number.ensures
-    (past_end a.full.now a.high.now a.serial.now 1 (pair_findings a.high.now a.full.now) c.pair_fault-found-2.ensures fourth (pair-numbered a.high.now a.full.now) c.if-found-ne0-4.false)
+    told-named a.full.now a.high.now a.serial.now (number_of c.in-Err.broken) c.unwrap-block.result c.place_inside.result c.in-Err.ensures (rw c.unwrap-block.ensures at c.first_placed.ensures)
+    (elim c.match-block.branch [
+      | in-Full w ↦ c.place_inside.ensures ∙ rw (w.lent-is, w.in-Full.is)
+      | in-High w ↦ c.place_inside.ensures ∙ rw (w.lent-is, w.in-High.is)
+      | in-Serial w ↦ c.place_inside.ensures ∙ rw (w.lent-is, w.in-Serial.is)
+    ])

@@ -1,5 +1,5 @@
 -- `records::store` meets its contract: four parts are written, each after the one before it, and together they are all 32 bytes. No axiom.
-use Rattle.octets.proofs.Vocabulary.{◌≡◌, refl, ℕ, List, [], ◌++◌, append-nil, length, drop, length-append, drop_of_length-le, drop-drop, le_of_eq, rules}
+use Rattle.octets.proofs.Vocabulary.{◌≡◌, refl, ◌∙◌, ℕ, List, [], ◌++◌, append-nil, length, drop, length-append, drop_of_length-le, drop-drop, le_of_eq, rules}
 use borrow.Rule.Slice.PartMut.{put_mid}
 use Rattle.records.specs.declared.Device.{Device}
 use Rattle.records.specs.Image.{bytes_of_four, image_of}
@@ -22,6 +22,7 @@ unfolding image_of bytes_of_four
 stored d image sixteen long p q r s = rw (p, q, r, s) (all-put (front d) d.alternates (bytes_of_four d.halts) (bytes_of_four d.toggles) image refl sixteen refl long)
 
 pub returns-clause-written : goal.returns-clause-written
+unfolding bytes_of_four
 returns-clause-written c =
     let d = c.args.device in
     let image = c.args.image.now in
@@ -29,5 +30,5 @@ returns-clause-written c =
     stored d image n c.requires
     c.copy_from_slice.ensures.after
     c.copy_from_slice-2.ensures.after
-    c.store_four.ensures
-    c.store_four-2.ensures
+    (c.copy_from_slice-3.ensures.after ∙ c.to_le_bytes.ensures)
+    (c.copy_from_slice-4.ensures.after ∙ c.to_le_bytes-2.ensures)

@@ -1,5 +1,5 @@
 -- `requests::find_row` meets its contract. The invariant: the first among the rows not yet passed is the first of the table. No axiom.
-use Rattle.octets.proofs.Vocabulary.{◌≡◌, ◌-◌, ◌≤◌, Bool, ◌&&◌, drop, eqb}
+use Rattle.octets.proofs.Vocabulary.{◌≡◌, Bool, ◌&&◌, drop, eqb}
 use Rattle.octets.specs.Sentences.{first}
 use Rattle.requests.specs.declared.Setup.{Setup}
 use Rattle.requests.specs.declared.Row.{Row}
@@ -11,7 +11,4 @@ abbrev pub asked : Setup → Row → Bool
 asked s r = eqb r.bmRequestType s.bmRequestType && eqb r.bRequest s.bRequest
 
 abbrev pub invariant-loop-i : goal.invariant-loop-i
-invariant-loop-i l = (l.i ≤ 15) × (first (asked l.setup) (drop l.i request_table) ≡ row_of l.setup)
-
-abbrev pub decreases-loop-i : goal.decreases-loop-i
-decreases-loop-i l = 15 - l.i
+invariant-loop-i l = first (asked l.setup) (drop l.i request_table) ≡ row_of l.setup

@@ -1,37 +1,24 @@
 -- `single_walk::open_set` meets its contract: as opening, and the configurations tell what is known. No axiom.
-use Rattle.octets.proofs.Vocabulary.{sym, ap, ◌∙◌}
-use Rattle.descriptors.proofs.CheckReferences.{told}
-use Rattle.sets.specs.Opening.{lent}
-use Rattle.sets.proofs.Groups.{groups}
+use Rattle.octets.proofs.Vocabulary.{sym}
+use Rattle.sets.proofs.Opened.{fourth-broken}
 use Rattle.sets.proofs.Passing.{ordered}
+use Rattle.single_walk.proofs.Opened.{refusal-told}
 use Rattle.single_walk.proofs.open_set.Goals as goal
 
-pub returns-then-begun-ne-DONE : goal.returns-then-begun-ne-DONE
-returns-then-begun-ne-DONE c = record {
-  number = c.refuses.ensures ∙ c.begin-begun.ensures.1 c.if-begun-ne-DONE.true c.args.serial.now;
-  known = λ z. absurd (c.if-begun-ne-DONE.true (sym c.refuses.ensures ∙ z));
-}
+pub returns-in_err-begun : goal.returns-in_err-begun
+returns-in_err-begun c = refusal-told _ _ _ _ _ c.from_residual.result c.in_err-begun.field-0.0 c.from_residual.ensures.1 (c.in_err-begun.ensures.err c.args.serial.now)
 
 pub read_strings-strings-requires : goal.read_strings-strings-requires
-read_strings-strings-requires c = let b = c.begin-begun.ensures.0 c.if-begun-ne-DONE.false in (ordered _ _ b.met.frame b.met.contents, b.bare)
+read_strings-strings-requires c = let b = c.in_ok-begun.ensures.ok in (ordered _ _ b.met.frame b.met.contents, b.bare)
 
-pub configurations-passed-requires : goal.configurations-passed-requires
-configurations-passed-requires c = (c.requires, c.read_strings-strings.ensures.zero, (c.begin-begun.ensures.0 c.if-begun-ne-DONE.false).met)
+pub configurations-requires : goal.configurations-requires
+configurations-requires c = (c.requires, c.in_ok-begun.ensures.ok.met)
 
 pub finish-requires : goal.finish-requires
 finish-requires c =
-    let v = c.configurations-passed in
     let r = c.read_strings-strings.ensures in
-    let b = c.begin-begun.ensures.0 c.if-begun-ne-DONE.false in
-    record { whole = b.whole; described = b.device; entries = r.entries; named = r.named; told = λ good. told v.result.verdict _ _ v.ensures.verdict good }
+    let b = c.in_ok-begun.ensures.ok in
+    record { whole = b.whole; described = b.device; entries = r.entries; named = r.named; told = λ _. c.in-Some.ensures.on.refers }
 
-pub returns : goal.returns
-returns c =
-    let a = c.args in
-    let v = c.configurations-passed in
-    let good = ap (λ v. v.good) v.ensures.verdict in
-    let number = c.finish.ensures a.limits (c.begin-begun.ensures.0 c.if-begun-ne-DONE.false).met good in
-    record {
-      number = number;
-      known = λ z. v.ensures.known (good ∙ (groups a.limits (lent a.set.now a.serial.now) (sym number ∙ z)).configurations);
-    }
+pub returns-in_default : goal.returns-in_default
+returns-in_default c = record { opens = tt; refuses = fourth-broken c.args.limits c.args.set.now c.args.serial.now c.in_ok-begun.ensures.ok.met (sym c.in_default.ensures.good) }

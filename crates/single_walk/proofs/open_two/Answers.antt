@@ -1,46 +1,26 @@
 -- `single_walk::open_two` meets its contract, answer by answer; what is known is that of the set in use. No axiom.
-use Rattle.octets.proofs.Vocabulary.{◌≡◌, sym, ◌∙◌, eq-eqb, ne_eqb}
-use Rattle.sets.specs.Pair.{opening_two}
+use Rattle.octets.proofs.Vocabulary.{refl, sym}
+use Rattle.sets.proofs.Opened.{number-nonzero}
 use Rattle.pairs.proofs.Opening.{refused-first, refused-second}
+use Rattle.single_walk.proofs.AtSpeed.{paired_at}
+use Rattle.single_walk.proofs.Opened.{refusal-told}
 use Rattle.single_walk.proofs.open_two.Goals as goal
 
-pub returns-then-slow-ne-DONE : goal.returns-then-slow-ne-DONE
-returns-then-slow-ne-DONE c =
-    let a = c.args in
-    record {
-      number = refused-first a.full.now a.high.now a.serial.now _ c.open_full-slow.ensures.number c.if-slow-ne-DONE.true;
-      known = λ z. absurd (c.if-slow-ne-DONE.true z);
-    }
+pub open_set-requires : goal.open_set-requires
+open_set-requires c = rw c.paired_full.ensures paired_at
 
-pub returns-then-fast-ne-DONE : goal.returns-then-fast-ne-DONE
-returns-then-fast-ne-DONE c =
+pub returns-in_err-slow : goal.returns-in_err-slow
+returns-in_err-slow c =
     let a = c.args in
-    let slow = c.open_full-slow.ensures in
-    record {
-      number = refused-second a.full.now a.high.now a.serial.now _ _ slow.number c.if-slow-ne-DONE.false c.open_high-fast.ensures.number c.if-fast-ne-DONE.true;
-      known = λ z. absurd (c.if-fast-ne-DONE.true z);
-    }
+    let b = c.in_err-slow.field-0.0 in
+    let slow = rw c.paired_full.ensures at c.in_err-slow.ensures in
+    refusal-told _ _ _ _ _ c.from_residual.result b c.from_residual.ensures.1 (refused-first a.full.now a.high.now a.serial.now _ slow.refuses (number-nonzero b))
 
-pub returns-then-speed-eq0 : goal.returns-then-speed-eq0
-returns-then-speed-eq0 c =
+pub returns-in_err-fast : goal.returns-in_err-fast
+returns-in_err-fast c =
     let a = c.args in
-    let slow = c.open_full-slow.ensures in
-    record {
-      number = (let compared : let a = c.args in c.compare-number.result ≡ opening_two a.full.now a.high.now a.serial.now = let a = c.args in
-          c.compare-number.ensures a.serial.now
-          (sym c.open_full-slow.ensures.number ∙ c.if-slow-ne-DONE.false)
-          (sym c.open_high-fast.ensures.number ∙ c.if-fast-ne-DONE.false) in compared);
-      known = λ _. rw (eq-eqb a.speed 0 c.if-speed-eq0.true) (slow.known c.if-slow-ne-DONE.false);
-    }
-
-pub returns : goal.returns
-returns c =
-    let a = c.args in
-    let fast = c.open_high-fast.ensures in
-    record {
-      number = (let compared : let a = c.args in c.compare-number.result ≡ opening_two a.full.now a.high.now a.serial.now = let a = c.args in
-          c.compare-number.ensures a.serial.now
-          (sym c.open_full-slow.ensures.number ∙ c.if-slow-ne-DONE.false)
-          (sym c.open_high-fast.ensures.number ∙ c.if-fast-ne-DONE.false) in compared);
-      known = λ _. rw (ne_eqb a.speed 0 c.if-speed-eq0.false) (fast.known c.if-fast-ne-DONE.false);
-    }
+    let b = c.in_err-fast.field-0.0 in
+    let slow = rw c.paired_full.ensures at c.in_ok-slow.ensures in
+    let fast = rw c.high_speed.ensures at c.in_err-fast.ensures in
+    let stop = c.from_residual-in_err-fast in
+    refusal-told _ _ _ _ _ stop.result b stop.ensures.1 (refused-second a.full.now a.high.now a.serial.now 0 _ (sym slow.opens.0) refl fast.refuses (number-nonzero b))

@@ -1,5 +1,5 @@
 -- `trimming::count_kept` meets its contract. No axiom.
-use Rattle.octets.proofs.Vocabulary.{◌≡◌, ◌+◌, ◌-◌, ◌≤◌, length}
+use Rattle.octets.proofs.Vocabulary.{◌≡◌, ◌+◌, ◌≤◌, length}
 use Rattle.octets.specs.Sentences.{only}
 use Rattle.sets.specs.Contents.{entries}
 use Rattle.sets.proofs.Entries.{rest}
@@ -7,7 +7,4 @@ use Rattle.trimming.specs.Keeping.{keeps_by}
 use Rattle.trimming.proofs.count_kept.Given as goal
 
 abbrev pub invariant-loop-i : goal.invariant-loop-i
-invariant-loop-i l = (l.n ≤ l.i) × (length (only (keeps_by l.names l.zero) (entries l.contents)) ≡ l.n + length (only (keeps_by l.names l.zero) (rest l.contents l.i)))
-
-abbrev pub decreases-loop-i : goal.decreases-loop-i
-decreases-loop-i l = l.count - l.i
+invariant-loop-i l = (l.n ≤ l.i) × (length (only (keeps_by l.keeping.names l.keeping.zero) (entries l.contents)) ≡ l.n + length (only (keeps_by l.keeping.names l.keeping.zero) (rest l.contents l.i)))

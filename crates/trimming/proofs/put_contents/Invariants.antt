@@ -1,5 +1,5 @@
 -- `trimming::put_contents` meets its contract: the entries that are left. No axiom.
-use Rattle.octets.proofs.Vocabulary.{◌+◌, ◌-◌, ◌<◌}
+use Rattle.octets.proofs.Vocabulary.{◌+◌, ◌<◌}
 use Rattle.octets.specs.Sentences.{only}
 use Rattle.sets.specs.Contents.{entries}
 use Rattle.sets.proofs.Entries.{rest}
@@ -10,8 +10,5 @@ use Rattle.trimming.proofs.put_contents.Given as goal
 
 abbrev pub invariant-loop-i : goal.invariant-loop-i
 invariant-loop-i l =
-    (l.offset + lengths (only (keeps_by l.names l.zero) (rest l.contents l.i)) < 65536)
-    × Going l.initial.out l.at (contents_with l.start (only (keeps_by l.names l.zero) (entries l.contents))) l.out l.next (contents_with l.offset (only (keeps_by l.names l.zero) (rest l.contents l.i)))
-
-abbrev pub decreases-loop-i : goal.decreases-loop-i
-decreases-loop-i l = l.count - l.i
+    (l.offset + lengths (only (keeps_by l.keeping.names l.keeping.zero) (rest l.contents l.i)) < 65536)
+    × Going l.initial.w (contents_with l.start (only (keeps_by l.keeping.names l.keeping.zero) (entries l.contents))) l.w (contents_with l.offset (only (keeps_by l.keeping.names l.keeping.zero) (rest l.contents l.i)))

@@ -1,9 +1,6 @@
 -- A descriptor never starts past the byte that is compared.
-use Rattle.std.proofs.Common.{length, ◌-◌, ◌≤◌}
+use Rattle.std.proofs.Common.{◌≤◌}
 use Rattle.bench_answers.proofs.explain.differ_in_sizes.Given as goal
 
 abbrev pub invariant-loop-k : goal.invariant-loop-k
-invariant-loop-k l = (l.start ≤ l.k) × (l.k ≤ length l.ours)
-
-abbrev pub decreases-loop-k : goal.decreases-loop-k
-decreases-loop-k l = length l.ours - l.k
+invariant-loop-k l = l.start ≤ l.k

@@ -6,5 +6,5 @@ use Rattle.board.proofs.makers.hk_import.Goals as goal
 
 pub returns : goal.returns
 returns c =
-    let w = c.import-report.ensures.fills in
+    let w = rw (← c.number_imported-number.ensures) at c.import.ensures.fills in
     record { fills = w; counts = c.length_written.ensures ∙ counted (pieces_for c.args.dump.now) w; octets = λ k. omega (arith, c.type_inv.dump k) }

@@ -3,7 +3,12 @@ use Rattle.octets.proofs.Vocabulary.{ap, ◌∙◌}
 use Rattle.pair_rules.proofs.First.{told-number}
 use Rattle.board.proofs.makers.hk_two_explain.Goals as goal
 
-pub returns : goal.returns
-returns c =
-    let e = c.explain_two-told.ensures in
-    record { number = ap (λ r. r.number) e ∙ told-number _ _ _; about = ap (λ r. r.block) e; broken = ap (λ r. r.rule) e; lies = ap (λ r. r.place) e }
+pub returns-in-Ok : goal.returns-in-Ok
+returns-in-Ok c =
+    let e = c.in-Ok.ensures in
+    record { number = ap (λ r. r.number) e ∙ told-number c.args.full.now c.args.high.now c.args.serial.now; about = ap (λ r. r.block) e; broken = ap (λ r. r.rule) e; lies = ap (λ r. r.place) e }
+
+pub returns-in-Err : goal.returns-in-Err
+returns-in-Err c =
+    let e = c.in-Err.ensures in
+    record { number = c.number.ensures ∙ ap (λ r. r.number) e ∙ told-number c.args.full.now c.args.high.now c.args.serial.now; about = c.number_of_block.ensures ∙ ap (λ r. r.block) e; broken = ap (λ r. r.rule) e; lies = ap (λ r. r.place) e }

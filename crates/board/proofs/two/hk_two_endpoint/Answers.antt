@@ -2,29 +2,26 @@
 use Rattle.octets.proofs.Vocabulary.{◌≡◌, ap, ◌∙◌}
 use Rattle.sets.specs.Opening.{lent_two}
 use Rattle.events.specs.Answer.{number_of, part_of}
+use Rattle.events.specs.Coded.{answer_in}
 use Rattle.steps.specs.Endpoint.{endpoint_on}
 use Rattle.board.specs.Exports.{spot_of}
 use Rattle.board.proofs.EndpointImages.{inside}
 use Rattle.board.proofs.Spots.{lies_in}
-use Rattle.board.proofs.TwoSets.{used, chosen, place, openable, endpoint-two, shows-two, lies-two}
+use Rattle.board.proofs.TwoSets.{chosen, place, openable, endpoint-two, shows-two, lies-two}
 use Rattle.board.proofs.two.hk_two_endpoint.Goals as goal
 
 pub answer_on-answer-requires : goal.answer_on-answer-requires
 answer_on-answer-requires c =
     let a = c.args in
-    openable a.full.now a.high.now a.serial.now a.image.now ((let in_use : let a = c.args in c.in_use-set.result.now ≡ used a.full.now a.high.now a.serial.now a.image.now = let a = c.args in
-    chosen a.full.now a.high.now a.serial.now a.image.now c.peek.ensures c.in_use-set.ensures.bytes in in_use)) c.opening_two-opening.ensures
+    openable a.full.now a.high.now a.serial.now a.image.now (chosen a.full.now a.high.now a.serial.now a.image.now c.peek.ensures c.in_use-set.ensures.bytes) c.opened-accepted.ensures
 
 pub part-requires : goal.part-requires
 part-requires c =
     let a = c.args in
-    rw (
-      (let in_use : let a = c.args in c.in_use-set.result.now ≡ used a.full.now a.high.now a.serial.now a.image.now = let a = c.args in
-          chosen a.full.now a.high.now a.serial.now a.image.now c.peek.ensures c.in_use-set.ensures.bytes in in_use),
-      (let answered : let a = c.args in c.answer_on-answer.result ≡ endpoint_on (lent_two a.full.now a.high.now a.serial.now) a.image.now a.number = let a = c.args in
-          c.answer_on-answer.ensures ∙ endpoint-two a.full.now a.high.now a.serial.now a.image.now ((let in_use : let a = c.args in c.in_use-set.result.now ≡ used a.full.now a.high.now a.serial.now a.image.now = let a = c.args in
-          chosen a.full.now a.high.now a.serial.now a.image.now c.peek.ensures c.in_use-set.ensures.bytes in in_use)) c.opening_two-opening.ensures a.number in answered),
-    ) (inside (lent_two a.full.now a.high.now a.serial.now) a.image.now a.number)
+    let b = lent_two a.full.now a.high.now a.serial.now in
+    let used = chosen a.full.now a.high.now a.serial.now a.image.now c.peek.ensures c.in_use-set.ensures.bytes in
+    let e : answer_in c.answer_on-answer.result ≡ endpoint_on b a.image.now a.number = c.answer_on-answer.ensures ∙ endpoint-two a.full.now a.high.now a.serial.now a.image.now used c.opened-accepted.ensures a.number in
+    rw (used, e) (inside b a.image.now a.number)
 
 pub returns : goal.returns
 returns c =
@@ -32,16 +29,14 @@ returns c =
     let f = spot_of a.full.ref_ptr in
     let h = spot_of a.high.ref_ptr in
     let b = spot_of a.serial.ref_ptr in
+    let used = chosen a.full.now a.high.now a.serial.now a.image.now c.peek.ensures c.in_use-set.ensures.bytes in
     let there = place a.full.now a.high.now a.serial.now a.image.now c.peek.ensures c.in_use-set.result.ref_ptr a.full.ref_ptr a.high.ref_ptr c.in_use-set.ensures.block c.in_use-set.ensures.offset in
-    let e : let a = c.args in c.answer_on-answer.result ≡ endpoint_on (lent_two a.full.now a.high.now a.serial.now) a.image.now a.number = let a = c.args in
-    c.answer_on-answer.ensures ∙ endpoint-two a.full.now a.high.now a.serial.now a.image.now ((let in_use : let a = c.args in c.in_use-set.result.now ≡ used a.full.now a.high.now a.serial.now a.image.now = let a = c.args in
-    chosen a.full.now a.high.now a.serial.now a.image.now c.peek.ensures c.in_use-set.ensures.bytes in in_use)) c.opening_two-opening.ensures a.number in
+    let e : answer_in c.answer_on-answer.result ≡ endpoint_on (lent_two a.full.now a.high.now a.serial.now) a.image.now a.number =
+    c.answer_on-answer.ensures ∙ endpoint-two a.full.now a.high.now a.serial.now a.image.now used c.opened-accepted.ensures a.number in
     let part = c.part.ensures in
     record {
       number = c.number.ensures ∙ ap number_of e;
-      shows = part.bytes ∙ shows-two a.full.now a.high.now a.serial.now a.image.now ((let in_use : let a = c.args in c.in_use-set.result.now ≡ used a.full.now a.high.now a.serial.now a.image.now = let a = c.args in
-          chosen a.full.now a.high.now a.serial.now a.image.now c.peek.ensures c.in_use-set.ensures.bytes in in_use)) f h b there e;
-      lies = lies_in a.full.ref_ptr c.in_use-set.result.ref_ptr a.serial.ref_ptr c.part.result.ref_ptr (part_of c.answer_on-answer.result) part.block part.offset
-          ∙ lies-two a.full.now a.high.now a.serial.now a.image.now ((let in_use : let a = c.args in c.in_use-set.result.now ≡ used a.full.now a.high.now a.serial.now a.image.now = let a = c.args in
-          chosen a.full.now a.high.now a.serial.now a.image.now c.peek.ensures c.in_use-set.ensures.bytes in in_use)) f h b there e;
+      shows = part.bytes ∙ shows-two a.full.now a.high.now a.serial.now a.image.now used f h b there e;
+      lies = lies_in a.full.ref_ptr c.in_use-set.result.ref_ptr a.serial.ref_ptr c.part.result.ref_ptr (part_of (answer_in c.answer_on-answer.result)) part.block part.offset
+          ∙ lies-two a.full.now a.high.now a.serial.now a.image.now used f h b there e;
     }

@@ -1,6 +1,4 @@
 -- `descriptors::check::good_companions` meets its contract: what is asked of all is asked of the descriptors ahead. No axiom.
--- where they are asked for
--- the descriptor at hand ends inside the body
 use Rattle.octets.proofs.Vocabulary.{◌-◌, false, length, drop}
 use Rattle.descriptors.specs.Cut.{cut}
 use Rattle.descriptors.specs.Walk.{before, stand_in, walked}

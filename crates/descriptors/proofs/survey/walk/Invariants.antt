@@ -1,5 +1,4 @@
 -- `descriptors::survey::walk` meets its contract: what was seen and what is ahead tell of the whole. No axiom.
--- one descriptor on
 use Rattle.octets.proofs.Vocabulary.{◌-◌, length, drop}
 use Rattle.descriptors.specs.Cut.{cut}
 use Rattle.descriptors.specs.Walk.{before, stand_in, walked}

@@ -1,5 +1,4 @@
 -- `descriptors::walk::behind` meets its contract: descriptors of types that no walk looks at, two in a turn. No axiom.
--- the first of the two, and the second
 use Rattle.octets.proofs.Vocabulary.{◌-◌, length}
 use Rattle.descriptors.specs.Walk.{Plains}
 use Rattle.descriptors.proofs.walk.behind.Given as goal

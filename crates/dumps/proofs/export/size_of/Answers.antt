@@ -8,7 +8,7 @@ use Rattle.dumps.proofs.export.size_of.Goals as goal
 pub loop-i-preserved : goal.loop-i-preserved
 loop-i-preserved c =
     let l = c.loop-i in
-    let t = next-entry c.args.set.now _ c.peek-count.ensures _ c.loop-i-test.true _ c.entry_at-e.ensures in
+    let t = next-entry c.args.set.now _ c.peek-count.ensures _ c.loop-i-test.true _ c.entry_at.ensures in
     (omega (arith, c.share_of-size.ensures.1), omega (arith, l.invariant.1, c.share_of-size.ensures.0, ap shares t ∙ shares-more _ _))
 
 pub returns : goal.returns

@@ -1,41 +1,40 @@
 -- `dumps::import::import` meets its contract, answer by answer. No axiom.
-use Rattle.octets.proofs.Vocabulary.{sym, ℕ, length-replicate, arith}
-use Rattle.set_writer.specs.Stream.{stream_of}
-use Rattle.dumps.specs.Dump.{pieces_for}
+use Rattle.octets.proofs.Vocabulary.{refl, sym, ◌∙◌, length-take-le, arith}
+use Rattle.std.proofs.Common.{rules}
+use Rattle.octets.proofs.Sentences.{neither}
+use Rattle.std.proofs.lemmas.Bool.{ltb-false}
 use Rattle.dumps.proofs.Splitting.{is_whole}
-use Rattle.dumps.proofs.Streaming.{stream-size}
-use Rattle.dumps.proofs.Importing.{many, large, written_out, aside}
+use Rattle.dumps.proofs.Importing.{too_much, written_out, room_aside, ends-inside, aside, handed_on}
 use Rattle.dumps.proofs.import.import.Goals as goal
 
-pub returns-then-n-gt-MOST_BODIES : goal.returns-then-n-gt-MOST_BODIES
-returns-then-n-gt-MOST_BODIES c =
-    let a = c.args in
-    let w = is_whole a.dump.now _ (sym c.in-Bodies.ensures) in
-    rw c.answer-then-n-gt-MOST_BODIES.ensures (many a.dump.now a.out.now w.0 (omega (arith, w.1)))
+pub returns-then-n-dump : goal.returns-then-n-dump
+returns-then-n-dump c =
+    let w = is_whole c.args.dump.now c.in_ok-n.n (sym c.split.ensures ∙ grind arith) in
+    too_much c.args.dump.now c.args.out.now w.0 _ w.1 c.if-n-dump.true
 
-pub returns-then-dump-gt-LONGEST_SET : goal.returns-then-dump-gt-LONGEST_SET
-returns-then-dump-gt-LONGEST_SET c =
-    let a = c.args in
-    let w = is_whole a.dump.now _ (sym c.in-Bodies.ensures) in
-    rw c.answer-then-dump-gt-LONGEST_SET.ensures (large a.dump.now a.out.now w.0 c.if-dump-gt-LONGEST_SET.true)
+pub put_stream-requires : goal.put_stream-requires
+put_stream-requires c =
+    let w = is_whole c.args.dump.now c.in_ok-n.n (sym c.split.ensures ∙ grind arith) in
+    let few = ltb-false 63 c.in_ok-n.n (neither _ _ c.if-n-dump.false).0 in
+    record { dump_value = w.0; dump_len_bound = omega (arith, w.1, few); room = room_aside c.args.dump.now c.in_ok-n.n w.0 w.1 c.if-n-dump.false }
 
-pub put_stream-used-requires : goal.put_stream-used-requires
-put_stream-used-requires c =
-    let a = c.args in
-    let dump = a.dump.now in
-    let w = is_whole dump _ (sym c.in-Bodies.ensures) in
-    record { dump_value = w.0; dump_len_bound = omega (arith, w.1); room = omega (arith, w.1, stream-size dump w.0, length-replicate {A = ℕ} 16768 0) }
+pub slice_bounds-stream-end : goal.slice_bounds-stream-end
+slice_bounds-stream-end c =
+    let w = is_whole c.args.dump.now c.in_ok-n.n (sym c.split.ensures ∙ grind arith) in
+    ends-inside refl (room_aside c.args.dump.now c.in_ok-n.n w.0 w.1 c.if-n-dump.false) c.put_stream.ensures (search rules)
 
 pub slice_bounds-write-end : goal.slice_bounds-write-end
 slice_bounds-write-end c =
-    let a = c.args in
-    let dump = a.dump.now in
-    let w = is_whole dump _ (sym c.in-Bodies.ensures) in
-    omega (arith, w.1, stream-size dump w.0, length-replicate {A = ℕ} 16768 0, c.put_stream-used.ensures.place)
+    let w = is_whole c.args.dump.now c.in_ok-n.n (sym c.split.ensures ∙ grind arith) in
+    sym (length-take-le _ _ (ends-inside refl (room_aside c.args.dump.now c.in_ok-n.n w.0 w.1 c.if-n-dump.false) c.put_stream.ensures (search rules)))
 
-pub returns-else-dump-gt-LONGEST_SET : goal.returns-else-dump-gt-LONGEST_SET
-returns-else-dump-gt-LONGEST_SET c =
-    let a = c.args in
-    let dump = a.dump.now in
-    let w = is_whole dump _ (sym c.in-Bodies.ensures) in
-    written_out dump a.out.now w.0 _ (aside _ (stream_of (pieces_for dump)) _ _ (omega (arith, w.1, stream-size dump w.0, length-replicate {A = ℕ} 16768 0)) c.put_stream-used.ensures) (rw c.full_speed.ensures at c.write.ensures)
+pub returns-in_err-write : goal.returns-in_err-write
+returns-in_err-write c =
+    let w = is_whole c.args.dump.now c.in_ok-n.n (sym c.split.ensures ∙ grind arith) in
+    let stream = aside refl (room_aside c.args.dump.now c.in_ok-n.n w.0 w.1 c.if-n-dump.false) c.put_stream.ensures (search rules) in
+    handed_on c.from_residual-in_err-write.result c.in_err-write.field-0.0 c.from_residual-in_err-write.ensures.1 (written_out c.args.dump.now c.args.out.now w.0 _ stream (rw c.full_speed.ensures at c.in_err-write.ensures))
+
+pub returns : goal.returns
+returns c =
+    let w = is_whole c.args.dump.now c.in_ok-n.n (sym c.split.ensures ∙ grind arith) in
+    written_out c.args.dump.now c.args.out.now w.0 _ (aside refl (room_aside c.args.dump.now c.in_ok-n.n w.0 w.1 c.if-n-dump.false) c.put_stream.ensures (search rules)) (rw c.full_speed.ensures at c.in_ok-write.ensures)

@@ -14,16 +14,16 @@ returns-then-count_of-ne1 c =
     let a = c.args in
     sole-other a.set.now (is_qualifier_of (device_body a.other.now)) (entries_of 6 a.set.now) (λ p. c.if-count_of-ne1.true (c.count_of.ensures ∙ p)) ∙ ap (sole (is_qualifier_of (device_body a.other.now))) (of-kind a.set.now 6)
 
-pub returns-in-At : goal.returns-in-At
+pub returns-in-Some : goal.returns-in-Some
 unfolding qualifies
-returns-in-At c =
+returns-in-Some c =
     let a = c.args in
     rw (c.is_qualifier.ensures, c.device_body.ensures, c.body_of.ensures)
     (sole-one a.set.now (is_qualifier_of (device_body a.other.now)) (entries_of 6 a.set.now) (sym c.count_of.ensures ∙ c.if-count_of-ne1.false)
-    (sym c.entry_of.ensures ∙ c.in-At.is) ∙ ap (sole (is_qualifier_of (device_body a.other.now))) (of-kind a.set.now 6))
+    (sym c.entry_of.ensures ∙ c.in-Some.is) ∙ ap (sole (is_qualifier_of (device_body a.other.now))) (of-kind a.set.now 6))
 
-pub returns-in-Nothing : goal.returns-in-Nothing
+pub returns-in-None : goal.returns-in-None
 unfolding qualifies
-returns-in-Nothing c =
+returns-in-None c =
     let a = c.args in
-    sole-missing a.set.now (is_qualifier_of (device_body a.other.now)) (entries_of 6 a.set.now) (sym c.entry_of.ensures ∙ c.in-Nothing.is) ∙ ap (sole (is_qualifier_of (device_body a.other.now))) (of-kind a.set.now 6)
+    sole-missing a.set.now (is_qualifier_of (device_body a.other.now)) (entries_of 6 a.set.now) (sym c.entry_of.ensures ∙ c.in-None.is) ∙ ap (sole (is_qualifier_of (device_body a.other.now))) (of-kind a.set.now 6)

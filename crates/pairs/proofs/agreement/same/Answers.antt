@@ -1,13 +1,10 @@
 -- `pairs::agreement::same` meets its contract: what is compared, and the rest still to be. No axiom.
-use Rattle.octets.proofs.Vocabulary.{refl, sym, ◌∙◌, arith}
+use Rattle.octets.proofs.Vocabulary.{sym, ◌∙◌, arith}
 use Rattle.pairs.proofs.Same.{same_turn, same_end, same-lengths}
 use Rattle.pairs.proofs.agreement.same.Goals as goal
 
 pub returns-then-a-b : goal.returns-then-a-b
 returns-then-a-b c = let a = c.args in same-lengths a.a.now a.b.now c.if-a-b.true
-
-pub loop-i-init : goal.loop-i-init
-loop-i-init c = (c.if-a-b.false, omega arith, refl)
 
 pub loop-i-preserved : goal.loop-i-preserved
 loop-i-preserved c =

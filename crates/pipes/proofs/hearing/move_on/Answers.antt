@@ -3,5 +3,5 @@ use Rattle.octets.proofs.Vocabulary.{sym, ◌∙◌}
 use Rattle.pipes.proofs.Fitting.{received-fits}
 use Rattle.pipes.proofs.hearing.move_on.Goals as goal
 
-pub turned-turn-requires : goal.turned-turn-requires
-turned-turn-requires c = let a = c.args in rw c.read.ensures (received-fits a.lengths a.pipe.now (sym c.fits_in.ensures ∙ c.if-fits_in.true))
+pub turned-requires : goal.turned-requires
+turned-requires c = let a = c.args in rw c.read.ensures (received-fits a.lengths a.pipe.now (sym c.fits_in.ensures ∙ c.if-not-fits_in.false))

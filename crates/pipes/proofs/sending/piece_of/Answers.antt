@@ -3,5 +3,5 @@ use Rattle.octets.proofs.Vocabulary.{arith}
 use Rattle.packets.proofs.Sizes.{inside}
 use Rattle.pipes.proofs.sending.piece_of.Goals as goal
 
-pub overflow_add-transfer : goal.overflow_add-transfer
-overflow_add-transfer c = let t = c.args.transfer in rw c.packet_of-here.ensures (omega (arith, inside t.length t.asked t.size t.moved))
+pub overflow_add-result : goal.overflow_add-result
+overflow_add-result c = let t = c.args.transfer in omega (arith, rw (← c.in-Some.ensures) at (inside t.length t.asked t.size t.moved))

@@ -7,19 +7,19 @@ use Rattle.records.proofs.Image.{device-sized, image-device}
 use Rattle.records.proofs.Putting.{settled-sixteen, settles-once}
 use Rattle.records.proofs.renewal.renew.Goals as goal
 
-pub returns-then-image-eq-IMAGE_LENGTH : goal.returns-then-image-eq-IMAGE_LENGTH
+pub returns-in-Some : goal.returns-in-Some
 unfolding renewed
-returns-then-image-eq-IMAGE_LENGTH c =
+returns-in-Some c =
     let a = c.args in
     let image = a.image.now in
-    let long = c.if-image-eq-IMAGE_LENGTH.true in
+    let long = c.in-Some.ensures.cases.long in
     let bytes : (i : ℕ) → byte image i < 256 = λ i. search rules in
     let d = device_of image in
     let w = waits_after a.change in
-    let settled = rw c.waits_after.ensures at (c.settle.ensures d (sym (image-device image long bytes))) in
+    let settled = rw c.waits_after.ensures at (c.settle.ensures d (c.in-Some.ensures.cases.same ∙ sym (image-device image long bytes))) in
     rw (eq-eqb _ _ long)
     (c.apply.ensures (settled_with a.settles w d) (settled-sixteen a.settles w d (device-sized image long bytes).sixteen) settled ∙ ap image_of (settles-once a.settles a.change d))
 
-pub returns-else-image-eq-IMAGE_LENGTH : goal.returns-else-image-eq-IMAGE_LENGTH
+pub returns-in_default : goal.returns-in_default
 unfolding renewed
-returns-else-image-eq-IMAGE_LENGTH c = rw (ne_eqb _ _ c.if-image-eq-IMAGE_LENGTH.false)
+returns-in_default c = rw (ne_eqb _ _ c.in_default.ensures.cases)

@@ -1,39 +1,27 @@
 -- `rules::configuration::companions_fault` meets its contract. No axiom.
-use Rattle.octets.proofs.Vocabulary.{refl, sym, ap, ◌∙◌, eqb, arith}
-use Rattle.descriptors.specs.Walk.{stand_in, pace_of}
-use Rattle.rules.proofs.Steps.{goes_on, companions-stuck, companions-on, companions-end}
+use Rattle.octets.proofs.Vocabulary.{sym, ap, ◌∙◌, eqb, le_refl}
+use Rattle.std.specs.Option.{option_or}
+use Rattle.descriptors.specs.Walk.{stand_in}
+use Rattle.rules.proofs.After.{ends}
+use Rattle.rules.proofs.Steps.{companions-stuck, companions-on, companions-end}
 use Rattle.rules.proofs.configuration.companions_fault.Goals as goal
 
-pub loop-at-init : goal.loop-at-init
-loop-at-init c = refl
-
-pub overflow_cast-place : goal.overflow_cast-place
-overflow_cast-place c = omega (arith, c.loop-at-test.true, c.requires)
-
-pub returns-then-end-at : goal.returns-then-end-at
-returns-then-end-at c =
+pub returns-in_default : goal.returns-in_default
+returns-in_default c =
     let l = c.loop-at in
-    let a = c.args in
-    sym (l.invariant ∙ companions-stuck a.start a.body.now l.at l.behind l.due l.found (stand_in l.last) _ c.advance-step.ensures.steps c.loop-at-test.true c.if-end-at.true)
-
-pub slice_bounds-d-end : goal.slice_bounds-d-end
-slice_bounds-d-end c = (goes_on c.args.body.now c.loop-at.at (stand_in c.loop-at.last) (pace_of c.advance-step.result) c.advance-step.ensures.steps c.loop-at-test.true c.if-end-at.false).inside
-
-pub loop-at-smaller : goal.loop-at-smaller
-loop-at-smaller c =
-    let i = (goes_on c.args.body.now c.loop-at.at (stand_in c.loop-at.last) (pace_of c.advance-step.result) c.advance-step.ensures.steps c.loop-at-test.true c.if-end-at.false).inside in
-    omega (arith, i, c.if-end-at.false, c.loop-at-test.true)
+    let body = c.args.body.now in
+    sym (l.invariant ∙ companions-stuck body.start body.bytes.now l.at l.behind l.due l.found (stand_in l.last) _ c.in_default.ensures.steps c.loop-at-test.true (le_refl c.loop-at.at))
 
 pub loop-at-preserved : goal.loop-at-preserved
 loop-at-preserved c =
     let l = c.loop-at in
-    let a = c.args in
-    let s = c.advance-step in
+    let body = c.args.body.now in
+    let s = c.in-Some.ensures in
     l.invariant
-    ∙ companions-on a.start a.body.now l.at l.behind l.due l.found (stand_in l.last) _ s.ensures.steps c.loop-at-test.true c.if-end-at.false c.companion_fault-found.ensures (ap (λ t. eqb t 5) c.peek-due.ensures)
+    ∙ companions-on body.start body.bytes.now l.at l.behind l.due l.found (stand_in l.last) _ s.steps.steps c.loop-at-test.true s.onward (ends _ c.or-found.ensures _ c.companion_fault.ensures) (ap (λ t. eqb t 5) c.peek-due.ensures)
 
 pub returns : goal.returns
 returns c =
     let l = c.loop-at in
-    let a = c.args in
-    c.ask.ensures ∙ sym (l.invariant ∙ companions-end a.start a.body.now l.at l.behind l.due l.found c.loop-at-test.false)
+    let body = c.args.body.now in
+    c.or.ensures ∙ ap (option_or l.found) c.ask.ensures ∙ sym (l.invariant ∙ companions-end body.start body.bytes.now l.at l.behind l.due l.found c.loop-at-test.false)

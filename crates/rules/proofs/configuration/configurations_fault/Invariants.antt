@@ -1,7 +1,7 @@
 -- `rules::configuration::configurations_fault` meets its contract. No axiom.
-use Rattle.octets.proofs.Vocabulary.{◌≡◌, ◌+◌, ◌-◌, ◌*◌, ◌≤◌, List, [], length}
+use Rattle.octets.proofs.Vocabulary.{◌≡◌, ◌+◌, ◌*◌, ◌≤◌, List, [], length}
 use Rattle.sets.proofs.Entries.{rest}
-use Rattle.rules.specs.After.{after}
+use Rattle.rules.specs.After.{after, first_of}
 use Rattle.sets.specs.Contents.{entries}
 use Rattle.rules.specs.Configuration.{configurations_from}
 use Rattle.rules.proofs.Entries.{Seen}
@@ -10,7 +10,4 @@ use Rattle.rules.proofs.configuration.configurations_fault.Given as goal
 abbrev pub invariant-loop-i : goal.invariant-loop-i
 invariant-loop-i l =
     (l.index ≤ l.i) × (length l.seen ≡ 8) × (earlier : List (List _)) × Seen l.seen earlier
-    × (after l.initial.found (configurations_from l.limits l.set 4 0 [] (entries l.set)) ≡ after l.found (configurations_from l.limits l.set (4 + 8 * l.i) l.index earlier (rest l.set l.i)))
-
-abbrev pub decreases-loop-i : goal.decreases-loop-i
-decreases-loop-i l = l.count - l.i
+    × (first_of (configurations_from l.limits l.set 4 0 [] (entries l.set)) ≡ after l.found (configurations_from l.limits l.set (4 + 8 * l.i) l.index earlier (rest l.set l.i)))

@@ -1,12 +1,11 @@
 -- `rules::languages::in_every_language` meets its contract: the table is right for the languages passed. No axiom.
-use Rattle.octets.proofs.Vocabulary.{◌≡◌, ℕ, ◌+◌, ◌-◌, ◌≤◌, ◌<◌, ◌&&◌, length, drop}
+use Rattle.octets.proofs.Vocabulary.{◌≡◌, ℕ, ◌*◌, ◌<◌, ◌&&◌, drop}
 use Rattle.octets.specs.Table.{has}
 use Rattle.sets.specs.Pieces.{pieces_in, pieces_of}
 use Rattle.sets.specs.Strings.{words, in_every}
 use Rattle.rules.proofs.languages.in_every_language.Given as goal
 
-abbrev pub invariant-loop-at : goal.invariant-loop-at
-invariant-loop-at l = (l.at ≤ length l.languages + 2) × ((j : ℕ) → j < 256 → in_every (words (drop 2 l.languages)) (pieces_of 3 (pieces_in l.set)) j ≡ (has l.table j && in_every (words (drop l.at l.languages)) (pieces_of 3 (pieces_in l.set)) j))
-
-abbrev pub decreases-loop-at : goal.decreases-loop-at
-decreases-loop-at l = length l.languages - l.at
+abbrev pub invariant-loop-i : goal.invariant-loop-i
+invariant-loop-i l =
+    (j : ℕ) → j < 256
+    → in_every (words (drop 2 l.languages)) (pieces_of 3 (pieces_in l.set)) j ≡ (has l.table j && in_every (words (drop (2 * l.i) l.languages)) (pieces_of 3 (pieces_in l.set)) j)

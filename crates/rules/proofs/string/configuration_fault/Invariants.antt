@@ -7,7 +7,7 @@ use Rattle.rules.proofs.string.configuration_fault.Given as goal
 
 abbrev pub invariant-loop-at : goal.invariant-loop-at
 invariant-loop-at l =
-    after l.initial.found (interfaces_from l.set l.e.offset 0 (cut l.body)) ≡ after l.found (interfaces_from l.set l.e.offset l.at (cut (drop l.at l.body)))
+    after l.initial.found (interfaces_from l.judge.set.now l.body.start 0 (cut l.bytes)) ≡ after l.found (interfaces_from l.judge.set.now l.body.start l.at (cut (drop l.at l.bytes)))
 
 abbrev pub decreases-loop-at : goal.decreases-loop-at
-decreases-loop-at l = length l.body - l.at
+decreases-loop-at l = length l.bytes - l.at

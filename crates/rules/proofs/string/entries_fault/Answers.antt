@@ -1,45 +1,27 @@
 -- `rules::string::entries_fault` meets its contract. No axiom.
-use Rattle.octets.proofs.Vocabulary.{sym, ap, ◌∙◌, ◌+◌, ◌*◌, drop}
-use Rattle.sets.proofs.Entries.{rest-start, next-entry, no-entry}
+use Rattle.octets.proofs.Vocabulary.{sym, ◌∙◌, ◌+◌, ◌*◌, drop}
+use Rattle.sets.proofs.Entries.{asked-next, asked-end}
 use Rattle.rules.specs.After.{after}
 use Rattle.sets.specs.Strings.{words}
 use Rattle.rules.specs.Strings.{strings_from}
+use Rattle.rules.proofs.After.{ends}
 use Rattle.rules.proofs.Entries.{string-in, string-past, strings-end}
+use Rattle.rules.proofs.string.entries_fault.Goals.{then-e-eq-STRING, else-e-eq-STRING}
 use Rattle.rules.proofs.string.entries_fault.Goals as goal
-
-pub loop-i-init : goal.loop-i-init
-loop-i-init c = let a = c.args in ap (λ es. after a.found (strings_from a.set.now (words (drop 2 a.zero.now)) a.serial 4 es)) (rest-start a.set.now)
-
-pub entry_fault-found-requires : goal.entry_fault-found-requires
-entry_fault-found-requires c = c.requires
-
-pub loop-i-preserved-then-e-eq-STRING : goal.loop-i-preserved-then-e-eq-STRING
-loop-i-preserved-then-e-eq-STRING c =
-    let a = c.args in
-    let l = c.loop-i in
-    let set = a.set.now in
-    l.invariant
-    ∙ ap (λ es. after l.found (strings_from set (words (drop 2 a.zero.now)) a.serial (4 + 8 * l.i) es))
-    (next-entry set c.peek-count.result c.peek-count.ensures l.i c.loop-i-test.true c.entry_at-e.result c.entry_at-e.ensures)
-    ∙ string-in set (words (drop 2 a.zero.now)) a.serial l.i l.found c.entry_at-e.result _ c.if-e-eq-STRING.true (rw c.body_of.ensures at c.entry_fault-found.ensures)
 
 pub loop-i-preserved : goal.loop-i-preserved
 loop-i-preserved c =
     let a = c.args in
     let l = c.loop-i in
-    let set = a.set.now in
-    l.invariant
-    ∙ ap (λ es. after l.found (strings_from set (words (drop 2 a.zero.now)) a.serial (4 + 8 * l.i) es))
-    (next-entry set c.peek-count.result c.peek-count.ensures l.i c.loop-i-test.true c.entry_at-e.result c.entry_at-e.ensures)
-    ∙ string-past set (words (drop 2 a.zero.now)) a.serial l.i l.found c.entry_at-e.result _ c.if-e-eq-STRING.false
+    let e = c.entry_at-e in
+    let turn = asked-next (λ es. after l.found (strings_from a.set.now (words (drop 2 a.zero.now.bytes.now)) a.serial (4 + 8 * l.i) es)) a.set.now _ c.peek-i-end.ensures l.i l.invariant c.loop-i-test.true e.result e.ensures in
+    elim c.if-e-eq-STRING.branch [
+      | then-e-eq-STRING w ↦ turn ∙ string-in a.set.now (words (drop 2 a.zero.now.bytes.now)) a.serial l.i l.found e.result _ w.if-e-eq-STRING.true (ends _ w.or-found.ensures _ w.entry_fault.ensures) ∙ rw w.found-is
+      | else-e-eq-STRING w ↦ turn ∙ string-past a.set.now (words (drop 2 a.zero.now.bytes.now)) a.serial l.i l.found e.result _ w.if-e-eq-STRING.false ∙ rw w.found-is
+    ]
 
 pub returns : goal.returns
 returns c =
     let a = c.args in
     let l = c.loop-i in
-    let set = a.set.now in
-    sym
-    (l.invariant
-    ∙ ap (λ es. after l.found (strings_from set (words (drop 2 a.zero.now)) a.serial (4 + 8 * l.i) es))
-    (no-entry set c.peek-count.result c.peek-count.ensures l.i c.loop-i-test.false)
-    ∙ strings-end set (words (drop 2 a.zero.now)) a.serial (4 + 8 * l.i) l.found)
+    sym (asked-end (λ es. after l.found (strings_from a.set.now (words (drop 2 a.zero.now.bytes.now)) a.serial (4 + 8 * l.i) es)) a.set.now _ c.peek-i-end.ensures l.i l.invariant c.loop-i-test.false ∙ strings-end a.set.now (words (drop 2 a.zero.now.bytes.now)) a.serial (4 + 8 * l.i) l.found)

@@ -1,36 +1,32 @@
 -- `rules::string::strings_fault` meets its contract. No axiom.
-use Rattle.octets.proofs.Vocabulary.{◌≡◌, refl, sym, ◌∙◌, [], arith}
-use Rattle.sets.specs.Strings.{words}
-use Rattle.sets.proofs.Strings.{zero-some, zero-none, languages-of}
-use Rattle.rules.proofs.Entries.{zero-small}
+use Rattle.std.specs.Prelude.{Option, Some, None, is_some as is_there}
+use Rattle.octets.proofs.Vocabulary.{◌≡◌, sym, ◌∙◌, List, ℕ}
+use Rattle.octets.specs.Sentences.{first, is_some}
+use Rattle.sets.specs.declared.Entry.{Entry}
+use Rattle.sets.specs.Contents.{entries}
+use Rattle.sets.specs.Device.{device_body, iSerialNumber}
+use Rattle.sets.specs.Found.{found, is_at}
+use Rattle.sets.specs.Strings.{string_zero, languages}
+use Rattle.sets.proofs.Pieces.{none_of}
+use Rattle.sets.proofs.Strings.{zero-some, zero-none}
+use Rattle.rules.specs.Strings.{strings_from, listed_from, device_references, references_from}
+use Rattle.rules.proofs.After.{joins, then-rule, then-list, ends}
 use Rattle.rules.proofs.string.strings_fault.Goals as goal
 
-no_words : words [] ≡ []
-unfolding words
-no_words = refl
+zero-there : (set : List ℕ) {o : Option Entry} → o ≡ found (first (is_at 3 0 0) (entries set)) → is_there o ≡ is_some (string_zero set)
+zero-there set {o = None} p = rw (zero-none set (sym p))
+zero-there set {o = Some e} p = rw (zero-some set (sym p))
 
-pub judged_fault-requires : goal.judged_fault-requires
-judged_fault-requires c =
+pub of-judge-requires-clause-found : goal.of-judge-requires-clause-found
+of-judge-requires-clause-found c = c.is_some-there.ensures ∙ zero-there c.args.set.now c.find_entry.ensures
+
+pub returns : goal.returns
+returns c =
     let set = c.args.set.now in
-    let p = zero-some set (sym c.find_entry.ensures ∙ c.in-At.is) in
-    record {
-      listed = rw c.body_of.ensures (sym (languages-of set p));
-      found = rw p;
-      small = rw c.body_of.ensures (zero-small set (λ k. (c.type_inv.set k).fits) (sym c.find_entry.ensures ∙ c.in-At.is));
-    }
-
-pub judged_fault-requires-in-Nothing : goal.judged_fault-requires-in-Nothing
-judged_fault-requires-in-Nothing c =
-    let set = c.args.set.now in
-    let p = zero-none set (sym c.find_entry.ensures ∙ c.in-Nothing.is) in
-    record {
-      listed = no_words ∙ sym (languages-of set p);
-      found = rw p;
-      small = omega arith;
-    }
-
-pub returns-in-At : goal.returns-in-At
-returns-in-At c = c.judged_fault.ensures
-
-pub returns-in-Nothing : goal.returns-in-Nothing
-returns-in-Nothing c = c.judged_fault-in-Nothing.ensures
+    let listed = c.string_zero-zero.ensures in
+    let j = c.of-judge.result.judges in
+    joins None (strings_from set (languages set) (iSerialNumber (device_body set)) 4 (entries set)) _ (rw (listed, j.index, c.of-judge.ensures) at c.entries_fault.ensures)
+    (then-rule _ c.or.ensures _ _ (rw (none_of set 3, c.is_some-there.ensures, zero-there set c.find_entry.ensures) at c.missing_fault.ensures)
+    (then-list _ c.or-2.ensures (listed_from set (languages set) 4 (entries set)) _ (rw listed at c.listed_fault.ensures)
+    (then-list _ c.or-3.ensures (device_references set) _ (rw c.of-judge.ensures at c.device_fault.ensures)
+    (ends _ c.or-4.ensures (references_from set (entries set)) (rw c.of-judge.ensures at c.references_fault.ensures)))))

@@ -12,14 +12,14 @@ returns-then-count_of-ne1 c =
     let a = c.args in
     sole-other a.set.now good_store (entries_of 15 a.set.now) (λ p. c.if-count_of-ne1.true (c.count_of.ensures ∙ p)) ∙ ap (sole good_store) (of-kind a.set.now 15)
 
-pub returns-in-At : goal.returns-in-At
-returns-in-At c =
+pub returns-in-Some : goal.returns-in-Some
+returns-in-Some c =
     let a = c.args in
     rw (c.good_store.ensures, c.body_of.ensures)
     (sole-one a.set.now good_store (entries_of 15 a.set.now) (sym c.count_of.ensures ∙ c.if-count_of-ne1.false)
-    (sym c.entry_of.ensures ∙ c.in-At.is) ∙ ap (sole good_store) (of-kind a.set.now 15))
+    (sym c.entry_of.ensures ∙ c.in-Some.is) ∙ ap (sole good_store) (of-kind a.set.now 15))
 
-pub returns-in-Nothing : goal.returns-in-Nothing
-returns-in-Nothing c =
+pub returns-in-None : goal.returns-in-None
+returns-in-None c =
     let a = c.args in
-    sole-missing a.set.now good_store (entries_of 15 a.set.now) (sym c.entry_of.ensures ∙ c.in-Nothing.is) ∙ ap (sole good_store) (of-kind a.set.now 15)
+    sole-missing a.set.now good_store (entries_of 15 a.set.now) (sym c.entry_of.ensures ∙ c.in-None.is) ∙ ap (sole good_store) (of-kind a.set.now 15)

@@ -2,11 +2,8 @@
 use Rattle.octets.proofs.Vocabulary.{sym, ap, ◌∙◌}
 use Rattle.octets.specs.Sentences.{first}
 use Rattle.sets.specs.Found.{found, is_at}
-use Rattle.sets.proofs.Entries.{rest-start, asked-next, asked-end, first-here, first-later, first-empty}
+use Rattle.sets.proofs.Entries.{asked-next, asked-end, first-here, first-later, first-empty}
 use Rattle.sets.proofs.contents.find_entry.Goals as goal
-
-pub loop-i-init : goal.loop-i-init
-loop-i-init c = let a = c.args in ap (first (is_at a.kind a.index a.language)) (rest-start a.set.now)
 
 pub returns-then-e-kind : goal.returns-then-e-kind
 returns-then-e-kind c =

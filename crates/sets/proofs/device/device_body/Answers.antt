@@ -6,12 +6,12 @@ use Rattle.sets.proofs.Pieces.{of-kind}
 use Rattle.sets.proofs.Devices.{head-found, head-missing}
 use Rattle.sets.proofs.device.device_body.Goals as goal
 
-pub returns-in-At : goal.returns-in-At
-returns-in-At c =
+pub returns-in-Some : goal.returns-in-Some
+returns-in-Some c =
     let set = c.args.set.now in
-    c.body_of.ensures ∙ head-found set (entries_of 1 set) (sym c.entry_of.ensures ∙ c.in-At.is) ∙ ap head_body (of-kind set 1)
+    c.body_of.ensures ∙ head-found set (entries_of 1 set) (sym c.entry_of.ensures ∙ c.in-Some.is) ∙ ap head_body (of-kind set 1)
 
-pub returns-in-Nothing : goal.returns-in-Nothing
-returns-in-Nothing c =
+pub returns-in-None : goal.returns-in-None
+returns-in-None c =
     let set = c.args.set.now in
-    head-missing set (entries_of 1 set) (sym c.entry_of.ensures ∙ c.in-Nothing.is) ∙ ap head_body (of-kind set 1)
+    head-missing set (entries_of 1 set) (sym c.entry_of.ensures ∙ c.in-None.is) ∙ ap head_body (of-kind set 1)

@@ -1,12 +1,9 @@
 -- `sets::string::lists` meets its contract: none before this place is the language. No axiom.
-use Rattle.octets.proofs.Vocabulary.{refl, sym, ap, ◌∙◌, eqb, arith, eq-eqb, ne_eqb}
+use Rattle.octets.proofs.Vocabulary.{sym, ap, ◌∙◌, eqb, arith, eq-eqb, ne_eqb}
 use Rattle.octets.specs.Sentences.{member}
 use Rattle.sets.proofs.Strings.{words_more, words-end}
 use Rattle.sets.proofs.Entries.{any-cons, any-empty}
 use Rattle.sets.proofs.string.lists.Goals as goal
-
-pub loop-at-init : goal.loop-at-init
-loop-at-init c = (omega arith, refl)
 
 pub returns-then-language-word : goal.returns-then-language-word
 returns-then-language-word c =

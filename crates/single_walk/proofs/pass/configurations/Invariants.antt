@@ -1,5 +1,5 @@
 -- `single_walk::pass::configurations` meets its contract: what is asked of all configurations is asked of those left, and what is known is known before them. No axiom.
-use Rattle.octets.proofs.Vocabulary.{◌≡◌, ◌-◌, ◌≤◌, map, ◌&&◌, length}
+use Rattle.octets.proofs.Vocabulary.{◌≡◌, ◌≤◌, map, ◌&&◌, length}
 use Rattle.octets.specs.Sentences.{every}
 use Rattle.descriptors.specs.Check.{configuration_refers}
 use Rattle.sets.specs.Contents.{body_of, bodies}
@@ -13,8 +13,5 @@ use Rattle.single_walk.proofs.pass.configurations.Given as goal
 abbrev pub invariant-loop-i : goal.invariant-loop-i
 invariant-loop-i l =
     (l.index ≤ l.i) × (length l.seen ≡ 8) × (good_configurations l.limits (pieces_in l.set) ≡ good_from l.limits l.index l.seen (map (piece_for l.set) (rest_of 2 l.set l.i)))
-    × (every (configuration_refers l.names) (bodies 2 l.set) ≡ (l.refers && every (configuration_refers l.names) (map (body_of l.set) (rest_of 2 l.set l.i))))
-    × Learnt l.set l.value.0 l.alternates l.asked (record { configured = l.configured; waking = l.waking; survey = l.survey }) (rest_of 2 l.set l.i)
-
-abbrev pub decreases-loop-i : goal.decreases-loop-i
-decreases-loop-i l = l.count - l.i
+    × (every (configuration_refers l.names.table.now) (bodies 2 l.set) ≡ (l.refers && every (configuration_refers l.names.table.now) (map (body_of l.set) (rest_of 2 l.set l.i))))
+    × Learnt l.set l.device.configuration l.device.alternates l.asked l.known (rest_of 2 l.set l.i)

@@ -1,22 +1,22 @@
 -- `single_walk::pass::walk_once` meets its contract: the limits ask of a body what those of their speed ask. No axiom.
-use Rattle.octets.proofs.Vocabulary.{sym, ap, ◌∙◌, false≢true}
-use Rattle.descriptors.specs.Check.{verdict, configuration_refers}
+use Rattle.octets.proofs.Vocabulary.{sym, ap, ◌∙◌, false≢true, not-true, not-false}
+use Rattle.descriptors.proofs.CheckReferences.{told}
+use Rattle.single_walk.proofs.Learning.{walked-once}
 use Rattle.single_walk.proofs.pass.walk_once.Goals as goal
-
-pub collect-requires : goal.collect-requires
-collect-requires c = c.requires.1
 
 pub returns-then-selected : goal.returns-then-selected
 returns-then-selected c =
-    let a = c.args in
     let collects = rw c.is_high.ensures at c.collect.ensures in
-    record {
-      verdict = collects.verdict ∙ ap (λ good. verdict good (configuration_refers a.names.now a.body.now)) (sym (c.requires.0 a.body.now));
-      surveyed = λ _. collects.surveyed;
-    }
+    record { good = collects.good ∙ sym (c.requires c.args.body.now); on = walked-once _ _ _ _ _ c.collect.result collects.on }
+
+pub returns-then-not-verdict : goal.returns-then-not-verdict
+returns-then-not-verdict c = record { good = sym (not-true c.good_configuration-verdict.result.good c.if-not-verdict.true) ∙ ap (λ v. v.good) c.good_configuration-verdict.ensures; on = tt }
 
 pub returns : goal.returns
-returns c = record {
-  verdict = c.good_configuration-verdict.ensures;
-  surveyed = λ selected. absurd (false≢true (sym c.if-selected.false ∙ selected));
-}
+returns c =
+    let v = c.good_configuration-verdict in
+    let good = not-false v.result.good c.if-not-verdict.false in
+    record {
+      good = sym good ∙ ap (λ v. v.good) v.ensures;
+      on = record { refers = told v.result _ _ v.ensures good; surveyed = λ selected. absurd (false≢true (sym c.if-selected.false ∙ selected)) };
+    }

@@ -13,11 +13,8 @@ list-requires c =
     let rules = type_allowed 5 ∷ good_endpoint (limits_at a.wanted.high) a.d.now ∷ leb 1 o.coming ∷ free o a.d.now ∷ [] in
     leb-true 1 o.coming (conjunct 2 rules (sym c.may_list.ensures ∙ c.if-may_list.true))
 
-pub with_endpoint-requires : goal.with_endpoint-requires
-with_endpoint-requires c = c.requires.small
-
 pub returns-then-may_list : goal.returns-then-may_list
-returns-then-may_list c = record { may = sym c.if-may_list.true ∙ c.may_list.ensures; on = λ _. rw (c.list.ensures, c.with_endpoint.ensures) }
+returns-then-may_list c = record { may = sym c.if-may_list.true ∙ c.may_list.ensures; on = λ _. record { order = c.list.ensures; role = refl; finds = c.with_endpoint.ensures; refers = refl } }
 
 pub returns : goal.returns
 returns c = record { may = sym c.if-may_list.false ∙ c.may_list.ensures; on = λ e. never e refl }

@@ -5,7 +5,6 @@ use Rattle.descriptors.specs.Walk.{steps_on, Plain}
 use Rattle.descriptors.proofs.Walks.{whole-steps, step-ends, step-sets}
 use Rattle.descriptors.proofs.Plains.{plains-on}
 use Rattle.descriptors.proofs.SequenceRules.{part_bytes}
-use Rattle.descriptors.proofs.Models.{models-low}
 use Rattle.descriptors.proofs.Reaching.{reached-small, reached-long, reached-refused}
 use Rattle.single_walk.proofs.Rules.{no-companions}
 use Rattle.single_walk.proofs.Reaching.{gathered-begin, gathered-behind, gathered-turn, rests-stopped, rests-end}
@@ -60,11 +59,6 @@ slice_bounds-turn-start c = omega (arith, (let ends : c.step_over-step.result.en
 pub slice_bounds-turn-end : goal.slice_bounds-turn-end
 slice_bounds-turn-end c = omega (arith, (let ends : c.step_over-step.result.end ≡ c.loop-at.at + byte c.args.body.now c.loop-at.at = step-ends _ _ _ ((let on : steps_on c.args.body.now c.loop-at.at ≡ true = whole-steps c.args.body.now c.loop-at.at 0 (before-end c.args.body.now c.loop-at-test.true) c.if-size-lt2.false c.if-body-end.false in on)) c.step_over-step.ensures in ends), c.if-body-end.false)
 
-pub turn-turned-requires : goal.turn-turned-requires
-turn-turned-requires c =
-    let pre = c.requires in
-    (models-low (c.loop-at.invariant pre.high pre.asked pre.made).reached.models, pre.zero)
-
 pub loop-at-smaller : goal.loop-at-smaller
 loop-at-smaller c = let m : c.loop-at.at + 1 < length c.args.body.now = omega (arith, c.loop-at-test.true, c.requires.some_bytes) in omega (arith, (let ends : c.step_over-step.result.end ≡ c.loop-at.at + byte c.args.body.now c.loop-at.at = step-ends _ _ _ ((let on : steps_on c.args.body.now c.loop-at.at ≡ true = whole-steps c.args.body.now c.loop-at.at 0 (before-end c.args.body.now c.loop-at-test.true) c.if-size-lt2.false c.if-body-end.false in on)) c.step_over-step.ensures in ends), c.if-size-lt2.false)
 
@@ -83,20 +77,20 @@ returns c =
     let pre = c.requires in
     let l = c.loop-at in
     let body = a.body.now in
-    let good = c.told.ensures.0 in
+    let ends = c.told.ensures in
     λ high asked e.
     let alone = no-companions high in
     let r = l.invariant high asked e in
     elim c.loop-at-test.branch [
-      | else-loop-at-test w ↦ rests-end alone r _ pre.one (omega (arith, w.loop-at-test.false)) (rw w.at-is at good) c.told.ensures.1 c.told.ensures.2
-      | then-loop-at-test+then-size-lt2 w ↦ rests-stopped _ _ _ pre.some_bytes w.at-is good (reached-small alone r.reached (before-end body w.loop-at-test.true) w.if-size-lt2.true)
-      | then-loop-at-test+else-size-lt2+else-t-ge-CLASS+then-body-end w ↦ rests-stopped _ _ _ pre.some_bytes w.at-is good (reached-long alone r.reached (before-end body w.loop-at-test.true) w.if-body-end.true)
+      | else-loop-at-test w ↦ rests-end alone r _ pre.one (omega (arith, w.loop-at-test.false)) (rw w.at-is at ends)
+      | then-loop-at-test+then-size-lt2 w ↦ rests-stopped _ _ pre.some_bytes w.at-is ends (reached-small alone r.reached (before-end body w.loop-at-test.true) w.if-size-lt2.true)
+      | then-loop-at-test+else-size-lt2+else-t-ge-CLASS+then-body-end w ↦ rests-stopped _ _ pre.some_bytes w.at-is ends (reached-long alone r.reached (before-end body w.loop-at-test.true) w.if-body-end.true)
       | then-loop-at-test+else-size-lt2+else-t-ge-CLASS+else-body-end+then-not-turned w ↦
           let h = before-end body w.loop-at-test.true in
           let whole = whole-steps body l.at 0 h w.if-size-lt2.false w.if-body-end.false in
           let ended = step-ends _ _ _ whole w.step_over-step.ensures in
           let bytes = part_bytes body (λ k. omega (arith, c.type_inv.body k)) l.at (w.step_over-step.result.end - l.at) in
           let turned = rw e at w.turn-turned.ensures in
-          rests-stopped _ _ _ pre.some_bytes w.at-is good
+          rests-stopped _ _ pre.some_bytes w.at-is ends
           (reached-refused alone r.reached h w.if-size-lt2.false w.step_over-step.result.end ended (omega (arith, ended, w.if-body-end.false)) (bytes 2) (bytes 3) pre.few (step-sets _ _ _ whole w.step_over-step.ensures) (sym turned.may ∙ not-true _ w.if-not-turned.true))
     ]

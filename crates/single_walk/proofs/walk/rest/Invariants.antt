@@ -7,7 +7,7 @@ use Rattle.single_walk.proofs.walk.rest.Given as goal
 
 abbrev pub invariant-loop-at : goal.invariant-loop-at
 invariant-loop-at l =
-    (high : Bool) (asked : Asked) → l.wanted ≡ wanted_of high asked → Gathered (limits_at high) l.interfaces l.names l.alternates asked l.body l.from l.course l.at
+    (high : Bool) (asked : Asked) → l.wanted ≡ wanted_of high asked → Gathered (limits_at high) l.interfaces l.names.table.now l.alternates asked l.body l.from l.course l.at
 
 abbrev pub decreases-loop-at : goal.decreases-loop-at
 decreases-loop-at l = length l.body + 256 - l.at

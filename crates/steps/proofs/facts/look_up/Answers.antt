@@ -1,8 +1,6 @@
 -- `steps::facts::look_up` meets its contract: the selected body is well cut, since the set opens. No axiom.
-use Rattle.octets.proofs.Vocabulary.{ap, ◌∙◌, arith}
+use Rattle.octets.proofs.Vocabulary.{arith}
 use Rattle.sets.specs.Opening.{lent}
-use Rattle.sets.specs.Found.{is_found}
-use Rattle.steps.specs.Gathering.{body_found}
 use Rattle.steps.proofs.Configurations.{usable}
 use Rattle.steps.proofs.facts.look_up.Goals as goal
 
@@ -10,12 +8,3 @@ pub walk-survey-requires : goal.walk-survey-requires
 walk-survey-requires c = let a = c.args in
     let o = c.requires in
     rw (c.body_found-body.ensures, c.by_value-selected.ensures) (usable o.0 (lent a.set.now a.serial.now) (λ i. omega (arith, c.type_inv.set i)) o.1 a.device.configuration).whole
-
-pub returns : goal.returns
-returns c = let a = c.args in
-    let there = c.by_value-selected.ensures in
-    record {
-      configured = c.is_found.ensures ∙ ap is_found there;
-      waking = c.wakes.ensures;
-      surveyed = rw (c.body_found-body.ensures ∙ ap (body_found a.set.now) there, c.asked_of.ensures) at c.walk-survey.ensures;
-    }

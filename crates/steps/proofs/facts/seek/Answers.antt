@@ -1,13 +1,10 @@
 -- `steps::facts::seek` meets its contract: one by one. No axiom.
-use Rattle.steps.proofs.Telling.{serial-short}
+use Rattle.steps.proofs.Telling.{serial_short}
 use Rattle.steps.proofs.facts.seek.Goals as goal
-
-pub returns-then-opening-ne0 : goal.returns-then-opening-ne0
-returns-then-opening-ne0 c = λ z. absurd (c.if-opening-ne0.true z)
 
 pub locate-requires : goal.locate-requires
 locate-requires c =
-    serial-short c.args.set.now c.args.serial.now (c.requires c.if-opening-ne0.false)
+    serial_short c.args.set.now c.args.serial.now (c.requires c.if-not-accepted.false)
 
 pub returns : goal.returns
 returns c = λ z paired.

@@ -9,29 +9,31 @@ use Rattle.octets.specs.Octets.{byte}
 use Rattle.sets.specs.Device.{device_body}
 use Rattle.trimming.proofs.Naming.{named_by, device-known, bodies_from, may-walk}
 use Rattle.trimming.proofs.keeping.names_of.Goals as goal
+use Rattle.trimming.proofs.keeping.names_of.Goals.{then-e-eq-CONFIGURATION, else-e-eq-CONFIGURATION}
 
-pub with_configuration-table-requires : goal.with_configuration-table-requires
-with_configuration-table-requires c =
+pub join_configuration-requires : goal.join_configuration-requires
+join_configuration-requires c =
     let set = c.args.set.now in
     let l = c.loop-i in
     rw c.body_of.ensures (may-walk set l.i (kind-next 2 set _ c.peek-count.ensures l.i c.loop-i-test.true _ c.entry_at-e.ensures c.if-e-eq-CONFIGURATION.true) l.invariant.1).0
 
-pub loop-i-preserved-then-e-eq-CONFIGURATION : goal.loop-i-preserved-then-e-eq-CONFIGURATION
-loop-i-preserved-then-e-eq-CONFIGURATION c =
-    let set = c.args.set.now in
-    let l = c.loop-i in
-    let q = kind-next 2 set _ c.peek-count.ensures l.i c.loop-i-test.true _ c.entry_at-e.ensures c.if-e-eq-CONFIGURATION.true in (
-      search rules,
-      (may-walk set l.i q l.invariant.1).1,
-      λ j h. l.invariant.2 j h ∙ ap (λ es. has l.table j || any (named_in j) (map (body_of set) es)) q ∙ ap (λ b. has l.table j || b) (any-cons (named_in j) _ _)
-          ∙ sym (or_assoc (has l.table j) _ _) ∙ ap (λ b. b || any (named_in j) (bodies_from set (l.i + 1))) (sym (rw c.body_of.ensures at (c.with_configuration-table.ensures j h))),
-    )
-
 pub loop-i-preserved : goal.loop-i-preserved
 loop-i-preserved c =
+    let set = c.args.set.now in
     let l = c.loop-i in
-    let q = kind-other 2 c.args.set.now _ c.peek-count.ensures l.i c.loop-i-test.true _ c.entry_at-e.ensures c.if-e-eq-CONFIGURATION.false in
-    (l.invariant.0, rw q at l.invariant.1, rw q at l.invariant.2)
+    elim c.if-e-eq-CONFIGURATION.branch [
+      | then-e-eq-CONFIGURATION w ↦
+          let q = kind-next 2 set _ c.peek-count.ensures l.i c.loop-i-test.true _ c.entry_at-e.ensures w.if-e-eq-CONFIGURATION.true in
+          rw w.table-is (
+            w.join_configuration.array_long,
+            (may-walk set l.i q l.invariant.1).1,
+            λ j h. l.invariant.2 j h ∙ ap (λ es. has l.table j || any (named_in j) (map (body_of set) es)) q ∙ ap (λ b. has l.table j || b) (any-cons (named_in j) _ _)
+                ∙ sym (or_assoc (has l.table j) _ _) ∙ ap (λ b. b || any (named_in j) (bodies_from set (l.i + 1))) (sym (rw w.body_of.ensures at (w.join_configuration.ensures j h))),
+          )
+      | else-e-eq-CONFIGURATION w ↦
+          let q = kind-other 2 set _ c.peek-count.ensures l.i c.loop-i-test.true _ c.entry_at-e.ensures w.if-e-eq-CONFIGURATION.false in
+          rw w.table-is (l.invariant.0, rw q at l.invariant.1, rw q at l.invariant.2)
+    ]
 
 pub returns : goal.returns
 returns c =

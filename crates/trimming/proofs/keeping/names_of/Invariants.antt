@@ -1,5 +1,5 @@
 -- `trimming::keeping::names_of` meets its contract: what is in the table or named by the entries that are left. No axiom.
-use Rattle.octets.proofs.Vocabulary.{◌≡◌, ℕ, ◌-◌, ◌<◌, true, ◌||◌, length}
+use Rattle.octets.proofs.Vocabulary.{◌≡◌, ℕ, ◌<◌, true, ◌||◌, length}
 use Rattle.octets.specs.Sentences.{any, every}
 use Rattle.octets.specs.Table.{has}
 use Rattle.descriptors.specs.Cut.{cut, well_cut}
@@ -12,6 +12,3 @@ abbrev pub invariant-loop-i : goal.invariant-loop-i
 invariant-loop-i l =
     (length l.table ≡ 8) × (every (λ b. well_cut (cut b)) (bodies_from l.set l.i) ≡ true)
     × ((j : ℕ) → j < 256 → (has l.initial.table j || any (named_in j) (bodies 2 l.set)) ≡ (has l.table j || any (named_in j) (bodies_from l.set l.i)))
-
-abbrev pub decreases-loop-i : goal.decreases-loop-i
-decreases-loop-i l = l.count - l.i

@@ -1,7 +1,0 @@
--- `rules::configuration::companion_fault` meets its contract. No axiom.
-use Rattle.rules.specs.After.{after}
-use Rattle.rules.proofs.configuration.companion_fault.Goals as goal
-
-pub returns : goal.returns
-unfolding after
-returns c = cc

@@ -1,7 +1,0 @@
--- `rules::device::counts_fault` meets its contract. No axiom.
-use Rattle.rules.specs.After.{after}
-use Rattle.rules.proofs.device.counts_fault.Goals as goal
-
-pub returns : goal.returns
-unfolding after
-returns c = cc

@@ -1,7 +1,0 @@
--- `rules::device::head_fault` meets its contract. No axiom.
-use Rattle.rules.specs.After.{after}
-use Rattle.rules.proofs.device.head_fault.Goals as goal
-
-pub returns : goal.returns
-unfolding after
-returns c = cc

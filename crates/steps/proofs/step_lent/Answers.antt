@@ -1,7 +1,0 @@
--- `steps::step_lent` meets its contract: the record by its image. No axiom.
-use Rattle.records.proofs.Image.{device-image}
-use Rattle.steps.proofs.step_lent.Goals as goal
-
-pub returns : goal.returns
-returns c =
-    rw c.keep.ensures (rw (c.store.ensures.written, device-image c.args.device.now c.store.ensures.sized) at c.reply-answer.ensures)
