@@ -1,7 +1,6 @@
 """The module as the toolchain makes it, brought to the form that the others here read: in text, and for what is made small function by function.
 
 - A function that gives back a pointer, as std's from a slice to an array, is compiled into its callers, so that no result is a pointer.
-- A constant of a few bytes to which a function has a pointer is a variable of that function.
 - A slice that C lends begins where C says, also at NULL; the toolchain's exports have it begin at 4096 then, and nothing is read or written there either way.
 - Bytes are copied one after the other; the toolchain copies at once what does not overlap, by a test of two addresses.
 - A tag is stored alone; the toolchain fills the bytes between it and the first field, too, which belong to neither.
@@ -54,12 +53,6 @@ BROUGHT_IN = re.compile(r"(?<=%)(\w+)((?:\.i\d*)+)\b(?!\.)")
 ENDS_OF_CALLS = re.compile(r"\"[^\"\n]*\.(exit\d*(?:\.i\d*)*)\"(?=[:, ]|$)", re.M)
 
 
-# A constant to which a pointer leads, as one side of a comparison.
-CONSTANT = re.compile(r"^@(static\.\d+) = private unnamed_addr constant \[(\d+) x i8\] (?:zeroinitializer|c\"(.*)\"), align (\d+)\n", re.M)
-# So many bytes of one become a variable: what is longer is a table, and a table is written as a variable (tables.py).
-SHORT = 8
-
-
 # ---- in text
 def marked(text):
     """The text with what gives back a pointer marked, to be compiled into its callers; None if nothing does."""
@@ -68,7 +61,6 @@ def marked(text):
 
 
 def plain(text):
-    text = with_own_constants(text)
     text = ENDS_OF_CALLS.sub(r"\1", BROUGHT_IN.sub(lambda found: found[1] + found[2].replace(".", "_"), text))
     text = NULL_GUARD.sub(r"  \5 = getelementptr i8, ptr \2, i64 0\n", text)
     text = CONSTANT_TAG.sub(r"  store i8 \1, \2", WIDENED_TAG.sub(r"  store i8 \2, \4", text))
@@ -80,30 +72,6 @@ def plain(text):
     if left := re.search(rf"^.*(?:{PAIR}|\bnull\b|\bextractvalue\b|store i(?:16|32|64) .*, align 1$).*", text, re.M):
         raise Unexpected(f"a line of another form: {left[0].strip()}")
     return text
-
-
-def with_own_constants(text):
-    """A constant to which a function has a pointer is a variable of it, filled before it begins."""
-    found = {one[1]: (bytes(int(word[1:], 16) if len(word) > 1 else ord(word) for word in re.findall(r"\\[0-9A-F]{2}|.", one[3] or "")), int(one[4])) for one in CONSTANT.finditer(text)}
-
-    def filled(head, body):
-        for name in sorted(set(re.findall(r"@(static\.\d+)", body))):
-            values, alignment = found[name]
-            if len(values) > SHORT:
-                raise Unexpected(f"a pointer to a constant of {len(values)} bytes: {head.strip()}")
-            word = "%" + name.replace(".", "_")
-            kind = "i8" if len(values) == 1 else f"[{len(values)} x i8]"
-            lines = [f"{word} = alloca {kind}, align {alignment}"]
-            lines += [f"call void @{FILL}(ptr {word}, i8 0, i64 {len(values)}, i1 false)"] if len(values) > 1 else []
-            lines += [f"store i8 {values[0]}, ptr {word}, align 1"] if values else []
-            for at in range(1, len(values)):
-                lines += [f"{word}_{at} = getelementptr i8, ptr {word}, i64 {at}", f"store i8 {values[at]}, ptr {word}_{at}, align 1"]
-            label, rest = body.split("\n", 1)
-            body = "\n".join([label, *(f"  {line}" for line in lines), rest.replace(f"@{name},", f"{word},").replace(f"@{name})", f"{word})")])
-        return head + body
-
-    text = re.sub(r"^(define [^\n]* \{\n)(.*?)(?=^\})", lambda one: filled(one[1], one[2]) if "@static" in one[2] else one[0], text, flags=re.M | re.S)
-    return CONSTANT.sub("", text)
 
 
 def reached_blocks(body):

@@ -5,6 +5,12 @@ use crate::report::{How, Transfer};
 use descriptors::types;
 use requests::{FROM_DEVICE, FROM_INTERFACE, GET_DESCRIPTOR, GET_STATUS, Refusal};
 
+// The numbers of the refusals that are explained.
+// Kept: an answer holds its refusal as a number, and these are compared with it.
+const REQUEST_UNKNOWN: u8 = Refusal::RequestUnknown as u8;
+
+const DOES_NOT_EXIST: u8 = Refusal::DoesNotExist as u8;
+
 // Bits 6-5 of bmRequestType.
 const CLASS: u8 = 1;
 
@@ -12,7 +18,7 @@ const VENDOR: u8 = 2;
 
 const UNEXPLAINED: &str = "unexplained";
 
-// Each rule is about the setup bytes, what refuses us and the two answers.
+// Each rule is about the setup bytes, our number and the two answers.
 pub fn reason(transfer: Transfer) -> &'static str {
     let request_type = octets::peek(transfer.setup, 0);
     let code = octets::peek(transfer.setup, 1);
@@ -20,16 +26,14 @@ pub fn reason(transfer: Transfer) -> &'static str {
     if transfer.how == How::Stalled {
         return "the device stalls";
     }
-    match (transfer.refusal, request_type, code) {
-        (Some(Refusal::RequestUnknown), _, _) => not_built(request_type, code),
-        (Some(Refusal::DoesNotExist), FROM_DEVICE, GET_DESCRIPTOR) => no_descriptor(asked),
-        (None, FROM_DEVICE, GET_STATUS) => other_status(
+    match (transfer.number, request_type, code) {
+        (REQUEST_UNKNOWN, _, _) => not_built(request_type, code),
+        (DOES_NOT_EXIST, FROM_DEVICE, GET_DESCRIPTOR) => no_descriptor(asked),
+        (0, FROM_DEVICE, GET_STATUS) => other_status(
             octets::peek(transfer.ours, 0),
             octets::peek(transfer.recorded, 0),
         ),
-        (None, FROM_DEVICE, GET_DESCRIPTOR) => {
-            other_bytes(asked, transfer.ours, transfer.recorded)
-        }
+        (0, FROM_DEVICE, GET_DESCRIPTOR) => other_bytes(asked, transfer.ours, transfer.recorded),
         _ => UNEXPLAINED,
     }
 }

@@ -4,7 +4,7 @@
 // make the records.
 #![tactic(auto)]
 
-ghost use Rattle.std.specs.Prelude.{◌≤◌};
+ghost use Rattle.std.specs.Prelude.{◌≤◌, IfOk, IfSome, vec_len};
 
 mod buffer;
 mod explain;
@@ -82,7 +82,9 @@ fn size_of(head: &[u8; HEAD]) -> usize
 }
 
 // Reads the next record; there is none at the stream's end, and where a record is cut short or too long.
-fn read_question(alloc: Global, input: &mut impl Read) -> Result<Option<Vec<u8>>, AllocError> {
+fn read_question(alloc: Global, input: &mut impl Read) -> Result<Option<Vec<u8>>, AllocError>
+    ensures { IfOk result (λ found. IfSome found (λ question. vec_len question ≤ 65536)) }
+{
     let mut head = [0u8; HEAD];
     if input.read_exact(&mut head).is_err() {
         return Ok(None);

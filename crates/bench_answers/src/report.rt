@@ -2,7 +2,6 @@
 use crate::explain;
 use crate::words::print_bytes;
 use events::{Answer, reply};
-use requests::Refusal;
 use sets::opening::Broken;
 use std::io;
 
@@ -25,13 +24,14 @@ impl From<u8> for How {
     }
 }
 
-// A transfer as it was recorded, and as it is answered: what refuses it, and the bytes.
+// A transfer as it was recorded, and as it is answered: the number and the bytes.
+// Kept: a number and no Refusal, since an answer holds a number.
 #[derive(Clone, Copy)]
 pub struct Transfer<'a> {
     pub setup: &'a [u8],
     pub how: How,
     pub recorded: &'a [u8],
-    pub refusal: Option<Refusal>,
+    pub number: u8,
     pub ours: &'a [u8],
 }
 
@@ -46,7 +46,8 @@ pub fn opened(rt: &impl Print, opening: Result<(), Broken>) -> io::Result<()> {
 }
 
 // The setup bytes and our answer: the number, how many bytes, and the bytes.
-fn answered(rt: &impl Print, number: u8, transfer: Transfer) -> io::Result<()> {
+fn answered(rt: &impl Print, transfer: Transfer) -> io::Result<()> {
+    let number = transfer.number;
     print_bytes(rt, transfer.setup, SHOWN)?;
     print!(rt; " -> {number}")?;
     let ours = transfer.ours;
@@ -61,9 +62,9 @@ fn answered(rt: &impl Print, number: u8, transfer: Transfer) -> io::Result<()> {
 // Whether the device answered the same: the same bytes, or a refusal as well.
 fn is_same(transfer: Transfer) -> bool {
     if transfer.how == How::Stalled {
-        return transfer.refusal.is_some();
+        return transfer.number != 0;
     }
-    transfer.refusal.is_none() && transfer.ours == transfer.recorded
+    transfer.number == 0 && transfer.ours == transfer.recorded
 }
 
 fn compared(rt: &impl Print, transfer: Transfer) -> io::Result<()> {
@@ -75,14 +76,6 @@ fn compared(rt: &impl Print, transfer: Transfer) -> io::Result<()> {
     }
     let reason = explain::reason(transfer);
     println!(rt; ": differs: {reason}")
-}
-
-// What refuses, if an answer is a refusal.
-fn refusal_of(answer: Answer) -> Option<Refusal> {
-    match answer {
-        Answer::Refused(refusal) => Some(refusal),
-        _ => None,
-    }
 }
 
 // The line of a transfer: our answer is the bytes handed back, or else the part.
@@ -104,9 +97,9 @@ pub fn print_transfer<'a>(
         setup,
         how,
         recorded,
-        refusal: refusal_of(answer),
+        number: reply::number(answer),
         ours,
     };
-    answered(rt, reply::number(answer), transfer)?;
+    answered(rt, transfer)?;
     compared(rt, transfer)
 }

@@ -25,9 +25,9 @@ pub fn answer_on(
 {
     if image.len() != IMAGE_LENGTH {
         if accepted {
-            return Answer::Refused(Refusal::RecordDoesNotFit);
+            return Answer::Refused(Refusal::RecordDoesNotFit as u8);
         }
-        return Answer::Refused(Refusal::SetNotAcceptable);
+        return Answer::Refused(Refusal::SetNotAcceptable as u8);
     }
     steps::current::endpoint(accepted, paired, set, serial, records::load(image), number)
 }

@@ -185,7 +185,7 @@ pub extern "C" fn hk_packet<'a>(
     *cut = packets::cut(reply, asked, size, number);
     match packets::packet_of(reply.len(), asked, size, number) {
         Some(_) => 0,
-        None => numbers::NO_SUCH_PACKET,
+        None => packets::NO_SUCH_PACKET,
     }
 }
 

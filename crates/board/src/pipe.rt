@@ -29,8 +29,8 @@ fn hear(
         (response_in result) image.new pipe.new }
 {
     match hearing::look(set, serial, reply, wire, pipe) {
-        Moved::Ordered(order) => response::plain(None, order),
-        Moved::Unfit => response::plain(Some(Refusal::RecordDoesNotFit), Order::Nothing),
+        Moved::Ordered(order) => response::plain(0, order as u8),
+        Moved::Unfit => response::plain(Refusal::RecordDoesNotFit as u8, Order::Nothing as u8),
         Moved::Told => {
             let accepted = crate::opened(set, serial);
             let what = hearing::library_event(wire, setup);
@@ -51,15 +51,15 @@ fn finish<'a>(
     out: &mut [u8; 6],
     part: &mut &'a [u8],
 ) -> u8
-    ensures number { result ≡ (response_in response).number }
-    ensures out { out.new ≡ out_bytes (response_in response) (room_for (response_in response).order (transfer_of pipe.now)) }
+    ensures number { result ≡ response.number }
+    ensures out { out.new ≡ out_bytes (response_in response) (room_for response.order (transfer_of pipe.now)) }
     ensures part { HandsPiece first.now used.now serial.now reply.now first.entry.ref_ptr used.entry.ref_ptr serial.entry.ref_ptr reply.entry.ref_ptr
-        (sent (lengths_in used.now serial.now reply.now) (response_in response).order (transfer_of pipe.now)) part.new.now part.new.ref_ptr }
+        (sent (lengths_in used.now serial.now reply.now) response.order (transfer_of pipe.now)) part.new.now part.new.ref_ptr }
 {
     let next = pipes::image::read(pipe);
     response::write_out(response, next, out);
     *part = response::part_sent(first, used, serial, reply, response.order, next);
-    response::number(response)
+    response.number
 }
 
 // Any event of the pipe, by its number: its number; order, count, the two bytes and the room in one block; the part that is sent.
@@ -101,10 +101,10 @@ fn hear_two<'a>(
 {
     let used = steps::in_use(full, high, octets::peek(image, 7));
     match hearing::look(used, serial, reply, wire, pipe) {
-        Moved::Ordered(order) => response::plain(None, order),
-        Moved::Unfit => response::plain(Some(Refusal::RecordDoesNotFit), Order::Nothing),
+        Moved::Ordered(order) => response::plain(0, order as u8),
+        Moved::Unfit => response::plain(Refusal::RecordDoesNotFit as u8, Order::Nothing as u8),
         Moved::Told => {
-            let accepted = crate::two::opened(full, high, serial);
+            let accepted = crate::two::opened(full, high, serial).is_ok();
             let what = hearing::library_event(wire, setup);
             let answer = crate::happen(accepted, true, used, serial, image, what);
             response::settle(used, pipe, wire, requests::setup_of(setup), answer)

@@ -1,6 +1,7 @@
 // A board that lends two sets, one for each speed, and one serial block. Both sets are opened, one after the other, before the event's frame stands.
 // Kept: the C interface names the parameters of the hk_ functions; inner ones are lent them side by side, since a struct would lend slices by address.
-ghost use Rattle.std.specs.Prelude.{◌≡◌, eqb};
+ghost use Rattle.std.specs.Prelude.{◌≡◌};
+ghost use Rattle.sets.specs.Broken.{opened_number};
 ghost use Rattle.sets.specs.Opening.{lent_two};
 ghost use Rattle.sets.specs.Pair.{opening_two};
 ghost use Rattle.records.specs.Image.{device_of};
@@ -10,6 +11,7 @@ ghost use Rattle.board.specs.Lent.{OpensBytes};
 use crate::{endpoint, numbers};
 use events::{Event, Refusal, reply};
 use records::{Change, Device, IMAGE_LENGTH};
+use sets::opening::Broken;
 
 // Opens two sets with their serial block: the image becomes the fresh record, whether they are accepted or not.
 #[unsafe(no_mangle)]
@@ -23,11 +25,11 @@ pub extern "C" fn hk_two_open(full: &[u8], high: &[u8], serial: &[u8], image: &m
     sets::opening::number(pairs::opening_two(full, high, serial))
 }
 
-// Opening for an event: whether it opens. A function of its own, so that what it lends has given up its place on the stack when the event's parts are lent theirs.
-pub fn opened(full: &[u8], high: &[u8], serial: &[u8]) -> bool
-    ensures { result ≡ eqb (opening_two full.now high.now serial.now) 0 }
+// Opening for an event. A function of its own, so that what it lends has given up its place on the stack when the event's parts are lent theirs.
+pub fn opened(full: &[u8], high: &[u8], serial: &[u8]) -> Result<(), Broken>
+    ensures { opened_number result ≡ opening_two full.now high.now serial.now }
 {
-    pairs::opening_two(full, high, serial).is_ok()
+    pairs::opening_two(full, high, serial)
 }
 
 // Any event, by its number: its number; the bytes handed back and how many count; the part of the set in use or the serial block.
@@ -48,7 +50,7 @@ pub extern "C" fn hk_two_event<'a>(
         (spots_two (spot_of full.entry.ref_ptr) (spot_of high.entry.ref_ptr) (spot_of serial.entry.ref_ptr)) image.old (numbered kind value setup.now)
         result image.new bytes.new count.new part.new.now (spot_of part.new.ref_ptr) }
 {
-    let accepted = opened(full, high, serial);
+    let accepted = opened(full, high, serial).is_ok();
     let set = steps::in_use(full, high, octets::peek(image, 7));
     let what = numbers::event_of(kind, value, setup);
     let answer = crate::happen(accepted, true, set, serial, image, what);
@@ -70,7 +72,7 @@ fn image_event<'a>(
         (spots_two (spot_of full.entry.ref_ptr) (spot_of high.entry.ref_ptr) (spot_of serial.entry.ref_ptr)) (device_of image.old) what
         result (device_of image.new) bytes.new count.new part.new.now (spot_of part.new.ref_ptr) }
 {
-    let accepted = opened(full, high, serial);
+    let accepted = opened(full, high, serial).is_ok();
     let set = steps::in_use(full, high, octets::peek(image, 7));
     let answer = steps::reply_in(accepted, true, set, serial, image, what);
     numbers::hand_out_of(full, set, serial, answer, bytes, count, part)
@@ -138,7 +140,7 @@ pub extern "C" fn hk_two_endpoint<'a>(
         (spots_two (spot_of full.entry.ref_ptr) (spot_of high.entry.ref_ptr) (spot_of serial.entry.ref_ptr)) image.now number
         result descriptor.new.now (spot_of descriptor.new.ref_ptr) }
 {
-    let accepted = opened(full, high, serial);
+    let accepted = opened(full, high, serial).is_ok();
     let set = steps::in_use(full, high, octets::peek(image, 7));
     let answer = endpoint::answer_on(accepted, true, set, serial, image, number);
     *descriptor = reply::part(full, set, serial, answer);

@@ -44,7 +44,7 @@ impl Writer<'_> {
 pub fn tail(bytes: &[u8], at: usize) -> &[u8]
     ensures { result.now ≡ drop at bytes.now }
 {
-    bytes.get(at..).unwrap_or(&[])
+    bytes.get(at..).unwrap_or(&bytes[..0])
 }
 
 // The first of some bytes.

@@ -1,5 +1,5 @@
 -- A few numbers stand for the check's progress and for where the last descriptor stands. No axiom.
-use Rattle.octets.proofs.Vocabulary.{◌≡◌, refl, sym, ap, ◌∙◌, ℕ, ◌+◌, ◌*◌, ◌≤◌, ◌<◌, List, [], ◌∷◌, Bool, true, false, ◌&&◌, ◌||◌, not, and-true, and-false, or-false, length, eqb, leb, ltb, arith, eq-eqb, ne_eqb, lt-ltb, le-ltb, eqb-true, eqb-false, ltb-true, ltb-false, leb-true, leb-false}
+use Rattle.octets.proofs.Vocabulary.{◌≡◌, refl, sym, ap, ◌∙◌, ℕ, ◌+◌, ◌*◌, ◌%◌, ◌≤◌, ◌<◌, List, [], ◌∷◌, Bool, true, false, ◌&&◌, ◌||◌, not, and-true, and-false, or-true, or-false, length, eqb, leb, ltb, arith, eq-eqb, ne_eqb, lt-ltb, le-ltb, eqb-true, eqb-false, ltb-true, ltb-false, leb-true, leb-false}
 use Rattle.octets.specs.Bit.{bit}
 use Rattle.octets.specs.Octets.{word}
 use Rattle.octets.specs.Sentences.{pick, ◌⇒◌}
@@ -15,6 +15,7 @@ use Rattle.descriptors.specs.Configuration.{bit_of}
 use Rattle.descriptors.specs.Walk.{before, before_first, stand_of}
 use Rattle.descriptors.specs.Check.{Progress, placed, fresh, may_begin, may_list, allowed, at_interface, at_endpoint, ended, beginning}
 use Rattle.descriptors.specs.declared.sequence.Order.{Order}
+use Rattle.descriptors.specs.Low.{low as is_low}
 use Rattle.descriptors.specs.Sequence.{next_of, settles, begins, BegunBy, free, listable, listed_in, setting_out}
 
 pub record Models (o : Order) (w : Progress) (last : Stand) : Type 0 where
@@ -38,6 +39,16 @@ models-begin = record {
   inside = λ p. never p refl;
   outside = λ _. (refl, refl, refl, refl);
 }
+
+-- the last setting is low
+pub models-low : {o : Order} {w : Progress} {last : Stand} → Models o w last → is_low o.last ≡ true
+models-low {o} {w} {last} m = cases last.inside
+    (λ p.
+    let x = m.inside p in
+    let small = lt-ltb o.last 131072 (omega (arith, x.0, x.1, x.2)) in
+    let one = lt-ltb (o.last % 256) 16 (omega (arith, x.0, x.1, x.2)) in
+    rw (small, one, or-true))
+    (λ p. rw (m.outside p).2)
 
 -- ---- where an interface descriptor may come
 module _ (last : Stand) (t : Setting) where

@@ -6,7 +6,6 @@ use Rattle.octets.specs.Sentences.{pick}
 use Rattle.octets.specs.Table.{has}
 use Rattle.descriptors.specs.declared.limits.Limits.{Limits}
 use Rattle.descriptors.specs.declared.sequence.Order.{Order}
-use Rattle.descriptors.specs.declared.sequence.Placing.{Placing}
 use Rattle.descriptors.specs.declared.checked.Checked.{Checked}
 use Rattle.descriptors.specs.Descriptor.{bDescriptorType, is_interface, is_endpoint, bNumEndpoints, iInterface, bEndpointAddress, transfer_type, good_address, good_attributes, good_size, good_interval, type_allowed, good_endpoint}
 use Rattle.descriptors.specs.Configuration.{bit_of}
@@ -25,7 +24,7 @@ pub record Takes (o : Order) (setting others own : ℕ) : Type 0 where
   pub owns : own ≡ pick (eqb setting (o.last + 256)) o.own 0
   pub takes : (e : ℕ) → e < 32 → bit others e ≡ pick (eqb setting (o.last + 256)) (bit o.others e) (bit o.others e || bit o.own e)
 
-pub record Places (o : Order) (setting : ℕ) (r : Option Placing) : Type 0 where
+pub record Places (o : Order) (setting : ℕ) (r : Option Order) : Type 0 where
   pub may : is_some r ≡ settles o.last setting
   pub on : IfSome r (λ p. Takes o setting p.others p.own)
 

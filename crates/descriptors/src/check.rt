@@ -126,7 +126,11 @@ fn good_rest(body: &[u8], from: usize, interfaces: u8, limits: Limits, names: &[
     requires { Ready body.now interfaces from }
     ensures { result ≡ verdict (walked (checking (unaccompanied limits) interfaces) starting before (cut (drop from body.now))) (every (has names.now) (collected referring body.now before from)) }
 {
-    let mut checked = set_out();
+    // Kept: order and references stand apart in the loop, where a compiler keeps them in registers. To open 16,000 bytes of endpoints hk_open takes
+    // 155,394 instructions on x86-64, and with one `Checked` in the loop 164,304.
+    let start = set_out();
+    let mut order = start.order;
+    let mut refers = start.refers;
     let mut at = from;
     let last = body.len() - 1;
     while at < last {
@@ -145,22 +149,23 @@ fn good_rest(body: &[u8], from: usize, interfaces: u8, limits: Limits, names: &[
             at = last;
             break;
         }
-        let step = walk::step_over(body, at, checked.order.last);
+        let step = walk::step_over(body, at, order.last);
         let next = step.end;
+        let checked = Checked { order, refers };
         let Some(turned) = turn(&body[at..next], step.setting, checked, limits, names) else {
             at = last;
             break;
         };
-        checked = turned;
+        order = turned.order;
+        refers = turned.refers;
         at = next;
     }
-    let order = checked.order;
     let good = (at == body.len())
         & (sequence::next_of(order.last) == interfaces as u32)
         & (order.coming == 0);
     Verdict {
         good,
-        refers: good & checked.refers,
+        refers: good & refers,
     }
 }
 

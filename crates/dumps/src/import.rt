@@ -69,6 +69,11 @@ pub fn import(dump: &[u8], out: &mut [u8]) -> Result<(), NotImported>
     };
     crate::put_stream(&mut w, dump);
     let used = w.at;
-    set_writer::write(&stream[..used], &[], descriptors::limits::full_speed(), out)?;
+    set_writer::write(
+        &stream[..used],
+        &dump[..0],
+        descriptors::limits::full_speed(),
+        out,
+    )?;
     Ok(())
 }

@@ -1,5 +1,4 @@
 -- Working definitions for the contracts of the code that answers; no promise cites them. The code's answer and outcome, as the definitions have them.
-use Rattle.requests.specs.Refusal.{number_of_refusal}
 use Rattle.events.specs.declared.Answer.{Answer as Coded}
 use Rattle.events.specs.declared.Answer.TheVariants as code
 use Rattle.events.specs.declared.Outcome.{Outcome as CodedOutcome}
@@ -11,7 +10,7 @@ answer_in (code.OneByte a) = OneByte a
 answer_in (code.TwoBytes a b) = TwoBytes a b
 answer_in (code.SetPart offset size) = SetPart offset size
 answer_in (code.SerialPart size) = SerialPart size
-answer_in (code.Refused r) = Refused (number_of_refusal r)
+answer_in (code.Refused n) = Refused n
 
 abbrev pub outcome_in : CodedOutcome → Outcome
 outcome_in o = gives (answer_in o.answer) o.device

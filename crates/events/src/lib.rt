@@ -41,7 +41,8 @@ pub enum Answer {
     TwoBytes(u8, u8),
     SetPart { offset: u16, length: u16 },
     SerialPart { length: u16 },
-    Refused(Refusal),
+    // Kept: a number and no Refusal, since `reply::number`, `bytes_of` and `part` promise of every answer, and docs/TRACE.md names them.
+    Refused(u8),
 }
 
 // An event's answer, and the record that it leaves.

@@ -1,6 +1,7 @@
 // What an event answers, beside what it changes.
 ghost use Rattle.std.specs.Prelude.{◌≡◌, true, false};
 ghost use Rattle.records.specs.declared.Change.TheVariants.{Kept};
+ghost use Rattle.requests.specs.Refusal.{number_of_refusal};
 ghost use Rattle.events.specs.declared.Answer.TheVariants.{Done, Refused};
 
 use crate::{Answer, Refusal};
@@ -36,9 +37,9 @@ pub fn gives(answer: Answer) -> Reaction
 }
 
 pub fn refused(refusal: Refusal) -> Reaction
-    ensures { result ≡ record { answer = Refused refusal; settles = false; next = Kept } }
+    ensures { result ≡ record { answer = Refused (number_of_refusal refusal); settles = false; next = Kept } }
 {
-    gives(Answer::Refused(refusal))
+    gives(Answer::Refused(refusal as u8))
 }
 
 // The reaction of a settled record, to a setup at the record before.

@@ -11,7 +11,7 @@ pub fn number(answer: Answer) -> u8
     ensures { result ≡ number_of (answer_in answer) }
 {
     match answer {
-        Answer::Refused(refusal) => refusal as u8,
+        Answer::Refused(number) => number,
         _ => 0,
     }
 }

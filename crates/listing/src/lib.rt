@@ -65,8 +65,14 @@ fn put_line(w: &mut Writer<'_>, word: &[u8], numbers: &[u16])
     requires { Room w.old (line word.now numbers.now) }
     ensures { Wrote w.old (line word.now numbers.now) w.new }
 {
-    w.put_bytes(word);
-    put_fields(w, numbers);
+    // Through a writer of its own: its place stays in a register, where that of `w` would be read from memory again after each byte.
+    let mut own = Writer {
+        out: &mut *w.out,
+        at: w.at,
+    };
+    own.put_bytes(word);
+    put_fields(&mut own, numbers);
+    w.at = own.at;
 }
 
 // The line of an interface descriptor, which stands at `stand`.

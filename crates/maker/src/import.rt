@@ -31,7 +31,7 @@ fn tell_body(rt: &impl Print, body: Part, why: NotImported) -> io::Result<()> {
     Ok(())
 }
 
-fn refused(rt: &(impl Print + AllocGlobal), dump: &[u8], why: NotImported) -> io::Result<()> {
+fn refused(rt: &impl Print, dump: &[u8], why: NotImported) -> io::Result<()> {
     told::tell_number(rt, why.number(), why.opening())?;
     if dump.len() <= DEVICE_LENGTH {
         return println!(rt;
@@ -44,7 +44,7 @@ fn refused(rt: &(impl Print + AllocGlobal), dump: &[u8], why: NotImported) -> io
             "    the device descriptor, or the whole, is none of a full-speed device"
         );
     }
-    for body in parts(rt.alloc(), Kind::Configuration, dump, DEVICE_LENGTH)? {
+    for body in parts(Kind::Configuration, dump, DEVICE_LENGTH) {
         tell_body(rt, body, why)?;
     }
     Ok(())

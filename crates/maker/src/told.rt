@@ -48,7 +48,7 @@ fn tell_large(rt: &impl Print, piece: Part) -> io::Result<()> {
 }
 
 // 21, and the opener would say 2: offsets and order are the writer's, so it is the type, the length, or a piece that was there before.
-fn tell_entry(rt: &impl Print, limits: Limits, all: &[Part], piece: Part) -> io::Result<()> {
+fn tell_entry(rt: &impl Print, limits: Limits, stream: &[u8], piece: Part) -> io::Result<()> {
     if !descriptors::limits::is_named(limits.entries, octets::peek(piece.rest, 0)) {
         let last = if descriptors::limits::is_named(limits.entries, types::BOS) {
             ", 3 and 15"
@@ -60,7 +60,7 @@ fn tell_entry(rt: &impl Print, limits: Limits, all: &[Part], piece: Part) -> io:
     if pieces::body_at(piece.rest, 0).len() < 2 {
         println!(rt; "{piece} has a body of less than 2 bytes")?;
     }
-    match all.iter().find(|other| are_alike(**other, piece)) {
+    match parts(Kind::Piece, stream, 0).find(|other| are_alike(*other, piece)) {
         Some(first) if first.at != piece.at => {
             let at = first.at;
             println!(rt; "{piece} has the type, index and language of the one at byte {at}")
@@ -90,13 +90,13 @@ fn tell_body(rt: &impl Print, limits: Limits, piece: Part, broken: Broken) -> io
 fn tell_piece(
     rt: &impl Print,
     limits: Limits,
-    all: &[Part],
+    stream: &[u8],
     piece: Part,
     why: NotWritten,
 ) -> io::Result<()> {
     match why {
         NotWritten::PiecesBroken => tell_broken(rt, piece),
-        NotWritten::SetRefused(Some(Broken::Contents)) => tell_entry(rt, limits, all, piece),
+        NotWritten::SetRefused(Some(Broken::Contents)) => tell_entry(rt, limits, stream, piece),
         NotWritten::SetRefused(Some(broken)) => tell_body(rt, limits, piece, broken),
         NotWritten::SetRefused(None) | NotWritten::BufferTooShort => tell_large(rt, piece),
     }
@@ -118,20 +118,14 @@ fn tell_whole(rt: &impl Print, limits: Limits, why: NotWritten) -> io::Result<()
     }
 }
 
-pub fn refused(
-    rt: &(impl Print + AllocGlobal),
-    limits: Limits,
-    stream: &[u8],
-    why: NotWritten,
-) -> io::Result<()> {
+pub fn refused(rt: &impl Print, limits: Limits, stream: &[u8], why: NotWritten) -> io::Result<()> {
     tell_number(rt, why.number(), why.opening())?;
     if stream.is_empty() {
         println!(rt; "    there are no pieces")?;
     }
     tell_whole(rt, limits, why)?;
-    let all = parts(rt.alloc(), Kind::Piece, stream, 0)?;
-    for piece in &all {
-        tell_piece(rt, limits, &all, *piece, why)?;
+    for piece in parts(Kind::Piece, stream, 0) {
+        tell_piece(rt, limits, stream, piece, why)?;
     }
     Ok(())
 }

@@ -6,6 +6,9 @@ ghost use Rattle.octets.specs.Octets.{part};
 ghost use Rattle.packets.specs.Packets.{can_cut, packet_count, packet};
 ghost use Rattle.packets.specs.Told.{told};
 
+// The number of a packet that a reply does not have, for C: `packet_of` gives None.
+pub const NO_SUCH_PACKET: u8 = 15;
+
 // A packet: the part of the reply that it is.
 #[derive(Clone, Copy)]
 pub struct Packet {

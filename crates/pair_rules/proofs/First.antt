@@ -1,7 +1,7 @@
 -- The first of a pair's rules that is broken: of one list of them, with its block, or of the lists behind it. No axiom.
-use Rattle.std.specs.Prelude.{Option as Either, Some, None}
+use Rattle.std.specs.Prelude.{Option as Either, Some, None, is_some}
 use Rattle.std.specs.Option.{option_or}
-use Rattle.octets.proofs.Vocabulary.{◌≡◌, refl, sym, ap, ◌∙◌, ℕ, List, [], ◌∷◌, ◌++◌, map, Bool, true, false, not, Option, some, none}
+use Rattle.octets.proofs.Vocabulary.{◌≡◌, refl, sym, ap, ◌∙◌, ℕ, List, [], ◌∷◌, ◌++◌, map, Bool, true, false, false≢true, not, Option, some, none}
 use Rattle.octets.specs.Sentences.{pick, first}
 use Rattle.sets.specs.Pair.{opening_two}
 use Rattle.rules.specs.Findings.{Finding}
@@ -39,10 +39,6 @@ first_alone block (x ∷ xs) = go x.holds (first_alone block xs)
     go false p = refl
 
 -- ---- what the code finds in one list, or else in those behind it
-pub about-or : (a b : Either BlockFault) → about (option_or a b) ≡ option_or (about a) (about b)
-about-or None b = refl
-about-or (Some x) b = refl
-
 told-later : (block : ℕ) (o : Option Finding) (later : Option Placed) → told_in (or_later block o later) ≡ option_or (placed_of block (fault_in o)) (told_in later)
 told-later block none later = refl
 told-later block (some x) later = refl
@@ -51,27 +47,33 @@ told-alone : (block : ℕ) (o : Option Finding) → told_in (or_later block o no
 told-alone block none = refl
 told-alone block (some x) = refl
 
-or_assoc : {A : Type 0} (a b c : Either A) → option_or (option_or a b) c ≡ option_or a (option_or b c)
-or_assoc None b c = refl
-or_assoc (Some x) b c = refl
-
 abbrev pub in_list : ℕ → List Finding → Either About
 in_list block xs = placed_of block (fault_in (first is_broken xs))
 
 list-then : (block : ℕ) (xs : List Finding) (ys : List Placed) → told_in (first is_broken_there (map (of_set block) xs ++ ys)) ≡ option_or (in_list block xs) (told_in (first is_broken_there ys))
 list-then block xs ys = ap told_in (first-there block xs ys) ∙ told-later block (first is_broken xs) (first is_broken_there ys)
 
--- one list after another, in a chain of `or`
-pub told-four : (ws xs ys zs : List Finding)
-    → option_or (option_or (option_or (in_list 0 ws) (in_list 1 xs)) (in_list 0 ys)) (in_list 1 zs)
-    ≡ told_in (first is_broken_there (map (of_set 0) ws ++ (map (of_set 1) xs ++ (map (of_set 0) ys ++ map (of_set 1) zs))))
-told-four ws xs ys zs =
-    let last : told_in (first is_broken_there (map (of_set 1) zs)) ≡ in_list 1 zs = ap told_in (first_alone 1 zs) ∙ told-alone 1 (first is_broken zs) in
-    or_assoc (option_or (in_list 0 ws) (in_list 1 xs)) (in_list 0 ys) (in_list 1 zs)
-    ∙ or_assoc (in_list 0 ws) (in_list 1 xs) _
-    ∙ sym
-    (list-then 0 ws _
-    ∙ ap (option_or (in_list 0 ws)) (list-then 1 xs _ ∙ ap (option_or (in_list 1 xs)) (list-then 0 ys _ ∙ ap (option_or (in_list 0 ys)) last)))
+ends : (o : Either BlockFault) (later : Either About) → is_some o ≡ true → option_or (about o) later ≡ about o
+ends None later p = absurd (false≢true p)
+ends (Some x) later p = refl
+
+goes-on : (o : Either BlockFault) (later : Either About) → is_some o ≡ false → option_or (about o) later ≡ later
+goes-on None later p = refl
+goes-on (Some x) later p = absurd (false≢true (sym p))
+
+-- the search ends at a list with a broken rule, and else goes on with the lists behind it
+module _ (block : ℕ) (xs : List Finding) (o : Either BlockFault) (found : about o ≡ in_list block xs) where
+  in-order : (ys : List Placed) → told_in (first is_broken_there (map (of_set block) xs ++ ys)) ≡ option_or (about o) (told_in (first is_broken_there ys))
+  in-order ys = list-then block xs ys ∙ ap (λ t. option_or t (told_in (first is_broken_there ys))) (sym found)
+
+  pub told-here : (ys : List Placed) → is_some o ≡ true → about o ≡ told_in (first is_broken_there (map (of_set block) xs ++ ys))
+  told-here ys p = sym (in-order ys ∙ ends o _ p)
+
+  pub told-behind : (ys : List Placed) {r : Either About} → is_some o ≡ false → r ≡ told_in (first is_broken_there ys) → r ≡ told_in (first is_broken_there (map (of_set block) xs ++ ys))
+  told-behind ys p q = q ∙ sym (in-order ys ∙ goes-on o _ p)
+
+  pub told-last : about o ≡ told_in (first is_broken_there (map (of_set block) xs))
+  told-last = found ∙ sym (ap told_in (first_alone block xs) ∙ told-alone block (first is_broken xs))
 
 -- whatever is told, its number is that of opening both
 number-told : (full high serial : List ℕ) (o : Option Placed) → (told_two full high serial o).number ≡ opening_two full high serial

@@ -1,6 +1,5 @@
 -- Working definitions for the contracts of the code; no promise cites them. The code's orders, turns and responses, as the definitions have them.
 use Rattle.std.specs.Prelude.{ℕ, true, false, Option, Some, None}
-use Rattle.requests.specs.Refusal.{number_if_refused}
 use Rattle.pipes.specs.declared.orders.Order.{Order}
 use Rattle.pipes.specs.declared.orders.Order.TheVariants.{Nothing, Send, Await, Receive, Stall, Ask}
 use Rattle.pipes.specs.declared.Turn.{Turn as CodedTurn}
@@ -35,7 +34,7 @@ moved_in Told = record { number = 0; order = nothing; ended = true }
 moved_in Unfit = unheard_moved
 
 abbrev pub response_in : CodedResponse → Response
-response_in r = record { number = number_if_refused r.refused; order = number_of_order r.order; count = r.bytes.count; first = r.bytes.first; second = r.bytes.second }
+response_in r = record { number = r.number; order = r.order; count = r.bytes.count; first = r.bytes.first; second = r.bytes.second }
 
 abbrev pub piece_in : ReplyPart → Piece
 piece_in r = record { block = r.block; offset = r.place; length = r.length }

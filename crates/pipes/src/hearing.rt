@@ -1,6 +1,5 @@
 // What an event makes of the pipe record.
 ghost use Rattle.std.specs.Prelude.{◌≡◌, min};
-ghost use Rattle.requests.specs.Refusal.{number_if_refused};
 ghost use Rattle.events.specs.Answer.{number_of};
 ghost use Rattle.events.specs.Coded.{answer_in};
 ghost use Rattle.pipes.specs.Pipe.{tells, library_event, order_begun, pipe_begun, turn_begun, pipe_reset, lengths_in, wire_of};
@@ -8,8 +7,8 @@ ghost use Rattle.pipes.specs.Hearing.{is_setup, moved_by, pipe_moved, looked, pi
 ghost use Rattle.pipes.specs.Coded.{number_of_order, moved_in};
 
 use crate::{
-    Lengths, Order, PIPE_LENGTH, Wire, begun, idle, image, lengths_in, numbers, refused, reply_at,
-    started, turns,
+    Lengths, Order, PIPE_LENGTH, Wire, begun, idle, image, lengths_in, numbers, reply_at, started,
+    turns,
 };
 use events::{Answer, Event, Refusal};
 use requests::Setup;
@@ -78,20 +77,21 @@ pub fn begin(answer: Answer, setup: Setup, size: u8, pipe: &mut [u8; PIPE_LENGTH
     ensures order { number_of_order result ≡ order_begun (number_of (answer_in answer)) (turn_begun (answer_in answer) setup size) }
     ensures pipe { pipe.new ≡ pipe_begun (number_of (answer_in answer)) pipe.old (turn_begun (answer_in answer) setup size) }
 {
-    let refusal = refused(answer);
-    if matches!(refusal, Some(Refusal::SetupLengthWrong)) {
+    let number = events::reply::number(answer);
+    if number == Refusal::SetupLengthWrong as u8 {
         return Order::Nothing;
     }
-    let turn = begun(refusal, started(reply_at(answer), setup, size));
+    let turn = begun(number, started(reply_at(answer), setup, size));
     image::store(turn.transfer, pipe);
     turn.order
 }
 
-// A reset was answered, or refused.
-pub fn restart(refused: Option<Refusal>, pipe: &mut [u8; PIPE_LENGTH])
-    ensures { pipe.new ≡ pipe_reset (number_if_refused refused) pipe.old }
+// A reset was answered.
+// Kept: a number and no Refusal, since this promises of every number, and docs/TRACE.md names it.
+pub fn restart(number: u8, pipe: &mut [u8; PIPE_LENGTH])
+    ensures { pipe.new ≡ pipe_reset number pipe.old }
 {
-    if refused.is_none() {
+    if number == 0 {
         image::store(idle(), pipe);
     }
 }

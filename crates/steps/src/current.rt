@@ -20,7 +20,7 @@ fn part_of(entry: Option<Entry>, found: Option<DescriptorPlace>) -> Answer
             offset: e.offset + place.offset as u16,
             length: place.length as u16,
         },
-        _ => Answer::Refused(Refusal::EndpointUnfit),
+        _ => Answer::Refused(Refusal::EndpointUnfit as u8),
     }
 }
 
@@ -39,7 +39,7 @@ pub fn endpoint(
     ensures { answer_in result ≡ endpoint_in accepted (view_in paired set.now serial.now) set.now device nth }
 {
     if !accepted {
-        return Answer::Refused(Refusal::SetNotAcceptable);
+        return Answer::Refused(Refusal::SetNotAcceptable as u8);
     }
     let selected = configuration::by_value(set, ConfigurationValue(device.configuration));
     let body = facts::body_found(set, selected);
@@ -57,10 +57,10 @@ pub fn endpoint(
         paired,
         device,
     ) {
-        return Answer::Refused(Refusal::RecordDoesNotFit);
+        return Answer::Refused(Refusal::RecordDoesNotFit as u8);
     }
     if device.state != records::CONFIGURED {
-        return Answer::Refused(Refusal::EndpointUnfit);
+        return Answer::Refused(Refusal::EndpointUnfit as u8);
     }
     part_of(selected, endpoints::find(body, alternates, nth))
 }

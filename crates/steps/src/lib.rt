@@ -125,7 +125,7 @@ pub fn reply_in(
     ensures { gives (answer_in result) (device_of image.new) ≡ step_in accepted (view_in paired set.now serial.now) (device_of image.old) event }
 {
     if !accepted {
-        return Answer::Refused(Refusal::SetNotAcceptable);
+        return Answer::Refused(Refusal::SetNotAcceptable as u8);
     }
     let known = facts::learn(true, set, serial, &image[..], event);
     let sought = facts::seek(true, set, serial, event);

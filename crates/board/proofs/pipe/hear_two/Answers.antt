@@ -5,15 +5,16 @@ use Rattle.sets.specs.Device.{device_body, bMaxPacketSize0}
 use Rattle.events.specs.Coded.{answer_in}
 use Rattle.events.specs.Step.{Reply}
 use Rattle.pipes.specs.Pipe.{lengths_in}
-use Rattle.pipes.specs.Hearing.{Moved, looked, pipe_looked}
-use Rattle.board.proofs.TwoSets.{chosen, openable, event-two}
-use Rattle.board.proofs.Piping.{still-long, told-gets, going-gets}
+use Rattle.pipes.specs.Hearing.{Moved, looked, pipe_looked, bare}
+use Rattle.board.proofs.TwoSets.{opens-two, chosen, openable, event-two}
+use Rattle.board.proofs.Piping.{order-number, still-long, told-gets, going-gets}
 use Rattle.board.proofs.pipe.hear_two.Goals as goal
 
 pub happen-answer-requires : goal.happen-answer-requires
 happen-answer-requires c =
     let a = c.args in
-    openable a.full.now a.high.now a.serial.now a.image.now (chosen a.full.now a.high.now a.serial.now a.image.now c.peek.ensures c.in_use-used.ensures.bytes) c.opened-accepted.ensures
+    let opens = opens-two a.full.now a.high.now a.serial.now c.opened.result c.opened.ensures c.is_ok-accepted.ensures.value in
+    openable a.full.now a.high.now a.serial.now a.image.now (chosen a.full.now a.high.now a.serial.now a.image.now c.peek.ensures c.in_use-used.ensures.bytes) opens
 
 pub settle-requires : goal.settle-requires
 settle-requires c =
@@ -31,7 +32,7 @@ returns-in-Ordered c =
     let l = c.in-Ordered.ensures in
     going-gets (lent_two a.full.now a.high.now a.serial.now) a.image.now a.pipe.now a.setup.now a.reply.now a.wire _
     (l.moved ∙ ap (λ (x : List ℕ). looked (lengths_in x a.serial.now a.reply.now) a.wire a.pipe.now) u) refl
-    (l.pipe ∙ ap (λ (x : List ℕ). pipe_looked (lengths_in x a.serial.now a.reply.now) a.wire a.pipe.now) u) c.plain.ensures
+    (l.pipe ∙ ap (λ (x : List ℕ). pipe_looked (lengths_in x a.serial.now a.reply.now) a.wire a.pipe.now) u) (c.plain.ensures ∙ ap (bare 0) (order-number c.in-Ordered.order))
 
 pub returns-in-Unfit : goal.returns-in-Unfit
 returns-in-Unfit c =
@@ -45,12 +46,13 @@ returns-in-Unfit c =
 pub returns-in-Told : goal.returns-in-Told
 returns-in-Told c =
     let a = c.args in
+    let opens = opens-two a.full.now a.high.now a.serial.now c.opened.result c.opened.ensures c.is_ok-accepted.ensures.value in
     let b = lent_two a.full.now a.high.now a.serial.now in
     let u = chosen a.full.now a.high.now a.serial.now a.image.now c.peek.ensures c.in_use-used.ensures.bytes in
     let l = c.in-Told.ensures in
     let what = c.library_event-what in
     let h = c.happen-answer in
-    let q = event-two a.full.now a.high.now a.serial.now a.image.now u c.opened-accepted.ensures what.result in
+    let q = event-two a.full.now a.high.now a.serial.now a.image.now u opens what.result in
     let s = c.setup_of in
     let z = c.settle.ensures in
     told-gets b a.image.now a.pipe.now a.setup.now a.reply.now a.wire _ what.result (answer_in h.result) s.result (bMaxPacketSize0 (device_body c.in_use-used.result.now))

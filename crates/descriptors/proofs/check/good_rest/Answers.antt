@@ -7,6 +7,7 @@ use Rattle.descriptors.specs.Check.{beginning}
 use Rattle.descriptors.proofs.Walks.{spanned, whole-steps, step-ends, step-sets}
 use Rattle.descriptors.proofs.Plains.{plains-on}
 use Rattle.descriptors.proofs.SequenceRules.{part_bytes}
+use Rattle.descriptors.proofs.Models.{models-low}
 use Rattle.descriptors.proofs.Reaching.{reached-begin, reached-small, reached-long, reached-behind, reached-turn, reached-refused, turns_alone, verdict-stopped, verdict-end}
 use Rattle.descriptors.proofs.check.good_rest.Goals as goal
 use Rattle.descriptors.proofs.check.good_rest.Goals.{else-loop-at-test, then-loop-at-test+then-size-lt2, then-loop-at-test+else-size-lt2+else-t-ge-CLASS+then-body-end, then-loop-at-test+else-size-lt2+else-t-ge-CLASS+else-body-end+in_default}
@@ -28,7 +29,7 @@ module _ (body : List ℕ) {at last : ℕ} {step : Step} (l : at < length body -
   sets = step-sets _ _ _ (whole-steps body at last (before-end body l) two inside) s
 
 pub loop-at-init : goal.loop-at-init
-loop-at-init c = record { w = beginning; last = before; reached = rw c.set_out-checked.ensures (reached-begin c.requires.inside) }
+loop-at-init c = record { w = beginning; last = before; reached = rw c.set_out-start.ensures (reached-begin c.requires.inside) }
 
 pub loop-at-smaller-then-t-ge-CLASS : goal.loop-at-smaller-then-t-ge-CLASS
 loop-at-smaller-then-t-ge-CLASS c = omega (arith, two-left c.args.body.now c.loop-at-test.true, plains-on c.behind-at.ensures, c.if-size-lt2.false)
@@ -45,6 +46,9 @@ loop-at-preserved-then-t-ge-CLASS c =
 
 pub step_over-step-requires : goal.step_over-step-requires
 step_over-step-requires c = whole-steps c.args.body.now c.loop-at.at 0 (before-end c.args.body.now c.loop-at-test.true) c.if-size-lt2.false c.if-body-end.false
+
+pub invariant_of-checked : goal.invariant_of-checked
+invariant_of-checked c = record { low = models-low c.loop-at.invariant.reached.models }
 
 pub loop-at-preserved : goal.loop-at-preserved
 loop-at-preserved c =

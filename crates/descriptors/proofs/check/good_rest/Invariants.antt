@@ -5,7 +5,7 @@ use Rattle.descriptors.proofs.Reaching.{Stood}
 use Rattle.descriptors.proofs.check.good_rest.Given as goal
 
 abbrev pub invariant-loop-at : goal.invariant-loop-at
-invariant-loop-at l = Stood (unaccompanied l.limits) l.interfaces l.names l.body l.from l.checked.order l.checked.refers l.at
+invariant-loop-at l = Stood (unaccompanied l.limits) l.interfaces l.names l.body l.from l.order l.refers l.at
 
 abbrev pub decreases-loop-at : goal.decreases-loop-at
 decreases-loop-at l = length l.body + 256 - l.at

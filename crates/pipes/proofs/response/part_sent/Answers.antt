@@ -2,7 +2,7 @@
 use Rattle.pipes.proofs.Settling.{sent-inside}
 use Rattle.pipes.proofs.response.part_sent.Goals as goal
 
-pub part-requires : goal.part-requires
-part-requires c =
+pub part_of-requires : goal.part_of-requires
+part_of-requires c =
     let a = c.args in
-    rw (c.sent.ensures, c.lengths_in.ensures) (sent-inside a.first.now a.used.now a.serial.now a.reply.now _ a.next)
+    rw (c.sent-piece.ensures, c.lengths_in.ensures) (sent-inside a.first.now a.used.now a.serial.now a.reply.now a.order a.next)
