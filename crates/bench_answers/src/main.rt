@@ -20,16 +20,16 @@ use std::io::Read;
 
 // The operations, each by its letter; a heading alone has none.
 fn work<'a>(
-    rt: &(impl Print + AllocGlobal),
+    rt: &impl Print,
     operation: u8,
     serial: &'a [u8],
     given: &'a [u8],
     wanted: &[u8],
-    out: &mut [u8],
+    out: &mut Vec<u8>,
 ) -> io::Result<()> {
     match operation {
-        b'l' => makers::list(rt, given, serial, descriptors::limits::full_speed()),
-        b's' => makers::list(rt, given, serial, descriptors::limits::super_speed()),
+        b'l' => makers::list(rt, given, serial, descriptors::limits::full_speed(), out),
+        b's' => makers::list(rt, given, serial, descriptors::limits::super_speed(), out),
         b'w' => makers::write(rt, serial, given, wanted, out),
         b'i' => makers::import(rt, given, wanted, out),
         b'e' => makers::export(rt, serial, given, wanted, out),
@@ -49,8 +49,8 @@ const LONGEST_RECORD: usize = 65536;
 // No more records are read than that, so that the program ends whatever it is given.
 const MOST_RECORDS: u32 = 1000000;
 
-// Does what a record asks.
-fn run(rt: &(impl Print + AllocGlobal), question: &[u8]) -> io::Result<()> {
+// Does what a record asks. One buffer is lent for all records: large ones, made for each, went back to the system and were asked of it anew.
+fn run(rt: &impl Print, question: &[u8], out: &mut Vec<u8>) -> io::Result<()> {
     let serial_at = HEAD + octets::peek(question, 1) as usize;
     let given_at = serial_at + octets::word(question, 2) as usize;
     let wanted_at = given_at + octets::word(question, 4) as usize;
@@ -60,14 +60,14 @@ fn run(rt: &(impl Print + AllocGlobal), question: &[u8]) -> io::Result<()> {
         return Ok(());
     }
     rt.write_all(&question[HEAD..serial_at])?;
-    let mut out = vec![in rt.alloc(); buffer::FILLER; room]?;
+    buffer::refill(out, room)?;
     work(
         rt,
         octets::peek(question, 0),
         &question[serial_at..given_at],
         &question[given_at..wanted_at],
         &question[wanted_at..end],
-        &mut out,
+        out,
     )
 }
 
@@ -103,11 +103,12 @@ fn read_question(alloc: Global, input: &mut impl Read) -> Result<Option<Vec<u8>>
 
 fn main(rt: HostRuntime) -> io::Result<()> {
     let mut input = rt.reader();
+    let mut out = Vec::new(rt.alloc());
     for _ in 0..MOST_RECORDS {
         let Some(question) = read_question(rt.alloc(), &mut input)? else {
             break;
         };
-        run(&rt, &question)?;
+        run(&rt, &question, &mut out)?;
     }
     Ok(())
 }

@@ -1,5 +1,5 @@
 // What is done with sets: listed, written, imported, exported and trimmed.
-use crate::buffer::is_good;
+use crate::buffer::{is_good, refill};
 use descriptors::limits::Limits;
 use std::io;
 
@@ -14,14 +14,16 @@ fn answer(rt: &impl Print, number: u8, opening: u8, written: u16, good: bool) ->
     println!(rt; "{written} {verdict}")
 }
 
+// The buffer is as long as any listing, whatever the record says.
 pub fn list(
-    rt: &(impl Print + AllocGlobal),
+    rt: &impl Print,
     set: &[u8],
     serial: &[u8],
     limits: Limits,
+    out: &mut Vec<u8>,
 ) -> io::Result<()> {
-    let mut out = vec![in rt.alloc(); 0; listing::ROOM]?;
-    let size = listing::list(set, serial, limits, &mut out);
+    refill(out, listing::ROOM)?;
+    let size = listing::list(set, serial, limits, out);
     rt.write_all(&out[..size])
 }
 
