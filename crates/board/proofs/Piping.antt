@@ -1,5 +1,4 @@
 -- What the parts of the pipe event give is what an event gets: for the proofs of src/pipe.rt, over any board. No axiom.
-use denote.Enum.Declared.{tag_of}
 use Rattle.octets.proofs.Vocabulary.{◌≡◌, refl, sym, ap, subst, ◌∙◌, ℕ, ◌+◌, List, [], Bool, true, false, false≢true, length, eqb, eq-eqb, eqb-true}
 use Rattle.octets.specs.Octets.{byte}
 use Rattle.octets.specs.Sentences.{pick}
@@ -13,9 +12,6 @@ use Rattle.events.specs.declared.Event.TheVariants.{Malformed, StatusEnd}
 use Rattle.events.specs.Answer.{Answer, number_of, bytes_of}
 use Rattle.events.specs.Step.{Reply, setup_event, event}
 use Rattle.pipes.specs.declared.Lengths.{Lengths}
-use Rattle.pipes.specs.contracts.orders.Order.{the_type}
-use Rattle.pipes.specs.declared.orders.Order.{Order}
-use Rattle.pipes.specs.declared.orders.Order.TheVariants.{Nothing, Send, Await, Receive, Stall, Ask}
 use Rattle.pipes.specs.declared.Piece.{Piece}
 use Rattle.pipes.specs.declared.Wire.{Wire}
 use Rattle.pipes.specs.declared.Wire.TheVariants.{Setup as ASetup, Taken, Received, Reset, Reply as Replies, Room, Accept, Refuse, Unknown}
@@ -25,20 +21,10 @@ use Rattle.pipes.specs.Turns.{Turn, turned}
 use Rattle.pipes.specs.Sending.{room_for, sent, in_block, bytes_in}
 use Rattle.pipes.specs.Pipe.{Told, Records, Heard, lengths_in, lengths_of, packet_size, unheard, order_begun, pipe_begun, turn_begun, begins, pipe_reset, restarts, on_transfer, heard_as, heard, room, hands_over, tells, library_event, out_of}
 use Rattle.pipes.specs.Hearing.{Moved, Response, HandsPiece, is_setup, unheard_moved, moved_by, pipe_moved, looked, pipe_looked, bare, with_bytes, responds, settles, out_bytes, Gets}
-use Rattle.pipes.specs.Coded.{number_of_order}
 use Rattle.pipes.proofs.Looking.{looked-moves, pipe-looked-moves}
 use Rattle.pipes.proofs.Ending.{turned-rests}
 use Rattle.board.specs.Exports.{Spot, spot_of, spots_two}
 use Rattle.board.specs.Pipes.{AnswersPipe}
-
--- ---- the number of an order
-pub order-number : (order : Order) → tag_of the_type order ≡ number_of_order order
-order-number Nothing = refl
-order-number Send = refl
-order-number Await = refl
-order-number Receive = refl
-order-number Stall = refl
-order-number Ask = refl
 
 -- ---- what a setup and a reset get
 as-heard : {h g : Heard} {r : Response} {image pipe : List ℕ} → h ≡ g → Gets g r image pipe → Gets h r image pipe

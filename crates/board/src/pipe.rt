@@ -29,7 +29,7 @@ fn hear(
         (response_in result) image.new pipe.new }
 {
     match hearing::look(set, serial, reply, wire, pipe) {
-        Moved::Ordered(order) => response::plain(0, order as u8),
+        Moved::Ordered(order) => response::plain(0, order),
         Moved::Unfit => response::plain(Refusal::RecordDoesNotFit as u8, Order::Nothing as u8),
         Moved::Told => {
             let accepted = crate::opened(set, serial);
@@ -101,7 +101,7 @@ fn hear_two<'a>(
 {
     let used = steps::in_use(full, high, octets::peek(image, 7));
     match hearing::look(used, serial, reply, wire, pipe) {
-        Moved::Ordered(order) => response::plain(0, order as u8),
+        Moved::Ordered(order) => response::plain(0, order),
         Moved::Unfit => response::plain(Refusal::RecordDoesNotFit as u8, Order::Nothing as u8),
         Moved::Told => {
             let accepted = crate::two::opened(full, high, serial).is_ok();

@@ -4,7 +4,7 @@ ghost use Rattle.events.specs.Answer.{number_of};
 ghost use Rattle.events.specs.Coded.{answer_in};
 ghost use Rattle.pipes.specs.Pipe.{tells, library_event, order_begun, pipe_begun, turn_begun, pipe_reset, lengths_in, wire_of};
 ghost use Rattle.pipes.specs.Hearing.{is_setup, moved_by, pipe_moved, looked, pipe_looked};
-ghost use Rattle.pipes.specs.Coded.{number_of_order, moved_in};
+ghost use Rattle.pipes.specs.Coded.{moved_in};
 
 use crate::{
     Lengths, Order, PIPE_LENGTH, Wire, begun, idle, image, lengths_in, numbers, reply_at, started,
@@ -17,7 +17,7 @@ use requests::Setup;
 // reset, and a transfer that has ended; or number 8, since the pipe record does not fit.
 #[derive(Clone, Copy)]
 pub enum Moved {
-    Ordered(Order),
+    Ordered(u8),
     Told,
     Unfit,
 }
@@ -73,13 +73,13 @@ pub fn library_event(wire: Wire, setup: &[u8]) -> Event
 }
 
 // A setup was answered: the transfer that it starts, and the order. One that was not 8 bytes starts none.
-pub fn begin(answer: Answer, setup: Setup, size: u8, pipe: &mut [u8; PIPE_LENGTH]) -> Order
-    ensures order { number_of_order result ≡ order_begun (number_of (answer_in answer)) (turn_begun (answer_in answer) setup size) }
+pub fn begin(answer: Answer, setup: Setup, size: u8, pipe: &mut [u8; PIPE_LENGTH]) -> u8
+    ensures order { result ≡ order_begun (number_of (answer_in answer)) (turn_begun (answer_in answer) setup size) }
     ensures pipe { pipe.new ≡ pipe_begun (number_of (answer_in answer)) pipe.old (turn_begun (answer_in answer) setup size) }
 {
     let number = events::reply::number(answer);
     if number == Refusal::SetupLengthWrong as u8 {
-        return Order::Nothing;
+        return Order::Nothing as u8;
     }
     let turn = begun(number, started(reply_at(answer), setup, size));
     image::store(turn.transfer, pipe);

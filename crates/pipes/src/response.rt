@@ -58,7 +58,7 @@ pub fn settle(set: &[u8], pipe: &mut [u8], wire: Wire, setup: Setup, answer: Ans
     if hearing::is_setup(wire) {
         let size = octets::peek(sets::device::device_body(set), 7);
         let order = hearing::begin(answer, setup, size, pipe);
-        return with_bytes(answer, order as u8);
+        return with_bytes(answer, order);
     }
     let number = answers::number(answer);
     hearing::restart(number, pipe);

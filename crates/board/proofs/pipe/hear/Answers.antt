@@ -2,9 +2,9 @@
 use Rattle.octets.proofs.Vocabulary.{refl, sym, ap, ◌∙◌, ℕ, List, length}
 use Rattle.sets.specs.Opening.{lent}
 use Rattle.events.specs.Coded.{answer_in}
-use Rattle.pipes.specs.Hearing.{Moved, bare}
+use Rattle.pipes.specs.Hearing.{Moved}
 use Rattle.pipes.specs.Pipe.{packet_size}
-use Rattle.board.proofs.Piping.{order-number, still-long, told-gets, going-gets}
+use Rattle.board.proofs.Piping.{still-long, told-gets, going-gets}
 use Rattle.board.proofs.pipe.hear.Goals as goal
 
 pub settle-requires : goal.settle-requires
@@ -17,7 +17,7 @@ pub returns-in-Ordered : goal.returns-in-Ordered
 returns-in-Ordered c =
     let a = c.args in
     let looked = c.in-Ordered.ensures in
-    going-gets (lent a.set.now a.serial.now) a.image.now a.pipe.now a.setup.now a.reply.now a.wire _ looked.moved refl looked.pipe (c.plain.ensures ∙ ap (bare 0) (order-number c.in-Ordered.order))
+    going-gets (lent a.set.now a.serial.now) a.image.now a.pipe.now a.setup.now a.reply.now a.wire _ looked.moved refl looked.pipe c.plain.ensures
 
 pub returns-in-Unfit : goal.returns-in-Unfit
 returns-in-Unfit c =

@@ -5,9 +5,9 @@ use Rattle.sets.specs.Device.{device_body, bMaxPacketSize0}
 use Rattle.events.specs.Coded.{answer_in}
 use Rattle.events.specs.Step.{Reply}
 use Rattle.pipes.specs.Pipe.{lengths_in}
-use Rattle.pipes.specs.Hearing.{Moved, looked, pipe_looked, bare}
+use Rattle.pipes.specs.Hearing.{Moved, looked, pipe_looked}
 use Rattle.board.proofs.TwoSets.{opens-two, chosen, openable, event-two}
-use Rattle.board.proofs.Piping.{order-number, still-long, told-gets, going-gets}
+use Rattle.board.proofs.Piping.{still-long, told-gets, going-gets}
 use Rattle.board.proofs.pipe.hear_two.Goals as goal
 
 pub happen-answer-requires : goal.happen-answer-requires
@@ -32,7 +32,7 @@ returns-in-Ordered c =
     let l = c.in-Ordered.ensures in
     going-gets (lent_two a.full.now a.high.now a.serial.now) a.image.now a.pipe.now a.setup.now a.reply.now a.wire _
     (l.moved ∙ ap (λ (x : List ℕ). looked (lengths_in x a.serial.now a.reply.now) a.wire a.pipe.now) u) refl
-    (l.pipe ∙ ap (λ (x : List ℕ). pipe_looked (lengths_in x a.serial.now a.reply.now) a.wire a.pipe.now) u) (c.plain.ensures ∙ ap (bare 0) (order-number c.in-Ordered.order))
+    (l.pipe ∙ ap (λ (x : List ℕ). pipe_looked (lengths_in x a.serial.now a.reply.now) a.wire a.pipe.now) u) c.plain.ensures
 
 pub returns-in-Unfit : goal.returns-in-Unfit
 returns-in-Unfit c =
