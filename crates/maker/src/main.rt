@@ -28,7 +28,7 @@ fn work_on_set(
     match files::argument(rt, 1)?.as_str() {
         "export" => export::export(rt, set, serial),
         "trim" => trim::trim(rt, set, serial),
-        "explain" => explain::explain(rt, write::limits(rt)?, set, serial),
+        "explain" => explain::explain(rt, write::limits(rt), set, serial),
         _ => println!(rt; "maker write [super] | import | export | trim | explain [super | pair]"),
     }
 }

@@ -7,11 +7,12 @@ use std::fs::Files;
 use std::io;
 
 // The limits of the set that was asked for.
-pub fn limits(rt: &(impl Env + AllocGlobal)) -> io::Result<Limits> {
-    Ok(match files::argument(rt, 2)?.as_str() {
-        "super" => descriptors::limits::super_speed(),
-        _ => descriptors::limits::full_speed(),
-    })
+// Kept: no match on `argument`, which takes memory, since this can't fail.
+pub fn limits(rt: &impl Env) -> Limits {
+    if files::is_argument(rt, 2, b"super") {
+        return descriptors::limits::super_speed();
+    }
+    descriptors::limits::full_speed()
 }
 
 fn write(
@@ -37,5 +38,5 @@ pub fn run(rt: &(impl Env + Files + Print + Eprint + AllocGlobal)) -> io::Result
     if stream.len() == 65535 {
         return println!(rt; "pieces.bin is too long: a set has at most 16,384 bytes");
     }
-    write(rt, limits(rt)?, &stream, &serial)
+    write(rt, limits(rt), &stream, &serial)
 }
